@@ -1,0 +1,77 @@
+-- Tests that antt computes, and what a passed one says: one test over all entries of a table, and a law that carries it to each.
+-- Assumes nothing.
+use mathlib.Core.Path.{_≡_, refl, _∙_, subst, sym}
+use mathlib.Core.Bool.{Bool, true, false, not, cond}
+use mathlib.Core.Logic.{⊎-elim}
+use mathlib.Core.List.{List, [], _∷_}
+use Prim.Native.Nat.{ℕ, zero, suc, _+_, _≤_, _<_}
+use native.Mathlib.Omega.{arith}
+use native.Mathlib.Nat.{add-zero, zero-add, add-suc, suc-add, le-of-suc-le-suc, not-suc-le-zero, eq-or-lt-of-le}
+use lib.Dec.{T}
+use lib.ListN.{length, getD}
+
+-- a choice by a test, by its two cases
+pub by-cond : {X : Type 0} (P : X → Type 0) (c : Bool) (x y : X) → (T c → P x) → (T (not c) → P y) → P (cond c x y)
+by-cond P true x y f g = f tt
+by-cond P false x y f g = g tt
+
+pub is-true : (x : Bool) → T x → x ≡ true
+is-true true t = refl
+is-true false t = absurd t
+
+-- equal tests
+abbrev pub alike : Bool → Bool → Bool
+alike true y = y
+alike false y = not y
+
+pub alike-eq : (x y : Bool) → T (alike x y) → x ≡ y
+alike-eq true true t = refl
+alike-eq true false t = absurd t
+alike-eq false true t = absurd t
+alike-eq false false t = refl
+
+abbrev pub both : Bool → Bool → Bool
+both true b = b
+both false b = false
+
+pub both-left : (a b : Bool) → T (both a b) → T a
+both-left true b t = tt
+both-left false b t = t
+
+pub both-right : (a b : Bool) → T (both a b) → T b
+both-right true b t = t
+both-right false b t = absurd t
+
+-- the test f passes at each number below n
+abbrev pub upto : (ℕ → Bool) → ℕ → Bool
+upto f zero = true
+upto f (suc n) = both (upto f n) (f n)
+
+pub upto-at : (f : ℕ → Bool) (n : ℕ) → T (upto f n) → (k : ℕ) → k < n → T (f k)
+upto-at f zero t k h = absurd (not-suc-le-zero h)
+upto-at f (suc n) t k h =
+    ⊎-elim (λ e. subst (λ (m : ℕ). T (f m)) (sym e) (both-right (upto f n) (f n) t)) (λ l. upto-at f n (both-left (upto f n) (f n) t) k l) (eq-or-lt-of-le (le-of-suc-le-suc h))
+
+-- the test f passes at each entry of the list and its place, counted from i
+abbrev pub every : (ℕ → ℕ → Bool) → ℕ → List ℕ → Bool
+every f i [] = true
+every f i (x ∷ xs) = both (f i x) (every f (suc i) xs)
+
+every-from : (f : ℕ → ℕ → Bool) (xs : List ℕ) (i : ℕ) → T (every f i xs) → (k : ℕ) → k < length xs → T (f (i + k) (getD xs k 0))
+every-from f [] i t k h = absurd (not-suc-le-zero h)
+every-from f (x ∷ xs) i t zero h = subst (λ (m : ℕ). T (f m x)) (sym (add-zero i)) (both-left (f i x) (every f (suc i) xs) t)
+every-from f (x ∷ xs) i t (suc k) h =
+    subst (λ (m : ℕ). T (f m (getD xs k 0))) (suc-add i k ∙ sym (add-suc i k))
+    (every-from f xs (suc i) (both-right (f i x) (every f (suc i) xs) t) k (le-of-suc-le-suc h))
+
+pub every-at : (f : ℕ → ℕ → Bool) (xs : List ℕ) → T (every f 0 xs) → (k : ℕ) → k < length xs → T (f k (getD xs k 0))
+every-at f xs t k h = subst (λ (m : ℕ). T (f m (getD xs k 0))) (zero-add k) (every-from f xs 0 t k h)
+
+-- what holds of 0 to 4 holds of each number up to 4
+pub five : (P : ℕ → Type 0) → P 0 → P 1 → P 2 → P 3 → P 4 → (b : ℕ) → b ≤ 4 → P b
+five P p q r s t zero h = p
+five P p q r s t (suc zero) h = q
+five P p q r s t (suc (suc zero)) h = r
+five P p q r s t (suc (suc (suc zero))) h = s
+five P p q r s t (suc (suc (suc (suc zero)))) h = t
+five P p q r s t (suc (suc (suc (suc (suc b))))) h = absurd (omega arith)

@@ -1,0 +1,53 @@
+-- `listing::line_of` meets its contract: a line is what the check of the single cell says.
+use mathlib.Core.Path.{refl, _∙_}
+use mir.Syntax.{w64}
+use mir.Facts.{toZ-ofZ}
+use native.Mathlib.Omega.{arith}
+use Rattle.report.proofs.Verdicts.{verdict-says, never-refused}
+use borrow.Author.Needs.{needs}
+use Rattle.listing.proofs.line_of.Statement.{statement}
+use Rattle.listing.proofs.line_of.Tie as tie
+
+shared-slice-read-byte : tie.Need-shared-slice-read-byte
+shared-slice-read-byte c = search needs
+
+check-cell-requires : tie.Need-check-cell-requires
+check-cell-requires c κs = search needs
+
+enum-told : tie.Need-enum-told
+enum-told c = search needs
+
+enum-known-witness : tie.Need-enum-known-witness
+enum-known-witness c = search needs
+
+digit-of-requires : tie.Need-digit-of-requires
+digit-of-requires c κs = search needs
+
+enum-told-2 : tie.Need-enum-told-2
+enum-told-2 c = search needs
+
+returns : tie.Need-returns
+returns c = record { means = verdict-says (c .before .before .check-cell .ensures .1) (c .enum-told .given .1) .1 }
+
+returns-2 : tie.Need-returns-2
+returns-2 c =
+    let q = toZ-ofZ {w = w64} {z = c .digit-of .result} (record { sfits = c .digit-of .ok }) ∙ c .digit-of .ensures in
+    let w = verdict-says (c .before .before .before .before .check-cell .ensures .1) (c .before .before .witness .given .1) .1 in
+    record { means = (refl, refl, q, rw q w) }
+
+returns-3 : tie.Need-returns-3
+returns-3 c = never-refused (omega arith) (omega arith) (c .before .before .before .before .before .pre .0 .digits _) (c .before .before .check-cell .ensures .1) (c .enum-told2 .given .1)
+
+pub line-of-spec : {M : Type 1} → statement M
+line-of-spec =
+    tie.close
+    (tie.spec
+    shared-slice-read-byte
+    check-cell-requires
+    enum-told
+    enum-known-witness
+    digit-of-requires
+    enum-told-2
+    returns
+    returns-2
+    returns-3)

@@ -1,0 +1,49 @@
+// How the programs print on standard output: texts, numbers and the two lines of a refusal.
+// No contract can say which bytes a call of the C library's writes; what decides them is stated here and in the libraries below.
+ghost use mathlib.Core.Path.{_≡_};
+ghost use lib.IntN.{natAbs};
+ghost use Rattle.selection.specs.Cell.{digit};
+use libc::STDOUT_FILENO;
+use selection::Refusal;
+
+pub fn print_text(text: &[u8]) {
+    io::write_all(STDOUT_FILENO, text);
+}
+
+// A number in decimal, and what follows it.
+pub fn print_number(number: u64, end: &[u8]) {
+    io::print_decimal(STDOUT_FILENO, number);
+    print_text(end);
+}
+
+// How far a number is from zero. The least one has no opposite, so one is added before its sign is changed.
+pub fn magnitude(number: i64) -> u64
+    ensures { λ r. ⌜ r ≡ natAbs number ⌝ }
+{
+    if number < 0 {
+        return (-(number + 1)) as u64 + 1;
+    }
+    number as u64
+}
+
+// A signed number in decimal, and what follows it.
+pub fn print_signed(number: i64, end: &[u8]) {
+    if number < 0 {
+        print_text(b"-");
+    }
+    print_number(magnitude(number), end);
+}
+
+// The digit q that a byte holds as q + 2.
+pub fn digit_of(byte: u8) -> i64
+    ensures { λ r. ⌜ r ≡ digit byte ⌝ }
+{
+    byte as i64 - 2
+}
+
+// Document 01's two lines for a refusal: its number and its place.
+pub fn print_refusal(refusal: Refusal) {
+    print_text(b"refusal place\n");
+    print_number(refusal.number, b" ");
+    print_number(refusal.place, b"\n");
+}

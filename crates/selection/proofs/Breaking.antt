@@ -1,0 +1,41 @@
+-- The points of a cell that break a digit, over natural numbers: W is P + 2^63, b is the digit plus 2.
+-- Assumes nothing.
+use mathlib.Core.Logic.{_⊎_}
+use Prim.Native.Nat.{ℕ, _+_, _*_, _^_, _≤_, _<_}
+use Rattle.selection.specs.Cell.{span}
+use Rattle.selection.specs.declared.SearchResult.{SearchResult}
+use Rattle.selection.specs.declared.SearchResult.the-variants.{NoWitness, LeastAt}
+
+-- a point of a cell
+pub record BiasedPoint (r c D W : ℕ) : Type 0 where
+  pub from : (16 + r) * 2 ^ 56 ≤ D
+  pub below : D < (17 + r) * 2 ^ 56
+  pub left : c * 2 ^ 57 ≤ W
+  pub right : W ≤ c * 2 ^ 57 + span
+  pub low : 3 * 2 ^ 63 ≤ 3 * W + 8 * D
+  pub high : 3 * W ≤ 3 * 2 ^ 63 + 8 * D
+
+-- 3(P - qD) is below -2D; above 2D
+pub record Low (b D W : ℕ) : Type 0 where
+  pub less : 3 * (W + D * 2) + 2 * D < 3 * (2 ^ 63 + D * b)
+
+pub record High (b D W : ℕ) : Type 0 where
+  pub more : 3 * (2 ^ 63 + D * b) + 2 * D < 3 * (W + D * 2)
+
+-- what a hit says of the breaking points B of a cell
+abbrev pub IsLeast : (ℕ → ℕ → Type 0) → SearchResult → Type 0
+IsLeast B NoWitness = (D W : ℕ) → B D W → ⊥
+IsLeast B (LeastAt d w) = B d w × ((D W : ℕ) → B D W → d ≤ D) × ((W : ℕ) → B d W → w ≤ W)
+
+-- a point that breaks the digit, from below or from above
+pub record LowPoint (r c b D W : ℕ) : Type 0 where
+  pub point : BiasedPoint r c D W
+  pub low : Low b D W
+
+pub record HighPoint (r c b D W : ℕ) : Type 0 where
+  pub point : BiasedPoint r c D W
+  pub high : High b D W
+
+pub record Breaks (r c b D W : ℕ) : Type 0 where
+  pub point : BiasedPoint r c D W
+  pub side : Low b D W ⊎ High b D W

@@ -1,0 +1,103 @@
+-- The computed report is the check's answer in document 01's words, and a table is admitted exactly if it passes.
+-- Assumes nothing.
+use mathlib.Core.Path.{_≡_, refl, sym, subst, ap, _∙_}
+use mathlib.Core.List.{List}
+use mathlib.Core.Logic.{_⊎_, inl, inr, ⊎-elim}
+use Prim.Native.Nat.{ℕ, _+_, _*_, _/_, _%_, _≤_, _<_}
+use native.Mathlib.Nat.{not-le-of-lt}
+use native.Mathlib.Omega.{arith}
+use lib.Dec.{T, T-not, ltb, eqb, ltb→lt, nltb→le, eqb→eq}
+use lib.ListN.{length, getD}
+use borrow.Author.Tests.{eq-eqb}
+use Rattle.laws.proofs.Tests.{by-cond}
+use Rattle.selection.specs.Cell.{Allows, CellChecked, digit}
+use Rattle.selection.specs.Table.{Table, BadAt, Passes, First, Checked, ReportMeaning}
+use Rattle.selection.specs.Computed.{cellOf, firstFrom, countBelow, aboveFour, isBad, badReport, passedReport, reportOf}
+use Rattle.selection.specs.Answer.{admission, admissionOf}
+use Rattle.selection.specs.declared.Admission.the-variants as A
+use Rattle.selection.specs.declared.CellVerdict.{CellVerdict}
+use Rattle.selection.specs.declared.CellVerdict.the-variants.{Allowed, Disallowed, Refused}
+use Rattle.selection.specs.declared.table.Outcome.{Outcome}
+use Rattle.selection.specs.declared.table.Outcome.the-variants as O
+use Rattle.selection.specs.declared.table.Report.{Report}
+use Rattle.selection.specs.declared.table.BadCell.{BadCell}
+use Rattle.selection.proofs.Bridge.{not-allowed, known-not-refused, allows-unless, cell-checked}
+use Rattle.selection.proofs.Counts.{less-decides, count-tally, first-below}
+use Rattle.selection.proofs.Allowed.{bad-decides}
+use Rattle.selection.proofs.Tables.{table-of, cell-at, cell-row, cell-column, first-bad-of}
+
+module _ (t : List ℕ) where
+  above-first : let f = firstFrom (aboveFour t) 0 2048 in ((f ≡ 2048) × ((k : ℕ) → k < 2048 → 4 < getD t k 0 → ⊥)) ⊎ ((f < 2048) × First (λ k. 4 < getD t k 0) f)
+  above-first = first-below (aboveFour t) 2048 (λ k h. less-decides 4 (getD t k 0))
+
+  -- 2,048 bytes in which no byte above 4 is found are a table
+  pub is-table : length t ≡ 2048 → 2048 ≤ firstFrom (aboveFour t) 0 2048 → Table t
+  is-table e h = table-of t e (⊎-elim (λ l. l .1) (λ r. absurd (omega (arith, r .0))) above-first)
+
+  bad-first : Table t → let f = firstFrom (isBad t) 0 2048 in ((f ≡ 2048) × ((k : ℕ) → k < 2048 → BadAt t k → ⊥)) ⊎ ((f < 2048) × First (BadAt t) f)
+  bad-first a = first-below (isBad t) 2048 (bad-decides a)
+
+  passed : Table t → 2048 ≤ firstFrom (isBad t) 0 2048 → Checked t passedReport
+  passed a h =
+      let n = ⊎-elim (λ l. l .1) (λ r. absurd (omega (arith, r .0))) (bad-first a) in
+      record { means = (record { table = a; allowed = λ k h. allows-unless (cell-at a k h) (λ D P x. n k h (record { divisor = D; remainder = P; against = x })) }, refl) }
+
+  bad : Table t → let k = firstFrom (isBad t) 0 2048 in k < 2048 → Checked t (badReport (countBelow (isBad t) 2048) k (cellOf (k / 128) (k % 128) (getD t k 0)))
+  bad a h =
+      let k = firstFrom (isBad t) 0 2048 in
+      let f : First (BadAt t) k = ⊎-elim (λ l. absurd (omega (arith, l .0))) (λ r. r .1) (bad-first a) in
+      go k h f (cellOf (k / 128) (k % 128) (getD t k 0)) (cell-checked (k / 128) (k % 128) (getD t k 0))
+    where
+      go : (k : ℕ) → k < 2048 → First (BadAt t) k → (v : CellVerdict) → CellChecked (k / 128) (k % 128) (getD t k 0) v → Checked t (badReport (countBelow (isBad t) 2048) k v)
+      go k h f Allowed j = absurd (not-allowed (f .here .against) (j .means .1))
+      go k h f (Disallowed w) j = record { means = (a, count-tally (isBad t) 2048 (bad-decides a), first-bad-of h f (j .means .1)) }
+      go k h f (Refused r) j = known-not-refused (cell-at a k h) (j .means)
+
+-- the computed report is the check's answer
+pub report-checked : (t : List ℕ) → Checked t (reportOf t)
+unfolding reportOf
+report-checked t =
+    by-cond (Checked t) (eqb (length t) 2048) _ _
+    (λ e. by-cond (Checked t) (ltb (firstFrom (aboveFour t) 0 2048) 2048) _ _
+    (λ l. record { means = (record { why = inr (eqb→eq _ _ e, refl, ⊎-elim (λ n. absurd (omega (arith, n .0, ltb→lt))) (λ r. r .1) (above-first t)) }, refl) })
+    (λ l. let a = is-table t (eqb→eq _ _ e) (nltb→le _ _ l) in
+    by-cond (Checked t) (ltb (firstFrom (isBad t) 0 2048) 2048) _ _ (λ h. bad t a (ltb→lt _ _ h)) (λ h. passed t a (nltb→le _ _ h))))
+    (λ e. record { means = (record { why = inl ((λ n. T-not (eqb (length t) 2048) e (subst T (sym (eq-eqb _ _ n)) tt)), refl, refl) }, refl) })
+
+-- what the code of `check_table` asks
+pub report-is : {t : List ℕ} {a : Report} → a ≡ reportOf t → (a ≡ reportOf t) × Checked t a
+report-is {t} e = (e, subst (Checked t) (sym e) (report-checked t))
+
+-- a table that passes is answered so
+pub passes-told : {t : List ℕ} {a : Report} → Checked t a → Passes t → (a .count ≡ 0) × (a .outcome ≡ O.Passed)
+passes-told {t} {a} c h = go (a .outcome) (c .means)
+  where
+    go : (o : Outcome) → ReportMeaning t (a .count) o → (a .count ≡ 0) × (o ≡ O.Passed)
+    go O.Passed w = (w .1, refl)
+    go (O.Bad b) w = let f = w .2 in let hr = f .row in let hc = f .column in let x = f .first .here in absurd (x .against .broken (h .allowed _ (omega arith) _ _ (x .against .point)))
+    go (O.Refused f) w = absurd (⊎-elim (λ l. l .0 (h .table .size)) (λ r. not-le-of-lt (r .2 .here) (h .table .digits _)) (w .0 .why))
+
+-- a table passes exactly if it is admitted
+pub passes-admitted : {t : List ℕ} → Passes t → admission (reportOf t) ≡ A.Admitted
+passes-admitted {t} p = ap admissionOf (passes-told (report-checked t) p .1)
+
+pub admitted-passes : {t : List ℕ} → admission (reportOf t) ≡ A.Admitted → Passes t
+admitted-passes {t} e = go (reportOf t .outcome) (report-checked t .means) e
+  where
+    go : (o : Outcome) → ReportMeaning t (reportOf t .count) o → admissionOf o ≡ A.Admitted → Passes t
+    go O.Passed w e = w .0
+    go (O.Bad b) w e = absurd (let z : _≡_ {A = ℕ} 0 1 = cc in omega arith)
+    go (O.Refused f) w e = absurd (let z : _≡_ {A = ℕ} 0 1 = cc in omega arith)
+
+-- the digit of a table that passes, at a row and a column
+pub passes-at : {t : List ℕ} → Passes t → (r c : ℕ) → r ≤ 15 → c ≤ 127 → Allows r c (digit (getD t (128 * r + c) 0))
+passes-at {t} p r c hr hc =
+    subst (λ (m : ℕ). Allows m c (digit (getD t (128 * r + c) 0))) (cell-row r c hc)
+    (subst (λ (m : ℕ). Allows ((128 * r + c) / 128) m (digit (getD t (128 * r + c) 0))) (cell-column r c hc) (p .allowed (128 * r + c) (omega arith)))
+
+-- what the code of `admit_table` asks
+pub admission-as : (t : List ℕ) {a : Report} {o : Outcome} → a ≡ reportOf t → a .outcome ≡ o → admissionOf o ≡ admission (reportOf t)
+admission-as t e f = ap admissionOf (sym f) ∙ ap admission e
+
+pub bad-cell : {t : List ℕ} {a : Report} {b : BadCell} → Checked t a → a .outcome ≡ O.Bad b → (b .row ≤ 15) × (b .column ≤ 127)
+bad-cell {t} {a} c e = let m = subst (ReportMeaning t (a .count)) e (c .means) in (m .2 .row, m .2 .column)

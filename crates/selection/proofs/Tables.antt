@@ -1,0 +1,54 @@
+-- Tables, and a table's index as a row and a column.
+-- Assumes nothing.
+use mathlib.Core.Path.{_≡_, subst}
+use mathlib.Core.List.{List}
+use mathlib.Core.Logic.{⊎-elim}
+use Prim.Native.Nat.{ℕ, _+_, _*_, _/_, _%_, _≤_, _<_}
+use native.Mathlib.Nat.{lt-of-not-le, le-of-suc-le-suc, not-le-of-lt}
+use native.Mathlib.Decide.{decLt}
+use native.Mathlib.Omega.{arith}
+use lib.IntN.{ℤ}
+use lib.ListN.{length, getD, List·getD-eq-default}
+use Rattle.selection.specs.Cell.{LeastWitness, IsCell, digit}
+use Rattle.selection.specs.Table.{Table, First, BadAt, FirstBad, NoTable}
+
+-- 2,048 bytes of which none is above 4 are a table
+pub table-of : (t : List ℕ) → length t ≡ 2048 → ((k : ℕ) → k < 2048 → 4 < getD t k 0 → ⊥) → Table t
+table-of t e h =
+    record {
+      size = e;
+      digits = λ k.
+          elim (decLt k 2048) [
+            | yes l ↦ le-of-not-lt (h k l)
+            | no n ↦ rw (List·getD-eq-default t 0 {n = k} (le-of-not-lt (λ l. n (omega arith)))) (omega arith)
+          ];
+    }
+  where
+    le-of-not-lt : {a b : ℕ} → (a < b → ⊥) → b ≤ a
+    le-of-not-lt n = le-of-suc-le-suc (lt-of-not-le n)
+
+-- index f as a cell
+pub first-bad-of : {t : List ℕ} {f D : ℕ} {P : ℤ} → f < 2048 → First (BadAt t) f → LeastWitness (f / 128) (f % 128) (digit (getD t f 0)) D P → FirstBad t (f / 128) (f % 128) D P
+first-bad-of {t} {f} {D} {P} h b w =
+    let e : f ≡ 128 * (f / 128) + f % 128 = omega arith in
+    record {
+      row = omega arith;
+      column = omega arith;
+      first = subst (First (BadAt t)) e b;
+      witness = subst (λ (k : ℕ). LeastWitness (f / 128) (f % 128) (digit (getD t k 0)) D P) e w;
+    }
+
+-- no table is refused as none
+pub no-table : {t : List ℕ} {n p : ℕ} {X : Type 0} → Table t → NoTable t n p → X
+no-table a w = absurd (⊎-elim (λ l. l .0 (a .size)) (λ r. not-le-of-lt (r .2 .here) (a .digits _)) (w .why))
+
+-- a cell's index is below 2,048 and gives back its row and its column
+pub cell-row : (r c : ℕ) → c ≤ 127 → (128 * r + c) / 128 ≡ r
+cell-row r c h = omega arith
+
+pub cell-column : (r c : ℕ) → c ≤ 127 → (128 * r + c) % 128 ≡ c
+cell-column r c h = omega arith
+
+-- an index below 2,048 is that of a cell
+pub cell-at : {t : List ℕ} → Table t → (k : ℕ) → k < 2048 → IsCell (k / 128) (k % 128) (getD t k 0)
+cell-at a k h = record { row = omega arith; column = omega arith; byte = a .digits k }

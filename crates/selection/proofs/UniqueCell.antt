@@ -1,0 +1,60 @@
+-- The single-cell call has one answer: the reported witness is one, and so is the refusal.
+-- Assumes nothing.
+use mathlib.Core.Path.{_≡_, refl, sym, subst, ap, ap₂, _∙_}
+use mathlib.Core.Logic.{⊎-elim}
+use Prim.Native.Nat.{ℕ, _^_, _≤_}
+use native.Mathlib.Omega.{arith}
+use native.Mathlib.Nat.{le-antisymm}
+use lib.IntN.{ℤ}
+use lib.Signed.{_≤ℤ_}
+use Rattle.laws.proofs.Diff.{diff, diffs, diff-eq}
+use Rattle.selection.specs.Cell.{LeastWitness, CellRefused, CellChecked}
+use Rattle.selection.specs.declared.Witness.{Witness}
+use Rattle.selection.specs.declared.Refusal.{Refusal}
+use Rattle.selection.specs.declared.CellVerdict.{CellVerdict}
+use Rattle.selection.specs.declared.CellVerdict.the-variants as C
+use Rattle.selection.proofs.Bridge.{of-point, known-not-refused, not-allowed}
+
+module _ {r c : ℕ} {q : ℤ} (hr : r ≤ 15) (hc : c ≤ 127) where
+  one-divisor : {D D' : ℕ} {P P' : ℤ} → LeastWitness r c q D P → LeastWitness r c q D' P' → D ≡ D'
+  one-divisor {D} {D'} {P} {P'} a b = le-antisymm (a .divisor-least D' P' (b .against)) (b .divisor-least D P (a .against))
+
+  one-remainder : {D : ℕ} {P P' : ℤ} → LeastWitness r c q D P → LeastWitness r c q D P' → P ≡ P'
+  one-remainder {D} {P} {P'} a b =
+      let x = of-point hr hc (a .against .point) in
+      let y = of-point hr hc (b .against .point) in
+      let l : (diff (x .W) (2 ^ 63)) ≤ℤ (diff (y .W) (2 ^ 63)) = rw (← x .is, ← y .is) (a .remainder-least P' (b .against)) in
+      let m : (diff (y .W) (2 ^ 63)) ≤ℤ (diff (x .W) (2 ^ 63)) = rw (← x .is, ← y .is) (b .remainder-least P (a .against)) in
+      x .is ∙ diff-eq _ _ _ _ .1 (omega (arith, simp diffs at l, simp diffs at m)) ∙ sym (y .is)
+
+  pub one-witness : (v w : Witness) → LeastWitness r c q (v .divisor) (v .remainder) → LeastWitness r c q (w .divisor) (w .remainder) → v ≡ w
+  one-witness v w a b =
+      let e = one-divisor a b in
+      let b' = subst (λ (D : ℕ). LeastWitness r c q D (w .remainder)) (sym e) b in
+      ap₂ (λ (d : ℕ) (p : ℤ). mk d p) e (one-remainder a b')
+    where
+      mk : ℕ → ℤ → Witness
+      mk d p = record { divisor = d; remainder = p }
+
+one-refusal : {r c b : ℕ} (f g : Refusal) → CellRefused r c b (f .number) (f .place) → CellRefused r c b (g .number) (g .place) → f ≡ g
+one-refusal f g u v = ap₂ mk number place
+  where
+    mk : ℕ → ℕ → Refusal
+    mk n p = record { number = n; place = p }
+
+    number : f .number ≡ g .number
+    number = ⊎-elim (λ l. ⊎-elim (λ m. omega arith) (λ m. absurd (⊎-elim (λ x. omega arith) (λ x. omega arith) (l .0))) (v .why)) (λ l. ⊎-elim (λ m. absurd (⊎-elim (λ x. omega arith) (λ x. omega arith) (m .0))) (λ m. omega arith) (v .why)) (u .why)
+
+    place : f .place ≡ g .place
+    place = ⊎-elim (λ l. ⊎-elim (λ m. omega arith) (λ m. absurd (⊎-elim (λ x. omega arith) (λ x. omega arith) (l .0))) (v .why)) (λ l. ⊎-elim (λ m. absurd (⊎-elim (λ x. omega arith) (λ x. omega arith) (m .0))) (λ m. omega arith) (v .why)) (u .why)
+
+pub cell-checked-one : {r c b : ℕ} (v w : CellVerdict) → CellChecked r c b v → CellChecked r c b w → v ≡ w
+cell-checked-one C.Allowed C.Allowed j k = refl
+cell-checked-one C.Allowed (C.Disallowed w) j k = absurd (not-allowed (k .means .1 .against) (j .means .1))
+cell-checked-one C.Allowed (C.Refused f) j k = known-not-refused (j .means .0) (k .means)
+cell-checked-one (C.Disallowed v) C.Allowed j k = absurd (not-allowed (j .means .1 .against) (k .means .1))
+cell-checked-one (C.Disallowed v) (C.Disallowed w) j k = ap C.Disallowed (one-witness (j .means .0 .row) (j .means .0 .column) v w (j .means .1) (k .means .1))
+cell-checked-one (C.Disallowed v) (C.Refused f) j k = known-not-refused (j .means .0) (k .means)
+cell-checked-one (C.Refused f) C.Allowed j k = known-not-refused (k .means .0) (j .means)
+cell-checked-one (C.Refused f) (C.Disallowed w) j k = known-not-refused (k .means .0) (j .means)
+cell-checked-one (C.Refused f) (C.Refused g) j k = ap C.Refused (one-refusal f g (j .means) (k .means))

@@ -1,0 +1,15 @@
+-- `selection::kept::kept_table` meets its contract: antt computes the rule over the constant.
+-- Assumes nothing.
+use mathlib.Core.Path.{refl}
+use Rattle.selection.specs.Computed.{allowsOf, madeOf}
+use Rattle.selection.proofs.KeptLaws.{right, made-table}
+use Rattle.selection.proofs.MadeTables.{made-answer}
+use Rattle.selection.proofs.kept.kept_table.Statement.{statement}
+use Rattle.selection.proofs.kept.kept_table.Tie as tie
+
+returns : tie.Need-returns
+unfolding right madeOf allowsOf
+returns c = made-answer (made-table refl tt)
+
+pub kept-table-spec : {M : Type 1} → statement M
+kept-table-spec = tie.close (tie.spec returns)

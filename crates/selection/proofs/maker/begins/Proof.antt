@@ -1,0 +1,53 @@
+use Prim.Native.Nat.{_≤_, _-_}
+use mathlib.Core.Path.{_≡_, refl, sym, _∙_}
+use native.Mathlib.Omega.{arith}
+use borrow.Author.Tests.{eq-eqb, ne-eqb}
+use Rattle.selection.specs.Computed.{beginsOf}
+use Rattle.selection.proofs.Counts.{first-here, first-on, first-end}
+use Rattle.selection.proofs.maker.begins.Statement.{statement}
+use Rattle.selection.proofs.maker.begins.Tie as tie
+
+abbrev Inv-loop : tie.InvT-loop
+Inv-loop row from byte c₀ c = (c ≤ 128) × (beginsOf row from byte ≡ beginsOf row c byte)
+
+abbrev μ-loop : tie.MeasureT-loop
+μ-loop row from byte c₀ c = 128 - c
+
+loop-holds : tie.Need-loop-holds Inv-loop μ-loop
+loop-holds c = (omega arith, refl)
+
+cast-made : tie.Need-cast-made Inv-loop μ-loop
+cast-made c = omega arith
+
+made-requires : tie.Need-made-requires Inv-loop μ-loop
+made-requires c κs = omega arith
+
+returns : tie.Need-returns Inv-loop μ-loop
+returns c = (sym (c .before .before .before .loop .inv .1 ∙ first-here _ _ 128 (omega arith) (eq-eqb _ _ (sym (c .before .made .ensures) ∙ c .if1 .taken))), omega arith)
+
+add-c : tie.Need-add-c Inv-loop μ-loop
+add-c c = omega arith
+
+loop-less : tie.Need-loop-less Inv-loop μ-loop
+loop-less c = omega arith
+
+loop-again : tie.Need-loop-again Inv-loop μ-loop
+loop-again c = (omega arith, c .before .before .before .loop .inv .1 ∙ first-on _ _ 128 (omega arith) (ne-eqb _ _ (λ e. c .if1 .left (c .before .made .ensures ∙ e))))
+
+returns-2 : tie.Need-returns-2 Inv-loop μ-loop
+returns-2 c = (sym (c .before .loop .inv .1 ∙ first-end _ _ 128 (c .loop-test .left)), c .before .loop .inv .0)
+
+pub begins-spec : {M : Type 1} → statement M
+begins-spec =
+    tie.close
+    (tie.spec
+    Inv-loop
+    μ-loop
+    loop-holds
+    cast-made
+    made-requires
+    returns
+    add-c
+    loop-less
+    loop-again
+    returns-2)

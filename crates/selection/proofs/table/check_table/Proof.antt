@@ -1,0 +1,58 @@
+use denote.Ref.{now}
+use native.Mathlib.Omega.{arith}
+use borrow.Author.Needs.{needs}
+use borrow.Author.Tests.{eq-eqb, ne-eqb, lt-ltb, le-ltb}
+use Rattle.selection.specs.Table.{Table}
+use Rattle.selection.specs.Computed.{reportOf}
+use Rattle.selection.proofs.Reports.{report-is, is-table}
+use Rattle.selection.proofs.table.check_table.Statement.{statement}
+use Rattle.selection.proofs.table.check_table.Tie as tie
+
+-- past the first two tests the bytes are a table
+table-ok : (c : tie.Else2) → Table (now (c .before .before .before .before .args .table))
+table-ok c = is-table _ (c .before .before .if1 .left) (rw (← c .before .first-above .ensures) (c .if2 .left))
+
+refused-requires : tie.Need-refused-requires
+refused-requires c κs = search needs
+
+returns : tie.Need-returns
+unfolding reportOf
+returns c = report-is (rw (c .refused .ensures) (simp (ne-eqb _ _ (c .before .if1 .taken))))
+
+first-above-requires : tie.Need-first-above-requires
+first-above-requires c κs = search needs
+
+refused-requires-2 : tie.Need-refused-requires-2
+refused-requires-2 c κs = search needs
+
+returns-2 : tie.Need-returns-2
+unfolding reportOf
+returns-2 c = report-is (rw (c .refused2 .ensures) (simp (eq-eqb _ _ (c .before .before .before .if1 .left), ← c .before .before .first-above .ensures, lt-ltb _ _ (c .before .if2 .taken))))
+
+first-bad-requires : tie.Need-first-bad-requires
+first-bad-requires c κs = table-ok c
+
+bad-report-requires : tie.Need-bad-report-requires
+bad-report-requires c κs = (table-ok (c .before .before), omega arith)
+
+returns-3 : tie.Need-returns-3
+unfolding reportOf
+returns-3 c = report-is (rw (c .bad-report .ensures) (simp (eq-eqb _ _ (c .before .before .before .before .before .if1 .left), ← c .before .before .before .before .first-above .ensures, le-ltb _ _ (c .before .before .before .if2 .left), ← c .before .before .first-bad .ensures, lt-ltb _ _ (c .before .if3 .taken))))
+
+returns-4 : tie.Need-returns-4
+unfolding reportOf
+returns-4 c = report-is (simp (eq-eqb _ _ (c .before .before .before .before .if1 .left), ← c .before .before .before .first-above .ensures, le-ltb _ _ (c .before .before .if2 .left), ← c .before .first-bad .ensures, le-ltb _ _ (c .if3 .left)))
+
+pub check-table-spec : {M : Type 1} → statement M
+check-table-spec =
+    tie.close
+    (tie.spec
+    refused-requires
+    returns
+    first-above-requires
+    refused-requires-2
+    returns-2
+    first-bad-requires
+    bad-report-requires
+    returns-3
+    returns-4)

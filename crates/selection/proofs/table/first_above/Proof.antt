@@ -1,0 +1,49 @@
+use Prim.Native.Nat.{_≤_, _-_}
+use mathlib.Core.Path.{_≡_, refl, sym, _∙_}
+use native.Mathlib.Omega.{arith}
+use borrow.Author.Tests.{lt-ltb, le-ltb}
+use Rattle.selection.specs.Computed.{firstFrom, aboveFour}
+use Rattle.selection.proofs.Counts.{first-here, first-on, first-end}
+use Rattle.selection.proofs.table.first_above.Statement.{statement}
+use Rattle.selection.proofs.table.first_above.Tie as tie
+
+abbrev Inv-loop : tie.InvT-loop
+Inv-loop table i₀ i = (i ≤ 2048) × (firstFrom (aboveFour table) 0 2048 ≡ firstFrom (aboveFour table) i (2048 - i))
+
+abbrev μ-loop : tie.MeasureT-loop
+μ-loop table i₀ i = 2048 - i
+
+loop-holds : tie.Need-loop-holds Inv-loop μ-loop
+loop-holds c = (omega arith, refl)
+
+shared-slice-read-if1 : tie.Need-shared-slice-read-if1 Inv-loop μ-loop
+shared-slice-read-if1 c = omega arith
+
+returns : tie.Need-returns Inv-loop μ-loop
+returns c = sym (c .before .before .before .loop .inv .1 ∙ first-here _ _ 2048 (omega arith) (lt-ltb _ _ (c .if1 .taken)))
+
+add-i : tie.Need-add-i Inv-loop μ-loop
+add-i c = omega arith
+
+loop-less : tie.Need-loop-less Inv-loop μ-loop
+loop-less c = omega arith
+
+loop-again : tie.Need-loop-again Inv-loop μ-loop
+loop-again c = (omega arith, c .before .before .before .loop .inv .1 ∙ first-on _ _ 2048 (omega arith) (le-ltb _ _ (c .if1 .left)))
+
+returns-2 : tie.Need-returns-2 Inv-loop μ-loop
+returns-2 c = let e : c .before .loop .i ≡ 2048 = omega arith in sym (c .before .loop .inv .1 ∙ first-end _ _ 2048 (c .loop-test .left) ∙ e)
+
+pub first-above-spec : {M : Type 1} → statement M
+first-above-spec =
+    tie.close
+    (tie.spec
+    Inv-loop
+    μ-loop
+    loop-holds
+    shared-slice-read-if1
+    returns
+    add-i
+    loop-less
+    loop-again
+    returns-2)

@@ -1,0 +1,40 @@
+-- `selection::unbiased` meets its contract: both ways the result is w - 2^63.
+-- Assumes nothing.
+use mathlib.Core.Path.{_≡_, refl, _∙_, subst, sym}
+use Prim.Native.Nat.{ℕ, _-_, _^_, _<_}
+use native.Mathlib.Omega.{arith}
+use lib.Dec.{ltb, ltb→lt, nltb→le}
+use lib.IntN.{negsuc, subℕ, _+ℤ_}
+use mir.Facts.{toZ-ofZ, toZ-pos}
+use mir.Syntax.{w64}
+use mir.Val.{toZ, SFits}
+use borrow.Author.Needs.{needs}
+use borrow.Author.Tests.{le-ltb}
+use Rattle.laws.proofs.Tests.{by-cond}
+use Rattle.selection.proofs.unbiased.Statement.{statement}
+use Rattle.selection.proofs.unbiased.Tie as tie
+
+-- -2^63 + w
+moved : (w : ℕ) → w < 2 ^ 63 → negsuc 9223372036854775807 +ℤ toZ w64 w ≡ subℕ w (2 ^ 63)
+moved w h = rw (toZ-pos w64 h) refl
+
+fits : (w : ℕ) → w < 2 ^ 64 → SFits w64 (subℕ w (2 ^ 63))
+fits w h = by-cond (SFits w64) (ltb w (2 ^ 63)) _ _ (λ t. omega (arith, ltb→lt)) (λ t. omega (arith, nltb→le))
+
+cast-result : tie.Need-cast-result
+cast-result c = search needs
+
+add-result : tie.Need-add-result
+add-result c = subst (SFits w64) (sym (moved (c .before .args .w) (c .if1 .taken))) (fits (c .before .args .w) (omega arith))
+
+cast-result-2 : tie.Need-cast-result-2
+cast-result-2 c = search needs
+
+returns : tie.Need-returns
+returns c = toZ-ofZ (add-result c) ∙ moved (c .before .args .w) (c .if1 .taken)
+
+returns-2 : tie.Need-returns-2
+returns-2 c = rw (toZ-pos w64 {n = c .before .args .w - 2 ^ 63} (omega arith)) (simp (le-ltb (c .before .args .w) (2 ^ 63) (c .if1 .left)))
+
+pub unbiased-spec : {M : Type 1} → statement M
+unbiased-spec = tie.close (tie.spec cast-result add-result cast-result-2 returns returns-2)

@@ -1,0 +1,63 @@
+-- The paper numbers of each answer: document 01, "Who sends bad input". The refusal's number (0: none) and place, and the values, zeros where it refuses.
+use Prim.Native.Nat.{ℕ, _+_, _*_}
+use lib.IntN.{ℤ, pos}
+use Rattle.selection.specs.declared.Refusal.{Refusal}
+use Rattle.selection.specs.declared.Admission.{Admission}
+use Rattle.selection.specs.declared.Admission.the-variants as A
+use Rattle.selection.specs.declared.CellVerdict.{CellVerdict}
+use Rattle.selection.specs.declared.CellVerdict.the-variants as C
+use Rattle.selection.specs.declared.table.Outcome.{Outcome}
+use Rattle.selection.specs.declared.table.Outcome.the-variants as O
+use Rattle.selection.specs.declared.table.Report.{Report}
+use Rattle.selection.specs.declared.maker.MakeAnswer.{MakeAnswer}
+use Rattle.selection.specs.declared.maker.MakeAnswer.the-variants as M
+
+abbrev pub refusal : ℕ → ℕ → Refusal
+refusal n p = record { number = n; place = p }
+
+-- a single cell's answer: an allowed digit (1) has no witness, a disallowed one (0) is an ordinary verdict
+pub record CellNumbers : Type 0 where
+  pub refused : Refusal
+  pub allowed : ℕ
+  pub divisor : ℕ
+  pub remainder : ℤ
+
+abbrev pub cellNumbers : CellVerdict → CellNumbers
+cellNumbers C.Allowed = record { refused = refusal 0 0; allowed = 1; divisor = 0; remainder = pos 0 }
+cellNumbers (C.Disallowed w) = record { refused = refusal 0 0; allowed = 0; divisor = w .divisor; remainder = w .remainder }
+cellNumbers (C.Refused f) = record { refused = f; allowed = 0; divisor = 0; remainder = pos 0 }
+
+-- the check's answer: refusal 10 also carries count, cell and witness
+pub record ReportNumbers : Type 0 where
+  pub refused : Refusal
+  pub count : ℕ
+  pub row : ℕ
+  pub column : ℕ
+  pub divisor : ℕ
+  pub remainder : ℤ
+
+abbrev pub outcomeNumbers : ℕ → Outcome → ReportNumbers
+outcomeNumbers n O.Passed = record { refused = refusal 0 0; count = 0; row = 0; column = 0; divisor = 0; remainder = pos 0 }
+outcomeNumbers n (O.Bad b) = record { refused = refusal 10 (128 * b .row + b .column); count = n; row = b .row; column = b .column; divisor = b .witness .divisor; remainder = b .witness .remainder }
+outcomeNumbers n (O.Refused f) = record { refused = f; count = 0; row = 0; column = 0; divisor = 0; remainder = pos 0 }
+
+abbrev pub reportNumbers : Report → ReportNumbers
+reportNumbers a = outcomeNumbers (a .count) (a .outcome)
+
+abbrev pub makeNumbers : MakeAnswer → Refusal
+makeNumbers M.Done = refusal 0 0
+makeNumbers (M.Refused f) = f
+
+-- what every other call makes of a report: number and place alone
+abbrev pub admissionOf : Outcome → Admission
+admissionOf O.Passed = A.Admitted
+admissionOf (O.Bad b) = A.Refused (refusal 10 (128 * b .row + b .column))
+admissionOf (O.Refused f) = A.Refused f
+
+abbrev pub admission : Report → Admission
+admission a = admissionOf (a .outcome)
+
+-- the first refusal of two, in their order
+abbrev pub inOrder : Admission → Admission → Admission
+inOrder A.Admitted v = v
+inOrder (A.Refused f) v = A.Refused f

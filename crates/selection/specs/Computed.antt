@@ -1,0 +1,122 @@
+-- The answers, computed: `cellOf`, `rowLimitsOf`, `madeTable`, `makeOf`, `reportOf`. A reader need not believe them: `cell-checked`, `allows-decides`, `limits-right`,
+-- `made-table-is`, `report-checked` show that each is the answer in document 01's words, and `cell-checked-one`, `limited-one`, `made-one`, `makes-one`, `checked-one` that
+-- there is no other.
+use mathlib.Core.Bool.{Bool, true, false, cond, not}
+use mathlib.Core.List.{List, [], _∷_, _++_}
+use Prim.Native.Nat.{ℕ, zero, suc, _+_, _*_, _-_, _/_, _%_}
+use lib.Dec.{ltb, leb, eqb}
+use lib.ListN.{length, getD, drop}
+use Rattle.selection.specs.Search.{searchOf, cellVerdictOf}
+use Rattle.selection.specs.declared.CellVerdict.{CellVerdict}
+use Rattle.selection.specs.declared.CellVerdict.the-variants.{Allowed, Disallowed, Refused}
+use Rattle.selection.specs.declared.table.Outcome.the-variants as O
+use Rattle.selection.specs.declared.table.Report.{Report}
+use Rattle.selection.specs.declared.maker.MakeAnswer.{MakeAnswer}
+use Rattle.selection.specs.declared.maker.MakeAnswer.the-variants as M
+use Rattle.selection.specs.declared.maker.RowLimits.{RowLimits}
+
+abbrev pub cellOf : ℕ → ℕ → ℕ → CellVerdict
+cellOf r c b =
+    cond (ltb 15 r) (Refused (record { number = 1; place = 0 })) (cond (ltb 127 c) (Refused (record { number = 1; place = 0 })) (cond (ltb 4 b) (Refused (record { number = 9; place = 128 * r + c })) (cellVerdictOf (searchOf r c b))))
+
+-- Whether a digit is allowed, in small numbers: in units of 2^56 the divisors of the row r lie from u = 16 + r to w = 17 + r, and 3P of the
+-- column c from v - 384 to v - 372, where v = 6c. No point breaks the digit q from below if v - 384 is at least (3q - 2)D for each D; none from
+-- above if v - 372 is at most (3q + 2)D. So v has a least and a greatest value for each byte (0: no least; 768: no greatest)
+abbrev pub leastOf : ℕ → ℕ → ℕ → ℕ
+leastOf u w b = getD (0 ∷ (384 - 5 * u) ∷ (384 - 2 * u) ∷ (384 + w) ∷ (384 + 4 * w) ∷ []) b 0
+
+abbrev pub greatestOf : ℕ → ℕ → ℕ → ℕ
+greatestOf u w b = getD ((372 - 4 * w) ∷ (372 - w) ∷ (372 + 2 * u) ∷ (372 + 5 * u) ∷ 768 ∷ []) b 0
+
+-- the first two tests find the cells that have no point
+unfoldable pub allowsOf : ℕ → ℕ → ℕ → Bool
+allowsOf r c b =
+    let v = 6 * c in
+    let u = 16 + r in
+    let w = 17 + r in
+    cond (leb v (372 - 8 * w)) true (cond (leb (384 + 8 * w) v) true (cond (ltb v (leastOf u w b)) false (leb v (greatestOf u w b))))
+
+-- the first allowed of 0, -1, 1, -2 and 2, as a byte
+unfoldable pub madeOf : ℕ → ℕ → ℕ
+madeOf r c =
+    let zero : ℕ = cond (allowsOf r c 0) 0 4 in
+    let three : ℕ = cond (allowsOf r c 3) 3 zero in
+    let one : ℕ = cond (allowsOf r c 1) 1 three in
+    cond (allowsOf r c 2) 2 one
+
+-- the values of f from i on, n of them
+unfoldable pub listFrom : (ℕ → ℕ) → ℕ → ℕ → List ℕ
+listFrom f i zero = []
+listFrom f i (suc n) = f i ∷ listFrom f (suc i) n
+
+abbrev pub madeAt : ℕ → ℕ
+madeAt k = madeOf (k / 128) (k % 128)
+
+unfoldable pub madeTable : List ℕ
+madeTable = listFrom madeAt 0 2048
+
+-- what the maker leaves in a buffer that held s, and answers
+abbrev pub madeBuffer : List ℕ → List ℕ
+madeBuffer s = cond (ltb (length s) 2048) s (madeTable ++ drop 2048 s)
+
+abbrev pub makeOf : List ℕ → MakeAnswer
+makeOf s = cond (ltb (length s) 2048) (M.Refused (record { number = 7; place = 0 })) M.Done
+
+-- of n numbers from i on, the first that passes the test f; else the number past them
+unfoldable pub firstFrom : (ℕ → Bool) → ℕ → ℕ → ℕ
+firstFrom f i zero = i
+firstFrom f i (suc n) =
+    let rest = firstFrom f (i + 1) n in
+    cond (f i) i rest
+
+-- the first column from c on whose made byte is b; else 128
+abbrev pub beginsOf : ℕ → ℕ → ℕ → ℕ
+beginsOf r c b = firstFrom (λ k. eqb (madeOf r k) b) c (128 - c)
+
+unfoldable pub limitsOf : ℕ → List ℕ
+limitsOf r =
+    let a = beginsOf r 0 0 in
+    let b = beginsOf r a 1 in
+    let c = beginsOf r b 2 in
+    let d = beginsOf r c 3 in
+    let e = beginsOf r d 4 in
+    let f = beginsOf r e 2 in
+    a ∷ b ∷ c ∷ d ∷ e ∷ f ∷ []
+
+abbrev pub rowLimitsOf : ℕ → RowLimits
+rowLimitsOf r = cond (ltb 15 r)
+    (record { refusal = record { number = 1; place = 0 }; limits = 0 ∷ 0 ∷ 0 ∷ 0 ∷ 0 ∷ 0 ∷ [] })
+    (record { refusal = record { number = 0; place = 0 }; limits = limitsOf r })
+
+-- how many numbers below m pass the test f
+unfoldable pub countBelow : (ℕ → Bool) → ℕ → ℕ
+countBelow f zero = 0
+countBelow f (suc m) = cond (f m) (countBelow f m + 1) (countBelow f m)
+
+abbrev pub aboveFour : List ℕ → ℕ → Bool
+aboveFour t k = ltb 4 (getD t k 0)
+
+abbrev pub isBad : List ℕ → ℕ → Bool
+isBad t k = not (allowsOf (k / 128) (k % 128) (getD t k 0))
+
+abbrev pub passedReport : Report
+passedReport = record { count = 0; outcome = O.Passed }
+
+-- the report of a table whose first bad cell is k, one of n, by the verdict on that cell: no bad cell is `Allowed` or `Refused`
+abbrev pub badReport : ℕ → ℕ → CellVerdict → Report
+badReport n k Allowed = passedReport
+badReport n k (Disallowed w) = record { count = n; outcome = O.Bad (record { row = k / 128; column = k % 128; witness = w }) }
+badReport n k (Refused f) = record { count = 0; outcome = O.Refused f }
+
+abbrev pub refusedReport : ℕ → ℕ → Report
+refusedReport n p = record { count = 0; outcome = O.Refused (record { number = n; place = p }) }
+
+-- the check's answer
+unfoldable pub reportOf : List ℕ → Report
+reportOf t =
+    let above = firstFrom (aboveFour t) 0 2048 in
+    let bad = firstFrom (isBad t) 0 2048 in
+    let verdict = cellOf (bad / 128) (bad % 128) (getD t bad 0) in
+    cond (eqb (length t) 2048)
+    (cond (ltb above 2048) (refusedReport 9 above) (cond (ltb bad 2048) (badReport (countBelow (isBad t) 2048) bad verdict) passedReport))
+    (refusedReport 8 0)

@@ -1,0 +1,9 @@
+pub mod Word
+pub mod Cell
+pub mod Table
+pub mod Selection
+pub mod Answer
+pub mod Search
+pub mod Computed
+pub mod Packed
+pub mod Demand

@@ -1,0 +1,56 @@
+-- The made table and the limits of its rows: document 01, "Maker". Quotient-digit selection by the allowed digit nearest zero.
+use mathlib.Core.Path.{_≡_}
+use mathlib.Core.Bool.{cond}
+use mathlib.Core.List.{List, [], _∷_, _++_}
+use mathlib.Core.Logic.{_⊎_}
+use Prim.Native.Nat.{ℕ, _+_, _-_, _/_, _%_, _≤_, _<_}
+use lib.Dec.{ltb}
+use lib.ListN.{length, getD, drop}
+use Rattle.selection.specs.Cell.{Allows, digit}
+use Rattle.selection.specs.declared.maker.RowLimits.{RowLimits}
+use Rattle.selection.specs.declared.maker.MakeAnswer.{MakeAnswer}
+use Rattle.selection.specs.declared.maker.MakeAnswer.the-variants.{Done, Refused}
+
+-- how far the digit of a byte is from zero
+abbrev pub distance : ℕ → ℕ
+distance b = (b - 2) + (2 - b)
+
+-- b is the byte of the allowed digit nearest zero; no other allowed digit is as near
+pub record Made (r c b : ℕ) : Type 0 where
+  pub byte : b ≤ 4
+  pub allowed : Allows r c (digit b)
+  pub nearest : (a : ℕ) → a ≤ 4 → Allows r c (digit a) → (a ≡ b) ⊎ (distance b < distance a)
+
+-- the byte at column c of a row in which -2, -1, 0, 1, 2 and again 0 begin at the six columns of l
+abbrev pub stepAt : List ℕ → ℕ → ℕ
+stepAt l c =
+    let e5 : ℕ = cond (ltb c (getD l 5 0)) 4 2 in
+    let e4 : ℕ = cond (ltb c (getD l 4 0)) 3 e5 in
+    let e3 : ℕ = cond (ltb c (getD l 3 0)) 2 e4 in
+    let e2 : ℕ = cond (ltb c (getD l 2 0)) 1 e3 in
+    let e1 : ℕ = cond (ltb c (getD l 1 0)) 0 e2 in
+    cond (ltb c (getD l 0 0)) 2 e1
+
+-- l holds the limits of the row r
+pub record Limits (r : ℕ) (l : List ℕ) : Type 0 where
+  pub six : length l ≡ 6
+  pub rises : (i : ℕ) → i < 5 → getD l i 0 < getD l (i + 1) 0
+  pub within : getD l 5 0 ≤ 127
+  pub steps : (c : ℕ) → c ≤ 127 → Made r c (stepAt l c)
+
+-- a is the answer to the row r: refusal 1 and zeros, or the row's limits
+pub record Limited (r : ℕ) (a : RowLimits) : Type 0 where
+  pub means : ((15 < r) × (a ≡ record { refusal = record { number = 1; place = 0 }; limits = 0 ∷ 0 ∷ 0 ∷ 0 ∷ 0 ∷ 0 ∷ [] })) ⊎ ((r ≤ 15) × (a .refusal ≡ record { number = 0; place = 0 }) × Limits r (a .limits))
+
+-- t is the made table
+pub record MadeTable (t : List ℕ) : Type 0 where
+  pub size : length t ≡ 2048
+  pub made : (k : ℕ) → k < 2048 → Made (k / 128) (k % 128) (getD t k 0)
+
+-- the maker's answer w, where the buffer held s and then holds t. Refusal 7: the buffer ends before the last byte to write
+abbrev pub MakeMeaning : List ℕ → List ℕ → MakeAnswer → Type 0
+MakeMeaning s t Done = (2048 ≤ length s) × ((m : List ℕ) × MadeTable m × (t ≡ m ++ drop 2048 s))
+MakeMeaning s t (Refused f) = (length s < 2048) × (f ≡ record { number = 7; place = 0 }) × (t ≡ s)
+
+pub record Makes (s t : List ℕ) (w : MakeAnswer) : Type 0 where
+  pub means : MakeMeaning s t w

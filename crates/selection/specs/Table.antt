@@ -1,0 +1,63 @@
+-- Tables and their check: document 01, "Cells" and "Check". A table is the list of its bytes.
+use mathlib.Core.Path.{_≡_}
+use mathlib.Core.List.{List}
+use mathlib.Core.Logic.{_⊎_}
+use Prim.Native.Nat.{ℕ, suc, _+_, _*_, _/_, _%_, _≤_, _<_}
+use lib.IntN.{ℤ}
+use lib.ListN.{length, getD, take, drop}
+use Rattle.selection.specs.Cell.{Allows, Against, LeastWitness, digit}
+use Rattle.selection.specs.declared.table.Outcome.{Outcome}
+use Rattle.selection.specs.declared.table.Outcome.the-variants.{Passed, Bad, Refused}
+use Rattle.selection.specs.declared.table.Report.{Report}
+
+-- 2,048 bytes, each a digit plus 2
+pub record Table (t : List ℕ) : Type 0 where
+  pub size : length t ≡ 2048
+  pub digits : (k : ℕ) → getD t k 0 ≤ 4
+
+-- the 128 bytes of row r
+abbrev pub rowBytes : List ℕ → ℕ → List ℕ
+rowBytes t r = take 128 (drop (128 * r) t)
+
+-- byte k, of the cell (k / 128, k % 128), holds a digit that isn't allowed: there is a witness against it
+pub record BadAt (t : List ℕ) (k : ℕ) : Type 0 where
+  pub divisor : ℕ
+  pub remainder : ℤ
+  pub against : Against (k / 128) (k % 128) (digit (getD t k 0)) divisor remainder
+
+-- a table that passes: each cell holds an allowed digit
+pub record Passes (t : List ℕ) : Type 0 where
+  pub table : Table t
+  pub allowed : (k : ℕ) → k < 2048 → Allows (k / 128) (k % 128) (digit (getD t k 0))
+
+-- n of the numbers below m have the property P
+pub data Tally (P : ℕ → Type 0) : ℕ → ℕ → Type 0 where
+  none : Tally P 0 0
+  one : {m n : ℕ} → P m → Tally P m n → Tally P (suc m) (suc n)
+  other : {m n : ℕ} → (P m → ⊥) → Tally P m n → Tally P (suc m) n
+
+-- k is the first number with the property P
+pub record First (P : ℕ → Type 0) (k : ℕ) : Type 0 where
+  pub here : P k
+  pub before : (j : ℕ) → j < k → P j → ⊥
+
+-- refusal 8: not 2,048 bytes. Refusal 9: a byte above 4, the first at the place
+pub record NoTable (t : List ℕ) (n p : ℕ) : Type 0 where
+  pub why : ((length t ≡ 2048 → ⊥) × (n ≡ 8) × (p ≡ 0)) ⊎ ((length t ≡ 2048) × (n ≡ 9) × First (λ k. 4 < getD t k 0) p)
+
+-- the first bad cell, with its witness
+pub record FirstBad (t : List ℕ) (r c D : ℕ) (P : ℤ) : Type 0 where
+  pub row : r ≤ 15
+  pub column : c ≤ 127
+  pub first : First (BadAt t) (128 * r + c)
+  pub witness : LeastWitness r c (digit (getD t (128 * r + c) 0)) D P
+
+-- what each answer of the check says, with n as its count
+abbrev pub ReportMeaning : List ℕ → ℕ → Outcome → Type 0
+ReportMeaning t n Passed = Passes t × (n ≡ 0)
+ReportMeaning t n (Bad b) = Table t × Tally (BadAt t) 2048 n × FirstBad t (b .row) (b .column) (b .witness .divisor) (b .witness .remainder)
+ReportMeaning t n (Refused f) = NoTable t (f .number) (f .place) × (n ≡ 0)
+
+-- a is the check's answer to the table t
+pub record Checked (t : List ℕ) (a : Report) : Type 0 where
+  pub means : ReportMeaning t (a .count) (a .outcome)

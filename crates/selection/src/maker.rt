@@ -1,0 +1,152 @@
+// The maker of a table.
+ghost use mathlib.Core.Path.{_≡_};
+ghost use mathlib.Core.List.{[]};
+ghost use Prim.Native.Nat.{ℕ, _≤_, _<_};
+ghost use lib.ListN.{getD};
+ghost use Rattle.selection.specs.Computed.{madeOf, beginsOf, limitsOf, rowLimitsOf, makeOf, madeBuffer};
+ghost use Rattle.selection.specs.Selection.{Limits, Limited, stepAt, Makes};
+use crate::Refusal;
+
+pub enum MakeAnswer {
+    Done,
+    Refused(Refusal),
+}
+
+// The byte of the allowed digit nearest zero.
+fn made(row: u64, column: u64) -> u8
+    requires { ⌜ (row ≤ 15) × (column ≤ 127) ⌝ }
+    ensures { λ r. ⌜ r ≡ madeOf row column ⌝ }
+{
+    if crate::bounds::allowed(row, column, 2) {
+        return 2; // 0
+    }
+    if crate::bounds::allowed(row, column, 1) {
+        return 1; // -1
+    }
+    if crate::bounds::allowed(row, column, 3) {
+        return 3; // 1
+    }
+    if crate::bounds::allowed(row, column, 0) {
+        return 0; // -2
+    }
+    4
+}
+
+// The first column from `from` on whose made byte is `byte`, or 128.
+fn begins(row: u64, from: u8, byte: u8) -> u8
+    requires { ⌜ (row ≤ 15) × (from ≤ 128) ⌝ }
+    ensures { λ r. ⌜ (r ≡ beginsOf row from byte) × (r ≤ 128) ⌝ }
+{
+    let mut c = from;
+    while c < 128 {
+        if made(row, c as u64) == byte {
+            return c;
+        }
+        c += 1;
+    }
+    c
+}
+
+// The six columns at which the made digits of a row change.
+fn limits_of(row: u64) -> [u8; 6]
+    requires { ⌜ row ≤ 15 ⌝ }
+    ensures { λ r. ⌜ (r ≡ limitsOf row) × Limits row r ⌝ }
+{
+    let a = begins(row, 0, 0);
+    let b = begins(row, a, 1);
+    let c = begins(row, b, 2);
+    let d = begins(row, c, 3);
+    let e = begins(row, d, 4);
+    let f = begins(row, e, 2);
+    [a, b, c, d, e, f]
+}
+
+// A row's limits, or refusal 1 and zeros.
+pub struct RowLimits {
+    pub refusal: Refusal,
+    pub limits: [u8; 6],
+}
+
+// The limits of a row.
+pub fn row_limits(row: u64) -> RowLimits
+    ensures { λ r. ⌜ (r ≡ rowLimitsOf row) × (Limited row r) ⌝ }
+{
+    if 15 < row {
+        let none = [0u8; 6];
+        return RowLimits {
+            refusal: Refusal {
+                number: 1,
+                place: 0,
+            },
+            limits: none,
+        };
+    }
+    let l = limits_of(row);
+    RowLimits {
+        refusal: Refusal {
+            number: 0,
+            place: 0,
+        },
+        limits: l,
+    }
+}
+
+// The byte at a column of a row with the limits l.
+fn digit_at(l: [u8; 6], c: u8) -> u8
+    ensures { λ r. ⌜ r ≡ stepAt l c ⌝ }
+{
+    if c < l[0] {
+        return 2;
+    }
+    if c < l[1] {
+        return 0;
+    }
+    if c < l[2] {
+        return 1;
+    }
+    if c < l[3] {
+        return 2;
+    }
+    if c < l[4] {
+        return 3;
+    }
+    if c < l[5] {
+        return 4;
+    }
+    2
+}
+
+// The limits of all rows.
+fn all_limits() -> [[u8; 6]; 16]
+    ensures { λ r. ⌜ ((j : ℕ) → j < 16 → Limits j (getD r j [])) ⌝ }
+{
+    let mut all = [[0u8; 6]; 16];
+    let mut row: usize = 0;
+    while row < 16 {
+        let l = limits_of(row as u64);
+        all[row] = l;
+        row += 1;
+    }
+    all
+}
+
+// The made table, in the first 2,048 bytes of the buffer.
+pub fn make_table(buffer: &mut [u8]) -> MakeAnswer
+    ensures { λ r. ⌜ (r ≡ makeOf (now (buffer .entry))) × (now (buffer .exit) ≡ madeBuffer (now (buffer .entry))) × (Makes (now (buffer .entry)) (now (buffer .exit)) r) ⌝ }
+{
+    if buffer.len() < 2048 {
+        return MakeAnswer::Refused(Refusal {
+            number: 7,
+            place: 0,
+        });
+    }
+    let all = all_limits();
+    let mut k: usize = 0;
+    while k < 2048 {
+        let row = k / 128;
+        let l = all[row];
+        buffer[k] = digit_at(l, (k % 128) as u8);
+        k += 1;
+    }
+    MakeAnswer::Done
+}

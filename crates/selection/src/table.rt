@@ -1,0 +1,165 @@
+// The check of a table.
+ghost use mathlib.Core.Path.{_≡_};
+ghost use Prim.Native.Nat.{_+_, _*_, _/_, _%_, _≤_, _<_};
+ghost use lib.ListN.{length, getD};
+ghost use Rattle.selection.specs.Answer.{admission};
+ghost use Rattle.selection.specs.Computed.{cellOf, firstFrom, countBelow, aboveFour, isBad, refusedReport, badReport, reportOf};
+ghost use Rattle.selection.specs.Table.{Table, Checked};
+use crate::Admission;
+use crate::CellVerdict;
+use crate::Refusal;
+use crate::Witness;
+
+// A bad cell and the witness against its digit.
+pub struct BadCell {
+    pub row: u64,
+    pub column: u64,
+    pub witness: Witness,
+}
+
+pub enum Outcome {
+    Passed,
+    Bad(BadCell),
+    Refused(Refusal),
+}
+
+pub struct Report {
+    pub count: u64,
+    pub outcome: Outcome,
+}
+
+// The first index of a byte above 4, or 2048.
+fn first_above(table: &[u8]) -> usize
+    requires { ⌜ length (now table) ≡ 2048 ⌝ }
+    ensures { λ r. ⌜ r ≡ firstFrom (aboveFour (now (table .entry))) 0 2048 ⌝ }
+{
+    let mut i = 0;
+    while i < 2048 {
+        if 4 < table[i] {
+            return i;
+        }
+        i += 1;
+    }
+    2048
+}
+
+// Whether the byte at index k holds a digit that isn't allowed.
+fn is_bad(table: &[u8], k: usize) -> bool
+    requires { ⌜ Table (now table) × (k < 2048) ⌝ }
+    ensures { λ r. ⌜ r ≡ isBad (now (table .entry)) k ⌝ }
+{
+    !crate::bounds::allowed((k / 128) as u64, (k % 128) as u64, table[k])
+}
+
+// The index of the first bad cell, or 2048.
+fn first_bad(table: &[u8]) -> usize
+    requires { ⌜ Table (now table) ⌝ }
+    ensures { λ r. ⌜ r ≡ firstFrom (isBad (now (table .entry))) 0 2048 ⌝ }
+{
+    let mut k: usize = 0;
+    while k < 2048 {
+        if is_bad(table, k) {
+            return k;
+        }
+        k += 1;
+    }
+    2048
+}
+
+// The number of bad cells.
+fn count_bad(table: &[u8]) -> u64
+    requires { ⌜ Table (now table) ⌝ }
+    ensures { λ r. ⌜ r ≡ countBelow (isBad (now (table .entry))) 2048 ⌝ }
+{
+    let mut count: u64 = 0;
+    let mut i: usize = 0;
+    while i < 2048 {
+        if is_bad(table, i) {
+            count += 1;
+        }
+        i += 1;
+    }
+    count
+}
+
+// A refusal, with no count.
+fn refused(number: u64, place: u64) -> Report
+    ensures { λ r. ⌜ r ≡ refusedReport number place ⌝ }
+{
+    Report {
+        count: 0,
+        outcome: Outcome::Refused(Refusal { number, place }),
+    }
+}
+
+// The report of a table whose first bad cell is at the index k. The last two verdicts are never given on it.
+fn bad_report(table: &[u8], k: usize) -> Report
+    requires { ⌜ Table (now table) × (k < 2048) ⌝ }
+    ensures { λ r. ⌜ r ≡ badReport (countBelow (isBad (now (table .entry))) 2048) k (cellOf (k / 128) (k % 128) (getD (now (table .entry)) k 0)) ⌝ }
+{
+    let row = (k / 128) as u64;
+    let column = (k % 128) as u64;
+    match crate::check_cell(row, column, table[k]) {
+        CellVerdict::Disallowed(witness) => Report {
+            count: count_bad(table),
+            outcome: Outcome::Bad(BadCell {
+                row,
+                column,
+                witness,
+            }),
+        },
+        CellVerdict::Allowed => Report {
+            count: 0,
+            outcome: Outcome::Passed,
+        },
+        CellVerdict::Refused(refusal) => Report {
+            count: 0,
+            outcome: Outcome::Refused(refusal),
+        },
+    }
+}
+
+// The number of bad cells, and the first of them with its witness.
+pub fn check_table(table: &[u8]) -> Report
+    ensures { λ r. ⌜ (r ≡ reportOf (now (table .entry))) × (Checked (now (table .entry)) r) ⌝ }
+{
+    if table.len() != 2048 {
+        return refused(8, 0);
+    }
+    let above = first_above(table);
+    if above < 2048 {
+        return refused(9, above as u64);
+    }
+    let bad = first_bad(table);
+    if bad < 2048 {
+        return bad_report(table, bad);
+    }
+    Report {
+        count: 0,
+        outcome: Outcome::Passed,
+    }
+}
+
+// The index of a bad cell.
+fn place_of(cell: BadCell) -> u64
+    requires { ⌜ (cell .row ≤ 15) × (cell .column ≤ 127) ⌝ }
+    ensures { λ r. ⌜ r ≡ 128 * cell .row + cell .column ⌝ }
+{
+    128 * cell.row + cell.column
+}
+
+// What every other call makes of a table: it takes it, or it gives the check's number and place alone.
+pub fn admit_table(table: &[u8]) -> Admission
+    ensures { λ r. ⌜ r ≡ admission (reportOf (now (table .entry))) ⌝ }
+{
+    let report = check_table(table);
+    let outcome = report.outcome;
+    match outcome {
+        Outcome::Passed => Admission::Admitted,
+        Outcome::Bad(cell) => Admission::Refused(Refusal {
+            number: 10,
+            place: place_of(cell),
+        }),
+        Outcome::Refused(f) => Admission::Refused(f),
+    }
+}
