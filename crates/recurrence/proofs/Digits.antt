@@ -1,0 +1,48 @@
+-- The digits of a run: how many, where each comes from, and the number S that they make.
+use mathlib.Core.Path.{_≡_, refl, sym, ap, _∙_}
+use mathlib.Core.Logic.{⊎-elim}
+use mathlib.Core.List.{List, [], _∷_, _++_}
+use Prim.Native.Nat.{ℕ, zero, suc, _*_, _^_, _<_}
+use native.Mathlib.Omega.{arith}
+use native.Mathlib.Nat.{pow-suc, eq-or-lt-of-le}
+use lib.ListN.{length, getD, length-append, List·getD-append}
+use lib.Seq.{getD-at}
+use lib.IntN.{ℤ, pos, _+ℤ_, _*ℤ_}
+use Rattle.laws.proofs.Diff.{diff, diffs, by-diff}
+use Rattle.selection.specs.Cell.{digit}
+use Rattle.recurrence.specs.Recurrence.{cellAt, nextOf, after, digits, value}
+
+module _ (t : List ℕ) (N D : ℕ) where
+  pub length-digits : (i : ℕ) → length (digits t N D i) ≡ i
+  unfolding digits
+  length-digits zero = refl
+  length-digits (suc i) = length-append (digits t N D i) (after t N D (suc i) .digit ∷ []) ∙ omega (arith, length-digits i)
+
+  -- each is the table's digit at the cell of the state that the steps have reached
+  pub digit-at : (n i : ℕ) → i < n → getD (digits t N D n) i 0 ≡ getD t (cellAt (after t N D i)) 0
+  unfolding digits after nextOf
+  digit-at zero i h = absurd (omega arith)
+  digit-at (suc n) i h =
+      ⊎-elim
+      (λ e. getD-at (digits t N D n) (after t N D (suc n) .digit) [] 0 i (length-digits n ∙ omega arith) ∙ ap (λ (k : ℕ). after t N D k .digit) (sym e))
+      (λ l. List·getD-append (digits t N D n) (after t N D (suc n) .digit ∷ []) 0 i (omega (arith, length-digits n)) ∙ digit-at n i (omega arith))
+      (eq-or-lt-of-le h)
+
+-- ---- a digit more: S′ = 4S + q
+
+append-one : (p : ℕ) (x v q : ℤ) → pos (p * 4) *ℤ x +ℤ (pos 4 *ℤ v +ℤ q) ≡ pos 4 *ℤ (pos p *ℤ x +ℤ v) +ℤ q
+append-one p x v q =
+    by-diff (λ x. pos (p * 4) *ℤ x +ℤ (pos 4 *ℤ v +ℤ q) ≡ pos 4 *ℤ (pos p *ℤ x +ℤ v) +ℤ q)
+    (λ a b. by-diff (λ v. pos (p * 4) *ℤ diff a b +ℤ (pos 4 *ℤ v +ℤ q) ≡ pos 4 *ℤ (pos p *ℤ diff a b +ℤ v) +ℤ q)
+    (λ c d. by-diff (λ q. pos (p * 4) *ℤ diff a b +ℤ (pos 4 *ℤ diff c d +ℤ q) ≡ pos 4 *ℤ (pos p *ℤ diff a b +ℤ diff c d) +ℤ q)
+    (λ e f. simp diffs (omega arith)) q) v) x
+
+no-digits : (q : ℤ) → pos 1 *ℤ q +ℤ pos 0 ≡ pos 4 *ℤ pos 0 +ℤ q
+no-digits = by-diff (λ q. pos 1 *ℤ q +ℤ pos 0 ≡ pos 4 *ℤ pos 0 +ℤ q) (λ a b. simp diffs (omega arith))
+
+pub value-append : (ds : List ℕ) (d : ℕ) → value (ds ++ (d ∷ [])) ≡ pos 4 *ℤ value ds +ℤ digit d
+unfolding value
+value-append [] d = no-digits (digit d)
+value-append (x ∷ ds) d =
+    let e : 4 ^ length (ds ++ (d ∷ [])) ≡ 4 ^ length ds * 4 = ap (λ (n : ℕ). 4 ^ n) (length-append ds (d ∷ []) ∙ omega arith) ∙ pow-suc 4 (length ds) in
+    rw (e, value-append ds d) (append-one (4 ^ length ds) (digit x) (value ds) (digit d))

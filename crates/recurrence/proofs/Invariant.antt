@@ -1,0 +1,89 @@
+-- The invariant of the recurrence: after i steps the digits make S, a natural number, and P = 4^i N − 4 S D, in range.
+use mathlib.Core.Path.{_≡_, refl, sym, ap, _∙_}
+use mathlib.Core.List.{List}
+use Prim.Native.Nat.{ℕ, zero, suc, _+_, _-_, _*_, _^_, _≤_, _<_}
+use native.Mathlib.Omega.{arith}
+use native.Mathlib.Nat.{pow-suc, mul-assoc}
+use lib.ListN.{getD}
+use lib.IntN.{pos}
+use Rattle.laws.proofs.Diff.{diffs}
+use Rattle.selection.specs.Table.{Passes}
+use Rattle.selection.proofs.Bridge.{digit-diff}
+use Rattle.recurrence.specs.Recurrence.{State, Operands, cellAt, stepBy, nextOf, after, digits, value}
+use Rattle.recurrence.proofs.Steps.{biased, InRange, AllowedAt, table-digit-allowed, step-law, step-in-range}
+use Rattle.recurrence.proofs.Digits.{value-append}
+
+-- 4S + q is not negative, since the digit is allowed
+enough : (S d D u M : ℕ) → 0 < D → u + 4 * (S * D) ≡ M + 2 ^ 63 → 3 * u + 4 * D ≤ 3 * (d * D) + 3 * 2 ^ 63 → 2 ≤ 4 * S + d
+enough (suc S) d D u M h e f = omega arith
+enough zero (suc (suc d)) D u M h e f = omega arith
+enough zero (suc zero) D u M h e f = absurd (omega arith)
+enough zero zero D u M h e f = absurd (omega arith)
+
+-- P′ = 4 (P − qD) and P = M − 4SD give P′ = 4M − 4(4S + q)D
+grow : (u u′ S S′ d D M : ℕ) → u′ + 4 * (d * D) + 3 * 2 ^ 63 ≡ 4 * u + 8 * D → u + 4 * (S * D) ≡ M + 2 ^ 63
+    → S′ + 2 ≡ 4 * S + d → u′ + 4 * (S′ * D) ≡ M * 4 + 2 ^ 63
+grow u u′ S S′ d D M e h k = omega (arith, ap (λ (n : ℕ). n * D) k)
+
+-- both, of a step with an allowed digit
+step-meets : (d : ℕ) (p : State) {D : ℕ} (S M : ℕ) → p .divisor ≡ D → InRange p → AllowedAt d p → biased p + 4 * (S * D) ≡ M + 2 ^ 63
+    → (2 ≤ 4 * S + d) × (biased (stepBy d p) + 4 * ((4 * S + d - 2) * D) ≡ M * 4 + 2 ^ 63)
+step-meets d p S M v g f e =
+    let m : biased p + 4 * (S * p .divisor) ≡ M + 2 ^ 63 = rw v e in
+    let k : 2 ≤ 4 * S + d = enough S d (p .divisor) (biased p) M (omega (arith, g .least)) m (f .high) in
+    (k, rw (← v) (grow _ _ S (4 * S + d - 2) d (p .divisor) M (step-law d p g f) m (omega arith)))
+
+quad : (N i : ℕ) → N * 4 ^ suc i ≡ N * 4 ^ i * 4
+quad N i = rw (pow-suc, mul-assoc)
+
+-- the dividend of n digits is a quarter of that of n steps
+pub quarter : (N n : ℕ) → 1 ≤ n → N * 4 ^ n ≡ N * 4 ^ (n - 1) * 4
+quarter N n h = ap (λ (m : ℕ). N * 4 ^ m) (omega arith) ∙ quad N (n - 1)
+
+pub record Invariant (t : List ℕ) (N D i S : ℕ) : Type 0 where
+  pub in-range : InRange (after t N D i)
+  pub divisor : after t N D i .divisor ≡ D
+  pub makes : value (digits t N D i) ≡ pos S
+  pub meets : biased (after t N D i) + 4 * (S * D) ≡ N * 4 ^ i + 2 ^ 63
+  pub size : S < 4 ^ i
+
+-- what the next step then does
+pub record NextStep (t : List ℕ) (N D i S : ℕ) : Type 0 where
+  pub enough : 2 ≤ 4 * S + after t N D (suc i) .digit
+  pub byte : after t N D (suc i) .digit ≤ 4
+  pub next : Invariant t N D (suc i) (4 * S + after t N D (suc i) .digit - 2)
+
+module _ (t : List ℕ) (N D : ℕ) (ok : Passes t) where
+  pub invariant-next : (i S : ℕ) → Invariant t N D i S → NextStep t N D i S
+  unfolding after digits nextOf
+  invariant-next i S h =
+      let p = after t N D i in
+      let d = getD t (cellAt p) 0 in
+      let f = table-digit-allowed t p ok (h .in-range) in
+      let m = step-meets d p S (N * 4 ^ i) (h .divisor) (h .in-range) f (h .meets) in
+      let k = m .0 in
+      record {
+        enough = k;
+        byte = f .byte;
+        next = record {
+          in-range = step-in-range d p (h .in-range) f;
+          divisor = h .divisor;
+          makes = value-append (digits t N D i) d ∙ rw (h .makes, digit-diff d) (simp diffs (omega arith));
+          meets = m .1 ∙ ap (λ (x : ℕ). x + 2 ^ 63) (sym (quad N i));
+          size = omega (arith, f .byte, h .size);
+        };
+      }
+
+  pub invariant-start : Operands N D → Invariant t N D 0 0
+  unfolding after digits value
+  invariant-start o = record {
+    in-range = record { least = o .least; most = o .most; above = omega arith; below = omega arith };
+    divisor = refl;
+    makes = refl;
+    meets = omega arith;
+    size = omega arith;
+  }
+
+  pub invariant-after : Operands N D → (i : ℕ) → (S : ℕ) × Invariant t N D i S
+  invariant-after o zero = (0, invariant-start o)
+  invariant-after o (suc i) = (_, invariant-next i (invariant-after o i .0) (invariant-after o i .1) .next)

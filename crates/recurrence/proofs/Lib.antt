@@ -1,0 +1,10 @@
+pub mod CarrySave
+pub mod Ahead
+pub mod Steps
+pub mod Digits
+pub mod Invariant
+pub mod Correction
+pub mod Rows
+pub mod Loop
+pub mod Refusals
+pub mod RunDemand

@@ -1,0 +1,39 @@
+-- The row of a divisor in a table that passes: what `run_row` asks of the bytes that it is lent, and how its callers have it.
+use mathlib.Core.Path.{_≡_}
+use mathlib.Core.List.{List}
+use Prim.Native.Nat.{ℕ, _+_, _-_, _*_, _/_, _%_, _^_, _≤_, _<_}
+use native.Mathlib.Omega.{arith}
+use lib.ListN.{getD, take, drop, length-take, length-drop}
+use lib.Seq.{getD-take, getD-drop}
+use Rattle.selection.specs.Cell.{row}
+use Rattle.selection.specs.Table.{Passes, rowBytes}
+use Rattle.selection.specs.Computed.{madeTable}
+use Rattle.selection.proofs.MadeTables.{kept-passes}
+use Rattle.recurrence.specs.Row.{Row}
+use Rattle.recurrence.specs.Working.{DigitBytes}
+
+-- the row of a table, as it is lent: `&table[start..start + 128]` with `start = 128 * ((divisor >> 56) - 16)`
+pub lent-row : (t : List ℕ) (D : ℕ) → take (128 * row D + 128 - 128 * row D) (drop (128 * row D) t) ≡ rowBytes t (row D)
+lent-row t D = let e : 128 * row D + 128 - 128 * row D ≡ 128 = omega arith in rw e
+
+-- the row of the kept table, by the divisor's top bits: `kept_row(divisor >> 56)`
+pub kept-row : (D : ℕ) {bytes : List ℕ} → 2 ^ 60 ≤ D → D < 2 ^ 61 → bytes ≡ rowBytes madeTable (D / 2 ^ 56 % 16) → bytes ≡ rowBytes madeTable (row D)
+kept-row D l h e = let r : D / 2 ^ 56 % 16 ≡ row D = omega arith in rw r at e
+
+pub row-of : {t : List ℕ} {D : ℕ} {bytes : List ℕ} → Passes t → bytes ≡ rowBytes t (row D) → Row D bytes
+row-of {t} p e = record { table = t; passes = p; is = e }
+
+pub row-of-kept : {D : ℕ} {bytes : List ℕ} → bytes ≡ rowBytes madeTable (row D) → Row D bytes
+row-of-kept e = row-of kept-passes e
+
+-- its byte at a column is the table's in that cell
+pub row-at : (t : List ℕ) (r c : ℕ) → c < 128 → getD (rowBytes t r) c 0 ≡ getD t (128 * r + c) 0
+row-at t r c h = rw (getD-take, getD-drop)
+
+-- it is 128 digit bytes
+pub row-digits : {D : ℕ} {bytes : List ℕ} → D < 2 ^ 61 → Row D bytes → DigitBytes bytes
+row-digits {D} h g =
+    rw (g .is) (record {
+      size = rw (length-take, length-drop) (omega (arith, g .passes .table .size));
+      small = λ c l. rw (row-at (g .table) (row D) c l) (g .passes .table .digits _);
+    })

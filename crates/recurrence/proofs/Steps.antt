@@ -1,0 +1,100 @@
+-- One step: with a digit that is allowed, P′ = 4 (P − qD), and P′ is in range again. A remainder P is handled as P + 2^63, a
+-- natural number below 2^64, which `omega` reads.
+use mathlib.Core.Path.{_≡_}
+use mathlib.Core.List.{List}
+use Prim.Native.Nat.{ℕ, zero, suc, _+_, _-_, _*_, _/_, _%_, _^_, _≤_, _<_}
+use native.Mathlib.Omega.{arith}
+use lib.ListN.{getD}
+use lib.IntN.{pos, _-ℤ_, _*ℤ_}
+use Rattle.laws.proofs.Diff.{diff, diffs}
+use Rattle.laws.proofs.Words.{same-mod}
+use Rattle.selection.specs.Word.{Within}
+use Rattle.selection.specs.Cell.{row, column, digit, Point}
+use Rattle.selection.specs.Table.{Passes}
+use Rattle.selection.proofs.Bridge.{signed-diff, digit-diff}
+use Rattle.selection.proofs.Columns.{column-of}
+use Rattle.selection.proofs.Reports.{passes-at}
+use Rattle.recurrence.specs.CarrySave.{sum3, maj3, multiple, lowestCarry}
+use Rattle.recurrence.specs.Recurrence.{State, residue, cellAt, stepBy}
+use Rattle.recurrence.proofs.CarrySave.{carry-save}
+
+abbrev pub biased : State → ℕ
+biased p = (p .sum + p .carry + 2 ^ 63) % 2 ^ 64
+
+pub residue-biased : (p : State) → residue p ≡ diff (biased p) (2 ^ 63)
+residue-biased p = signed-diff (p .sum + p .carry)
+
+-- the term is −qD modulo 2^64
+term : (d D : ℕ) → d ≤ 4 → D < 2 ^ 61 → (j : ℕ) × (multiple d D + lowestCarry d + d * D ≡ 2 * D + j * 2 ^ 64)
+term zero D h l = (0, omega arith)
+term (suc zero) D h l = (0, omega arith)
+term (suc (suc zero)) D h l = (0, omega arith)
+term (suc (suc (suc zero))) D h l = (1, omega arith)
+term (suc (suc (suc (suc zero)))) D h l = (1, omega arith)
+term (suc (suc (suc (suc (suc d))))) D h l = absurd (omega arith)
+
+-- what holds of a state: its divisor is in its span, and its remainder in range
+pub record InRange (p : State) : Type 0 where
+  pub least : 2 ^ 60 ≤ p .divisor
+  pub most : p .divisor < 2 ^ 61
+  pub above : 3 * 2 ^ 63 ≤ 3 * biased p + 8 * p .divisor
+  pub below : 3 * biased p ≤ 3 * 2 ^ 63 + 8 * p .divisor
+
+pub range-of : (p : State) → InRange p → Within 8 (p .divisor) (pos 3 *ℤ residue p)
+range-of p g =
+    rw (residue-biased p)
+    (record { low = simp diffs (omega (arith, g .above)); high = simp diffs (omega (arith, g .below)) })
+
+-- its divisor and remainder are a point of its cell
+point : (p : State) → InRange p → Point (row (p .divisor)) (column (p .sum) (p .carry)) (p .divisor) (residue p)
+point p g =
+    record {
+      row = record { from = omega arith; below = omega arith };
+      column = column-of (p .sum) (p .carry);
+      range = range-of p g;
+    }
+
+-- a digit byte that is allowed at the state
+pub record AllowedAt (d : ℕ) (p : State) : Type 0 where
+  pub byte : d ≤ 4
+  pub low : 3 * (d * p .divisor) + 3 * 2 ^ 63 ≤ 3 * biased p + 8 * p .divisor
+  pub high : 3 * biased p + 4 * p .divisor ≤ 3 * (d * p .divisor) + 3 * 2 ^ 63
+
+-- the digit of a table that passes
+pub table-digit-allowed : (t : List ℕ) (p : State) → Passes t → InRange p → AllowedAt (getD t (cellAt p) 0) p
+table-digit-allowed t p ok g =
+    let d = getD t (cellAt p) 0 in
+    let w = passes-at ok (row (p .divisor)) (column (p .sum) (p .carry)) (omega arith) (omega arith) (p .divisor) (residue p) (point p g) in
+    record {
+      byte = ok .table .digits (cellAt p);
+      low = omega (arith, simp diffs at (rw (residue-biased p, digit-diff d) at (w .low)));
+      high = omega (arith, simp diffs at (rw (residue-biased p, digit-diff d) at (w .high)));
+    }
+
+module _ (d : ℕ) (p : State) (g : InRange p) (f : AllowedAt d p) where
+  -- P′ = 4 (P − qD)
+  pub step-law : biased (stepBy d p) + 4 * (d * p .divisor) + 3 * 2 ^ 63 ≡ 4 * biased p + 8 * p .divisor
+  step-law =
+      let x = multiple d (p .divisor) in
+      let ok = term d (p .divisor) (f .byte) (g .most) in
+      core (sum3 (p .sum) (p .carry) x) (maj3 (p .sum) (p .carry) x) x (lowestCarry d) (d * p .divisor) (ok .0) (carry-save (p .sum) (p .carry) x) (ok .1) (f .low) (f .high)
+    where
+      core : (σ μ x k m j : ℕ) → σ + μ * 2 ≡ p .sum + p .carry + x → x + k + m ≡ 2 * p .divisor + j * 2 ^ 64
+          → 3 * m + 3 * 2 ^ 63 ≤ 3 * biased p + 8 * p .divisor → 3 * biased p + 4 * p .divisor ≤ 3 * m + 3 * 2 ^ 63
+          → (σ * 4 % 2 ^ 64 + (μ * 2 + k) * 4 % 2 ^ 64 + 2 ^ 63) % 2 ^ 64 + 4 * m + 3 * 2 ^ 63 ≡ 4 * biased p + 8 * p .divisor
+      core σ μ x k m j e ok lo hi =
+          let s = σ * 4 in
+          let c = (μ * 2 + k) * 4 in
+          let b = biased p in
+          let e : (s % 2 ^ 64 + c % 2 ^ 64 + 2 ^ 63) % 2 ^ 64 ≡ (4 * b + 8 * p .divisor - (4 * m + 3 * 2 ^ 63)) % 2 ^ 64
+          = same-mod _ _ (2 ^ 64) (s / 2 ^ 64 + c / 2 ^ 64) (4 * ((p .sum + p .carry + 2 ^ 63) / 2 ^ 64) + 4 * j) (omega arith) in
+          omega (arith, g .most)
+
+  -- the same over ℤ
+  pub step-residue : residue (stepBy d p) ≡ pos 4 *ℤ (residue p -ℤ digit d *ℤ pos (p .divisor))
+  step-residue = rw (residue-biased (stepBy d p), residue-biased p, digit-diff d) (simp diffs (omega (arith, step-law)))
+
+  pub step-in-range : InRange (stepBy d p)
+  step-in-range =
+      let e = step-law in
+      record { least = g .least; most = g .most; above = omega arith; below = omega arith }

@@ -1,0 +1,89 @@
+use borrow.Author.Needs.{needs}
+use borrow.Author.Tests.{lt-ltb, le-ltb}
+use native.Mathlib.Omega.{arith}
+use Prim.Native.Nat.{_+_, _≤_, _<_}
+use Rattle.recurrence.specs.Run.{argumentRefusal}
+use Rattle.recurrence.proofs.argument_refusal.Statement.{statement}
+use Rattle.recurrence.proofs.argument_refusal.Tie as tie
+
+refused-requires : tie.Need-refused-requires
+refused-requires c κs = search needs
+
+refused-requires-2 : tie.Need-refused-requires-2
+refused-requires-2 c κs = search needs
+
+refused-requires-3 : tie.Need-refused-requires-3
+refused-requires-3 c κs = search needs
+
+refused-requires-4 : tie.Need-refused-requires-4
+refused-requires-4 c κs = search needs
+
+refused-requires-5 : tie.Need-refused-requires-5
+refused-requires-5 c κs = search needs
+
+refused-requires-6 : tie.Need-refused-requires-6
+refused-requires-6 c κs = search needs
+
+refused-requires-7 : tie.Need-refused-requires-7
+refused-requires-7 c κs = search needs
+
+returns : tie.Need-returns
+unfolding argumentRefusal
+returns c = search (needs, le-ltb, lt-ltb)
+
+returns-2 : tie.Need-returns-2
+unfolding argumentRefusal
+returns-2 c = search (needs, le-ltb, lt-ltb)
+
+returns-3 : tie.Need-returns-3
+unfolding argumentRefusal
+returns-3 c = search (needs, le-ltb, lt-ltb)
+
+returns-4 : tie.Need-returns-4
+unfolding argumentRefusal
+returns-4 c = search (needs, le-ltb, lt-ltb)
+
+returns-5 : tie.Need-returns-5
+unfolding argumentRefusal
+returns-5 c = search (needs, le-ltb, lt-ltb)
+
+returns-6 : tie.Need-returns-6
+unfolding argumentRefusal
+returns-6 c =
+    let a = c .before .before .before .before .before .before .before .args in
+    let h : a .len < a .place + a .n = omega arith in
+    search (needs, le-ltb, lt-ltb)
+
+returns-7 : tie.Need-returns-7
+unfolding argumentRefusal
+returns-7 c =
+    let a = c .before .before .before .before .before .before .before .before .args in
+    let h : a .len < a .place + a .n = omega arith in
+    search (needs, le-ltb, lt-ltb)
+
+returns-8 : tie.Need-returns-8
+unfolding argumentRefusal
+returns-8 c =
+    let a = c .before .before .before .before .before .before .before .args in
+    let h : a .place + a .n ≤ a .len = omega arith in
+    search (needs, le-ltb, lt-ltb)
+
+pub argument-refusal-spec : {M : Type 1} → statement M
+argument-refusal-spec =
+    tie.close
+    (tie.spec
+    refused-requires
+    returns
+    refused-requires-2
+    returns-2
+    refused-requires-3
+    returns-3
+    refused-requires-4
+    returns-4
+    refused-requires-5
+    returns-5
+    refused-requires-6
+    returns-6
+    refused-requires-7
+    returns-7
+    returns-8)

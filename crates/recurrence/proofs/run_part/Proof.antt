@@ -1,0 +1,43 @@
+use mathlib.Core.Path.{ap, _∙_}
+use mathlib.Core.List.{List}
+use Prim.Native.Nat.{ℕ}
+use Rattle.recurrence.specs.Recurrence.{digits, resultOf}
+use Rattle.recurrence.specs.Run.{written}
+use Rattle.laws.proofs.Lists.{part-length, put-back}
+use borrow.Author.Needs.{needs}
+use native.Mathlib.Omega.{arith}
+use Rattle.recurrence.proofs.run_part.Statement.{statement}
+use Rattle.recurrence.proofs.run_part.Tie as tie
+
+add-run-row : tie.Need-add-run-row
+add-run-row c = search needs
+
+sub-run-row : tie.Need-sub-run-row
+sub-run-row c = search needs
+
+part-run-row-start : tie.Need-part-run-row-start
+part-run-row-start c = search needs
+
+part-run-row-end : tie.Need-part-run-row-end
+part-run-row-end c = search needs
+
+run-row-requires : tie.Need-run-row-requires
+run-row-requires c κs = search needs
+
+same-length : tie.Need-same-length
+same-length c = search needs
+
+returns : tie.Need-returns
+returns c t ok is =
+    let a = c .before .before .before .before .before .before .args in
+    let e = c .before .before .run-row .ensures t ok is in
+    let n = part-length (a .buffer .now) (a .place) (a .n) (omega arith) in (
+      put-back (a .buffer .now) (c .before .before .run-row .last .1 .1 .1 .0) (a .place) (a .n)
+          ∙ ap (λ (ds : List ℕ). written (a .buffer .now) (a .place) ds (a .n)) (e .0 ∙ ap (digits t (a .dividend) (a .divisor)) n),
+      e .1 ∙ ap (resultOf t (a .dividend) (a .divisor)) n,
+    )
+
+pub run-part-spec : {M : Type 1} → statement M
+run-part-spec =
+    tie.close
+    (tie.spec add-run-row sub-run-row part-run-row-start part-run-row-end run-row-requires same-length returns)

@@ -1,0 +1,31 @@
+-- Demand 3's words on the run: one claim about all n steps of a run through a table that passes, together.
+use mathlib.Core.Path.{_≡_}
+use mathlib.Core.List.{List, _++_}
+use Prim.Native.Nat.{ℕ, suc, _+_, _-_, _*_, _^_, _≤_, _<_}
+use lib.IntN.{pos, _-ℤ_, _*ℤ_}
+use lib.ListN.{length, getD, take, drop}
+use Rattle.selection.specs.Word.{Within}
+use Rattle.selection.specs.Cell.{row, column, digit}
+use Rattle.recurrence.specs.Recurrence.{residue, after, digits, value, endRemainder, correctedQuotient, correctedRemainder, formed, resultOf}
+use Rattle.recurrence.specs.Run.{runOf, bufferOf}
+use Rattle.recurrence.specs.declared.RunAnswer.the-variants.{Done}
+
+pub record RunClaim (t : List ℕ) (N D n : ℕ) (b : List ℕ) (place : ℕ) : Type 0 where
+  -- the n digits stand in the buffer from the place on, and the other bytes are as they were
+  pub written : bufferOf t N D n b place ≡ take place b ++ (digits t N D n ++ drop (place + n) b)
+  pub many : length (digits t N D n) ≡ n
+  -- each is the table's digit at the cell of D and the words that the steps have reached
+  pub selected : (i : ℕ) → i < n → getD (digits t N D n) i 0 ≡ getD t (128 * row D + column (after t N D i .sum) (after t N D i .carry)) 0
+  -- each step is P′ = 4(P − qD)
+  pub step : (i : ℕ) → i < n → residue (after t N D (suc i)) ≡ pos 4 *ℤ (residue (after t N D i) -ℤ digit (getD (digits t N D n) i 0) *ℤ pos D)
+  -- before each step and after the last, the signed residue is the true remainder, and in range
+  pub exact : (i : ℕ) → i ≤ n → residue (after t N D i) ≡ pos (N * 4 ^ i) -ℤ pos 4 *ℤ (value (digits t N D i) *ℤ pos D)
+  pub range : (i : ℕ) → i ≤ n → Within 8 D (pos 3 *ℤ residue (after t N D i))
+  -- 3·|N·4^(n−1) − S·D| ≤ 2D
+  pub close : Within 2 D (pos 3 *ℤ endRemainder t N D n)
+  -- quotient and remainder are formed from S and the end remainder, neither is negative, and they are those of N·4^(n−1) by D
+  pub answer : runOf t N D n b place ≡ Done (formed (value (digits t N D n)) (endRemainder t N D n) D n)
+  pub quotient : pos (resultOf t N D n .quotient) ≡ correctedQuotient (value (digits t N D n)) (endRemainder t N D n)
+  pub remainder : pos (resultOf t N D n .remainder) ≡ correctedRemainder (endRemainder t N D n) D
+  pub divides : resultOf t N D n .quotient * D + resultOf t N D n .remainder ≡ N * 4 ^ (n - 1)
+  pub below : resultOf t N D n .remainder < D

@@ -1,0 +1,86 @@
+-- The digit recurrence: document 01, "The run". One step, the states, the digits, the number S that they make, the correction of the last digit.
+use mathlib.Core.Bool.{cond}
+use mathlib.Core.List.{List, [], _∷_, _++_}
+use Prim.Native.Nat.{ℕ, zero, suc, _+_, _-_, _*_, _%_, _^_, _≤_, _<_}
+use lib.ListN.{length, getD}
+use lib.IntN.{ℤ, pos, natAbs, _+ℤ_, _-ℤ_, _*ℤ_}
+use lib.Signed.{nonNeg}
+use Rattle.selection.specs.Word.{signed}
+use Rattle.selection.specs.Cell.{row, column, digit}
+use Rattle.recurrence.specs.CarrySave.{sum3, maj3, multiple, lowestCarry}
+use Rattle.recurrence.specs.declared.RunResult.{RunResult}
+
+-- a state of the run: the sum word PS, the carry word PC, the divisor, and the digit byte of the last step
+pub record State : Type 0 where
+  pub sum : ℕ
+  pub carry : ℕ
+  pub divisor : ℕ
+  pub digit : ℕ
+
+-- the spans of N and D
+pub record Operands (N D : ℕ) : Type 0 where
+  pub dividend : N < 2 ^ 61
+  pub least : 2 ^ 60 ≤ D
+  pub most : D < 2 ^ 61
+
+-- the partial remainder P: the sum of both words modulo 2^64, read as a signed number
+abbrev pub residue : State → ℤ
+residue p = signed (p .sum + p .carry)
+
+-- the index of the cell of D and the two words
+abbrev pub cellAt : State → ℕ
+cellAt p = 128 * row (p .divisor) + column (p .sum) (p .carry)
+
+-- the state after a step whose digit byte is d: both words moved up two bits, bits above 63 dropped
+abbrev pub stepBy : ℕ → State → State
+stepBy d p = record {
+  sum = sum3 (p .sum) (p .carry) (multiple d (p .divisor)) * 4 % 2 ^ 64;
+  carry = (maj3 (p .sum) (p .carry) (multiple d (p .divisor)) * 2 + lowestCarry d) * 4 % 2 ^ 64;
+  divisor = p .divisor;
+  digit = d;
+}
+
+-- one step: the digit is the table's at the cell
+unfoldable pub nextOf : List ℕ → State → State
+nextOf t p = stepBy (getD t (cellAt p) 0) p
+
+-- PS = N, PC = 0; no step is done, so the digit byte is that of 0
+abbrev pub startOf : ℕ → ℕ → State
+startOf N D = record { sum = N; carry = 0; divisor = D; digit = 2 }
+
+-- the state after i steps
+unfoldable pub after : List ℕ → ℕ → ℕ → ℕ → State
+after t N D zero = startOf N D
+after t N D (suc i) = nextOf t (after t N D i)
+
+-- the first n digits, as bytes
+unfoldable pub digits : List ℕ → ℕ → ℕ → ℕ → List ℕ
+digits t N D zero = []
+digits t N D (suc i) = digits t N D i ++ (after t N D (suc i) .digit ∷ [])
+
+-- S, the sum of q_i·4^(n−1−i)
+unfoldable pub value : List ℕ → ℤ
+value [] = pos 0
+value (d ∷ ds) = pos (4 ^ length ds) *ℤ digit d +ℤ value ds
+
+-- the end remainder, N·4^(n−1) − S·D
+unfoldable pub endRemainder : List ℕ → ℕ → ℕ → ℕ → ℤ
+endRemainder t N D n = pos (N * 4 ^ (n - 1)) -ℤ value (digits t N D n) *ℤ pos D
+
+-- the correction: where the end remainder R is negative, quotient S − 1 and D is added; otherwise quotient S
+abbrev pub correctedQuotient : ℤ → ℤ → ℤ
+correctedQuotient S R = cond (nonNeg R) S (S -ℤ pos 1)
+
+abbrev pub correctedRemainder : ℤ → ℕ → ℤ
+correctedRemainder R D = cond (nonNeg R) R (R +ℤ pos D)
+
+-- the answer that S and R form. Neither number is negative through a table that passes (`RunClaim`), so that `natAbs` hides nothing
+abbrev pub formed : ℤ → ℤ → ℕ → ℕ → RunResult
+formed S R D n = record {
+  quotient = natAbs (correctedQuotient S R);
+  remainder = natAbs (correctedRemainder R D);
+  count = n;
+}
+
+unfoldable pub resultOf : List ℕ → ℕ → ℕ → ℕ → RunResult
+resultOf t N D n = formed (value (digits t N D n)) (endRemainder t N D n) D n

@@ -1,0 +1,288 @@
+// The digit recurrence, the middle layer: a quotient digit a step, read from a table by the truncated estimate of a carry-save partial remainder.
+use selection::Admission;
+use selection::Refusal;
+use std::num::wrapping_add_u64;
+ghost use mathlib.Core.Path.{_≡_};
+ghost use mathlib.Core.List.{List};
+ghost use Prim.Native.Nat.{ℕ, _+_, _%_, _^_, _≤_, _<_};
+ghost use lib.ListN.{length, getD};
+ghost use Rattle.selection.specs.Cell.{column};
+ghost use Rattle.selection.specs.Cell as Cell;
+ghost use Rattle.selection.specs.Table.{Passes, rowBytes};
+ghost use Rattle.selection.specs.Computed.{madeTable};
+ghost use Rattle.recurrence.specs.CarrySave.{lowestCarry};
+ghost use Rattle.recurrence.specs.Recurrence.{Operands, nextOf, startOf, digits, resultOf};
+ghost use Rattle.recurrence.specs.Row.{Row};
+ghost use Rattle.recurrence.specs.Run.{refusedWith, argumentRefusal, written, runOf, bufferOf};
+ghost use Rattle.recurrence.specs.Working.{withColumn, stateOf, multiplesOf, laneOf, lanesOf, DigitBytes, StepReady, resultFromWord, CorrectionReady};
+
+// The next column needs the bits 61 to 54 of a word: what is left of it by 2^62, without the bits below 2^54.
+const TOP_END: u64 = 0x4000_0000_0000_0000;
+
+const TOP_BITS: u64 = 0xffc0_0000_0000_0000;
+
+// The state of a run: the partial remainder in carry-save form, the divisor, the column of the two words, and the digit of the last step.
+struct RunState {
+    sum: u64,
+    carry: u64,
+    divisor: u64,
+    column: u64,
+    digit: u8,
+}
+
+pub enum RunAnswer {
+    Done(RunResult),
+    Refused(Refusal),
+}
+
+pub struct RunResult {
+    pub quotient: u64,
+    pub remainder: u64,
+    pub count: usize,
+}
+
+// The multiple of the divisor for each digit byte, inverted for a digit above zero.
+fn multiples_of(divisor: u64) -> [u64; 5]
+    requires { ⌜ divisor < 2 ^ 61 ⌝ }
+    ensures { λ r. ⌜ r ≡ multiplesOf divisor ⌝ }
+{
+    [2 * divisor, divisor, 0, !divisor, !(2 * divisor)]
+}
+
+// The eight bits of a multiple that the next column needs, plus 128: one bit up, the column's 64.
+fn lane(multiple: u64) -> u64
+    ensures { λ r. ⌜ r ≡ laneOf multiple ⌝ }
+{
+    ((multiple >> 54) + 128) % 256
+}
+
+// The lanes of the five multiples, one in each nine bits, the first highest.
+fn lanes_of(m: &[u64; 5]) -> u64
+    ensures { λ r. ⌜ r ≡ lanesOf (now (m .entry)) ⌝ }
+{
+    let high = (lane(m[0]) * 512 + lane(m[1])) * 512 + lane(m[2]);
+    ((high * 512 + lane(m[3])) * 512 + lane(m[4])) * 1048576
+}
+
+// The column of two words: their truncated estimate, plus 64.
+fn column_of(sum: u64, carry: u64) -> u64
+    ensures { λ r. ⌜ r ≡ column sum carry ⌝ }
+{
+    ((sum >> 57) + (carry >> 57) + 64) % 128
+}
+
+fn digit_at(row: &[u8], column: usize) -> u8
+    requires { ⌜ (DigitBytes (now row)) × (column < 128) ⌝ }
+    ensures { λ r. ⌜ (r ≡ getD (now (row .entry)) column 0) × (r ≤ 4) ⌝ }
+{
+    row[column]
+}
+
+// What is added at the free lowest carry place: one for the bytes 3 and 4, found without a branch.
+fn lowest_carry(digit: u8) -> u64
+    requires { ⌜ digit ≤ 4 ⌝ }
+    ensures { λ r. ⌜ (r ≡ lowestCarry digit) × (r ≤ 1) ⌝ }
+{
+    (digit as u64 + 5) >> 3
+}
+
+impl RunState {
+    // No step is done: the digit is 0.
+    fn new(dividend: u64, divisor: u64) -> RunState
+        ensures { λ r. ⌜ r ≡ withColumn (startOf dividend divisor) ⌝ }
+    {
+        RunState {
+            sum: dividend,
+            carry: 0,
+            divisor,
+            column: column_of(dividend, 0),
+            digit: 2,
+        }
+    }
+
+    // One step, through every table that has these bytes in the divisor's row. The next column comes from the top bits of the words
+    // and of the multiple, ahead of the next words.
+    fn next(self, row: &[u8], multiples: &[u64; 5], lanes: u64) -> RunState
+        requires { ⌜ StepReady (now row) (now multiples) lanes self ⌝ }
+        ensures { λ r. ⌜ ((t : List ℕ) → now (row .entry) ≡ rowBytes t (Cell.row (self .divisor)) → r ≡ withColumn (nextOf t (stateOf self))) ⌝ }
+    {
+        let sum = self.sum;
+        let carry = self.carry;
+        let divisor = self.divisor;
+        let digit = digit_at(row, self.column as usize);
+        // The next column first: the next digit waits for it, and for neither of the next words.
+        let tops = wrapping_add_u64(sum % TOP_END & TOP_BITS, carry % TOP_END & TOP_BITS) << 2;
+        let column = wrapping_add_u64(tops, lanes << (9 * digit)) >> 57;
+        // x is the inverted or plain multiple; two words that share no bit add up to the majority.
+        let x = multiples[digit as usize];
+        let half = sum ^ carry;
+        let majority = wrapping_add_u64(sum & carry, half & x);
+        RunState {
+            sum: (half ^ x) << 2,
+            carry: ((majority << 1) + lowest_carry(digit)) << 2,
+            divisor,
+            column,
+            digit,
+        }
+    }
+}
+
+// The answer that the last words and the digits' number give: the partial remainder is the words' wrapping sum. Its sign, the top bit,
+// takes one from the quotient and adds the divisor to a quarter of it, whose two top bits are then set: no branch on the sign.
+fn corrected(state: RunState, total: u64, count: usize) -> RunResult
+    requires { ⌜ CorrectionReady total (state .divisor) ((state .sum + state .carry) % 2 ^ 64) ⌝ }
+    ensures { λ r. ⌜ r ≡ resultFromWord total (state .divisor) ((state .sum + state .carry) % 2 ^ 64) count ⌝ }
+{
+    let word = wrapping_add_u64(state.sum, state.carry);
+    let sign = word >> 63;
+    RunResult {
+        quotient: total - sign,
+        remainder: wrapping_add_u64(word >> 2, sign * (state.divisor + 0xc000_0000_0000_0000)),
+        count,
+    }
+}
+
+// One digit byte a step, in each byte of out, through the 128 bytes of the divisor's row in a table that passes. Only our own crates
+// call it: it has a `requires`, so that a table checked once is not checked again, and the kept table is not copied.
+pub fn run_row(row: &[u8], dividend: u64, divisor: u64, out: &mut [u8]) -> RunResult
+    requires { ⌜ (Row divisor (now row)) × (Operands dividend divisor) × (1 ≤ length (now out)) × (length (now out) ≤ 31) ⌝ }
+    ensures { λ r. ⌜ ((t : List ℕ) → Passes t → now (row .entry) ≡ rowBytes t (Cell.row divisor) → (now (out .exit) ≡ digits t dividend divisor (length (now (out .entry)))) × (r ≡ resultOf t dividend divisor (length (now (out .entry))))) ⌝ }
+{
+    let multiples = multiples_of(divisor);
+    let lanes = lanes_of(&multiples);
+    let mut state = RunState::new(dividend, divisor);
+    let mut total: u64 = 0;
+    let mut i = 0;
+    while i < out.len() {
+        state = state.next(row, &multiples, lanes);
+        let digit = state.digit;
+        total = 4 * total + (digit as u64) - 2;
+        out[i] = digit;
+        i += 1;
+    }
+    corrected(state, total, i)
+}
+
+// The same, n digits into the buffer from a place on.
+fn run_part(
+    row: &[u8],
+    dividend: u64,
+    divisor: u64,
+    n: usize,
+    buffer: &mut [u8],
+    place: usize,
+) -> RunResult
+    requires { ⌜ (Row divisor (now row)) × (Operands dividend divisor) × (1 ≤ n) × (n ≤ 31) × (place + n ≤ length (now buffer)) ⌝ }
+    ensures { λ r. ⌜ ((t : List ℕ) → Passes t → now (row .entry) ≡ rowBytes t (Cell.row divisor) → (now (buffer .exit) ≡ written (now (buffer .entry)) place (digits t dividend divisor n) n) × (r ≡ resultOf t dividend divisor n)) ⌝ }
+{
+    run_row(row, dividend, divisor, &mut buffer[place..place + n])
+}
+
+// The same through a whole table that passes.
+fn run_admitted(
+    table: &[u8],
+    dividend: u64,
+    divisor: u64,
+    n: usize,
+    buffer: &mut [u8],
+    place: usize,
+) -> RunResult
+    requires { ⌜ (Passes (now table)) × (Operands dividend divisor) × (1 ≤ n) × (n ≤ 31) × (place + n ≤ length (now buffer)) ⌝ }
+    ensures { λ r. ⌜ (now (buffer .exit) ≡ written (now (buffer .entry)) place (digits (now (table .entry)) dividend divisor n) n) × (r ≡ resultOf (now (table .entry)) dividend divisor n) ⌝ }
+{
+    let start = 128 * ((divisor >> 56) - 16) as usize;
+    run_part(
+        &table[start..start + 128],
+        dividend,
+        divisor,
+        n,
+        buffer,
+        place,
+    )
+}
+
+// A refusal whose place is 0.
+fn refused(number: u64) -> Admission
+    ensures { λ r. ⌜ r ≡ refusedWith number ⌝ }
+{
+    Admission::Refused(Refusal { number, place: 0 })
+}
+
+// The first refusal of the arguments alone, in the order of their numbers.
+fn argument_refusal(dividend: u64, divisor: u64, n: usize, len: usize, place: usize) -> Admission
+    ensures { λ r. ⌜ r ≡ argumentRefusal dividend divisor n len place ⌝ }
+{
+    if n < 1 {
+        return refused(2);
+    }
+    if 31 < n {
+        return refused(2);
+    }
+    if divisor < 1152921504606846976 {
+        return refused(3);
+    }
+    if 2305843009213693951 < divisor {
+        return refused(3);
+    }
+    if 2305843009213693951 < dividend {
+        return refused(3);
+    }
+    if len < place {
+        return refused(7);
+    }
+    if len - place < n {
+        return refused(7);
+    }
+    Admission::Admitted
+}
+
+// Digits of dividend / divisor through a table, into the buffer from a place on.
+pub fn run(
+    table: &[u8],
+    dividend: u64,
+    divisor: u64,
+    digits: usize,
+    buffer: &mut [u8],
+    place: usize,
+) -> RunAnswer
+    ensures { λ r. ⌜ (r ≡ runOf (now (table .entry)) dividend divisor digits (now (buffer .entry)) place) × (now (buffer .exit) ≡ bufferOf (now (table .entry)) dividend divisor digits (now (buffer .entry)) place) ⌝ }
+{
+    let refused = argument_refusal(dividend, divisor, digits, buffer.len(), place);
+    match refused {
+        Admission::Refused(f) => RunAnswer::Refused(f),
+        Admission::Admitted => {
+            let admitted = selection::table::admit_table(table);
+            match admitted {
+                Admission::Refused(f) => RunAnswer::Refused(f),
+                Admission::Admitted => RunAnswer::Done(run_admitted(
+                    table,
+                    dividend,
+                    divisor,
+                    digits,
+                    buffer,
+                    place,
+                )),
+            }
+        }
+    }
+}
+
+// The same through the kept table, which is known to pass.
+pub fn run_kept(
+    dividend: u64,
+    divisor: u64,
+    digits: usize,
+    buffer: &mut [u8],
+    place: usize,
+) -> RunAnswer
+    ensures { λ r. ⌜ (r ≡ runOf madeTable dividend divisor digits (now (buffer .entry)) place) × (now (buffer .exit) ≡ bufferOf madeTable dividend divisor digits (now (buffer .entry)) place) ⌝ }
+{
+    let refused = argument_refusal(dividend, divisor, digits, buffer.len(), place);
+    match refused {
+        Admission::Refused(f) => RunAnswer::Refused(f),
+        Admission::Admitted => {
+            let row = selection::kept::kept_row(divisor >> 56);
+            RunAnswer::Done(run_part(&row, dividend, divisor, digits, buffer, place))
+        }
+    }
+}
