@@ -1,0 +1,69 @@
+-- Binary64 division means what document 01 says, for every pair of operands and through every table that passes. Assumes nothing.
+use mathlib.Core.Path.{_≡_, refl, sym, ap, ap₂, subst, _∙_}
+use mathlib.Core.Logic.{⊎-elim}
+use Prim.Native.Nat.{ℕ, zero, _-_, _^_, _<_}
+use native.Mathlib.Nat.{eq-zero-or-pos, lt-of-lt-of-le, mul-le-mul-left, mul-lt-mul-of-pos-right}
+use native.Mathlib.Omega.{arith}
+use lib.Dec.{lit≤}
+use mathlib.Core.List.{List}
+use lib.Pow.{pow-pos, pow-mono}
+use borrow.Author.Tests.{ne-eqb}
+use Rattle.division.specs.Binary64.{finiteQuotient, magnitude, field, classOf, caseOf, signOf, decided, orQuotient, divided}
+use Rattle.division.specs.Through.{binary64Through}
+use Rattle.division.specs.Ieee.{RoundedQuotient, Ieee}
+use Rattle.division.specs.declared.binary64.Class.{Class}
+use Rattle.division.specs.declared.binary64.Class.the-variants.{Zero, Subnormal, Normal, Infinite, Nan}
+use Rattle.division.specs.declared.binary64.Case.{Case}
+use Rattle.division.specs.declared.binary64.Case.the-variants.{Quiet, Invalid, ToInfinity, ByZero, ToZero, Finite}
+use Rattle.selection.specs.Table.{Passes}
+use Rattle.division.proofs.Binary64Through.{binary64-through}
+use Rattle.division.proofs.Classes.{by-nonzero, by-finite, nonzero-operand}
+use Rattle.laws.proofs.Division.{quotient}
+use Rattle.division.proofs.RoundedQuotient.{rounded-quotient}
+
+-- finite magnitudes are below 2^1024
+magnitude-below : (p : ℕ) → field p < 2047 → magnitude p < 2 ^ 2098
+magnitude-below p h = ⊎-elim
+    (λ (z : field p ≡ 0). rw z (lt-of-lt-of-le {m = 2 ^ 52} (omega arith) (lit≤ {m = 2 ^ 52} {n = 2 ^ 2098} tt)))
+    (λ (g : 0 < field p). rw (ne-eqb (field p) 0 (omega arith))
+    (lt-of-lt-of-le (mul-lt-mul-of-pos-right {n = 2 ^ 53} {k = 2 ^ (field p - 1)} (omega arith) (pow-pos (field p - 1))) (mul-le-mul-left (2 ^ 53) (pow-mono {i = field p - 1} {j = 2045} (omega arith)))))
+    (eq-zero-or-pos (field p))
+
+-- the answer of a case
+answer-of : (direction a b : ℕ) (x y : Class) (k : Case) → classOf a ≡ x → classOf b ≡ y → caseOf x y ≡ k
+    → divided direction a b ≡ orQuotient (finiteQuotient direction (signOf a b) (magnitude a) (magnitude b)) (decided (signOf a b) k)
+answer-of direction a b x y k e f g = ap (λ (k : Case). orQuotient (finiteQuotient direction (signOf a b) (magnitude a) (magnitude b)) (decided (signOf a b) k)) (ap₂ caseOf e f ∙ g)
+
+right-nan : (x : Class) → caseOf x Nan ≡ Quiet
+right-nan Zero = refl
+right-nan Subnormal = refl
+right-nan Normal = refl
+right-nan Infinite = refl
+right-nan Nan = refl
+
+left-nan : (y : Class) → caseOf Nan y ≡ Quiet
+left-nan y = refl
+
+pub ieee : (direction a b : ℕ) → Ieee direction a b (divided direction a b)
+ieee direction a b =
+    record {
+      nan = ⊎-elim
+          (λ e. answer-of direction a b Nan (classOf b) Quiet e refl (left-nan (classOf b)))
+          (λ e. answer-of direction a b (classOf a) Nan Quiet refl e (right-nan (classOf a)));
+      invalid = ⊎-elim
+          (λ e. answer-of direction a b Zero Zero Invalid (e .0) (e .1) refl)
+          (λ e. answer-of direction a b Infinite Infinite Invalid (e .0) (e .1) refl);
+      by-zero = λ h e. answer-of direction a b (classOf a) Zero ByZero refl e (by-nonzero (λ x. caseOf x Zero ≡ ByZero) a h refl refl);
+      infinite = λ e h. answer-of direction a b Infinite (classOf b) ToInfinity e refl (by-finite (λ y. caseOf Infinite y ≡ ToInfinity) b h refl refl refl);
+      zero = ⊎-elim
+          (λ e. answer-of direction a b Zero (classOf b) ToZero (e .0) refl (by-nonzero (λ y. caseOf Zero y ≡ ToZero) b (e .1) refl refl))
+          (λ e. answer-of direction a b (classOf a) Infinite ToZero refl (e .1) (by-finite (λ x. caseOf x Infinite ≡ ToZero) a (e .0) refl refl refl));
+      quotient = λ h k.
+          let f : caseOf (classOf a) (classOf b) ≡ Finite = by-nonzero (λ x. caseOf x (classOf b) ≡ Finite) a h (by-nonzero (λ y. caseOf Subnormal y ≡ Finite) b k refl refl) (by-nonzero (λ y. caseOf Normal y ≡ Finite) b k refl refl) in
+          subst (RoundedQuotient direction (signOf a b) (magnitude a) (magnitude b)) (sym (answer-of direction a b (classOf a) (classOf b) Finite refl refl f))
+          (rounded-quotient direction (signOf a b) (magnitude a) (magnitude b) (magnitude-below a (nonzero-operand a h .finite)) (nonzero-operand b k .some));
+    }
+
+-- and so through every table that passes
+pub ieee-through : (t : List ℕ) → Passes t → (direction a b : ℕ) → Ieee direction a b (binary64Through t direction a b)
+ieee-through t p direction a b = subst (Ieee direction a b) (sym (binary64-through t direction a b p)) (ieee direction a b)

@@ -1,0 +1,142 @@
+-- What rounding means. An exact magnitude x is given by an increasing scale f and a number m: half a unit taken j times lies at f j, and x at m.
+-- A quotient n / u has f j = j * u and m = 2 * n; a root has squares. Rounding is stated and shown once, for every scale. Assumes nothing.
+use mathlib.Core.Path.{_≡_, sym, ap}
+use mathlib.Core.Logic.{inl, inr, ⊎-elim}
+use Prim.Native.Nat.{ℕ, suc, min, _+_, _-_, _*_, _/_, _%_, _≤_, _<_}
+use native.Mathlib.Nat.{div-add-mod', mod-lt, le-of-lt, lt-of-lt-of-le, eq-zero-or-pos, eq-or-lt-of-le, le-refl, le-of-eq, lt-of-not-le, not-le-of-lt, mul-lt-mul-of-pos-right, le-trans}
+use native.Mathlib.Omega.{arith}
+use borrow.Author.Tests.{lt-ltb, le-ltb, eq-eqb, ne-eqb}
+use Rattle.division.specs.declared.binary64.Mode.{Mode}
+use Rattle.division.specs.declared.binary64.Mode.the-variants.{Nearest, Toward, Away}
+use Rattle.division.specs.Rounding.{roundedTo, restOf, restAt, AwayFromZero, ToNearest, Rounds}
+use Rattle.laws.proofs.Division.{either}
+
+parity : (y : ℕ) → suc y % 2 ≡ 0 → y % 2 ≡ 0 → ⊥
+parity y p q = omega arith
+
+module _ (f : ℕ → ℕ) (up : (i j : ℕ) → i < j → f i < f j) where
+  -- order on the scale
+  mono : (i j : ℕ) → i ≤ j → f i ≤ f j
+  mono i j h = ⊎-elim (λ (e : i ≡ j). le-of-eq (ap f e)) (λ (g : i < j). le-of-lt (up i j g)) (eq-or-lt-of-le h)
+
+  -- a greater magnitude is not rounded to a smaller number
+  pub rounds-mono : (mode : Mode) (m n x y : ℕ) → m ≤ n → Rounds mode f m x → Rounds mode f n y → x ≤ y
+  rounds-mono Toward m n x y h p q = ⊎-elim (λ (g : x ≤ y). g)
+      (λ (g : y < x). absurd (omega (arith, mono (2 * y + 2) (2 * x) (omega arith), p .under, q .next)))
+      (either x y)
+  rounds-mono Away m n x y h p q = ⊎-elim (λ (g : x ≤ y). g)
+      (λ (g : y < x). absurd (omega (arith, mono (2 * y) (2 * x - 2) (omega arith), q .over, p .last (omega arith))))
+      (either x y)
+  rounds-mono Nearest m n x y h p q = ⊎-elim (λ (g : x ≤ y). g)
+      (λ (g : y < x).
+      let a : f (2 * x - 1) ≤ m = p .above (omega arith) in
+      let b : n ≤ f (2 * y + 1) = q .below in
+      let s : 2 * x - 1 < suc (2 * y + 1) = lt-of-not-le (λ l. not-le-of-lt (up (2 * y + 1) (2 * x - 1) l) (omega arith)) in
+      let e : 2 * x - 1 ≡ 2 * y + 1 = omega arith in
+      let c : f (2 * x - 1) ≡ f (2 * y + 1) = ap f e in
+      let z : x ≡ suc y = omega arith in
+      absurd (parity y (rw z at (p .even (inr (omega arith, omega arith)))) (q .even (inl (omega arith)))))
+      (either x y)
+
+  -- no two numbers round one magnitude
+  pub rounds-one : (mode : Mode) (m x y : ℕ) → Rounds mode f m x → Rounds mode f m y → x ≡ y
+  rounds-one mode m x y p q = omega (arith, rounds-mono mode m m x y (le-refl m) p q, rounds-mono mode m m y x (le-refl m) q p)
+
+  -- the rounding of k units and a rest is the rounding of the exact magnitude
+  module _ (m k : ℕ) (low : f (2 * k) ≤ m) (high : m < f (2 * k + 2)) where
+    -- the four places of m
+    place : (P : ℕ → Type 0) → (m ≡ f (2 * k) → P 0) → (f (2 * k) < m → m < f (2 * k + 1) → P 1) → (m ≡ f (2 * k + 1) → P 2) → (f (2 * k + 1) < m → P 3) → P (restAt f m k)
+    place P p0 p1 p2 p3 = ⊎-elim
+        (λ (e : f (2 * k) ≡ m). rw (eq-eqb m (f (2 * k)) (sym e)) (p0 (sym e)))
+        (λ (g : f (2 * k) < m). rw (ne-eqb m (f (2 * k)) (omega arith)) (⊎-elim
+        (λ (h : f (2 * k + 1) ≤ m). rw (le-ltb m (f (2 * k + 1)) h) (⊎-elim
+        (λ (e : f (2 * k + 1) ≡ m). rw (eq-eqb m (f (2 * k + 1)) (sym e)) (p2 (sym e)))
+        (λ (l : f (2 * k + 1) < m). rw (ne-eqb m (f (2 * k + 1)) (omega arith)) (p3 l))
+        (eq-or-lt-of-le h)))
+        (λ (h : m < f (2 * k + 1)). rw (lt-ltb m (f (2 * k + 1)) h) (p1 g h))
+        (either (f (2 * k + 1)) m)))
+        (eq-or-lt-of-le low)
+
+    next-even : f (2 * (k + 1)) ≡ f (2 * k + 2)
+    next-even = ap f (omega arith)
+
+    stays : m ≤ f (2 * k + 1) → (m ≡ f (2 * k + 1) → k % 2 ≡ 0) → ToNearest f m k
+    stays h t = record {
+      above = λ p. omega (arith, mono (2 * k - 1) (2 * k) (omega arith));
+      below = h;
+      even = ⊎-elim t (λ w. absurd (omega (arith, up (2 * k - 1) (2 * k) (omega (arith, w .0)), w .1)));
+    }
+
+    goes : f (2 * k + 1) ≤ m → (m ≡ f (2 * k + 1) → (k + 1) % 2 ≡ 0) → ToNearest f m (k + 1)
+    goes h t =
+        let e : 2 * (k + 1) - 1 ≡ 2 * k + 1 = omega arith in
+        let l : m < f (2 * (k + 1) + 1) = omega (arith, up (2 * k + 2) (2 * (k + 1) + 1) (omega arith)) in
+        record { above = λ p. rw e h; below = le-of-lt l; even = ⊎-elim (λ w. absurd (omega arith)) (λ w. t (rw e at (w .1))) }
+
+    tie : m ≡ f (2 * k + 1) → ToNearest f m (k + k % 2)
+    tie e = ⊎-elim
+        (λ (z : k % 2 ≡ 0). let w : k + k % 2 ≡ k = omega arith in rw w (stays (le-of-eq e) (λ t. z)))
+        (λ (z : 0 < k % 2). let w : k + k % 2 ≡ k + 1 = omega arith in rw w (goes (le-of-eq (sym e)) (λ t. omega arith)))
+        (eq-zero-or-pos (k % 2))
+
+    pub rounds : (mode : Mode) → Rounds mode f m (roundedTo mode k (restAt f m k))
+    rounds Toward = record { under = low; next = high }
+    rounds Away = place (λ r. AwayFromZero f m (roundedTo Away k r))
+        (λ e. record { over = le-of-eq e; last = λ p. omega (arith, up (2 * k - 2) (2 * k) (omega arith)) })
+        (λ g h. stepped g)
+        (λ e. stepped (omega (arith, up (2 * k) (2 * k + 1) (omega arith))))
+        (λ g. stepped (omega (arith, up (2 * k) (2 * k + 1) (omega arith))))
+      where
+        stepped : f (2 * k) < m → AwayFromZero f m (k + 1)
+        stepped g = record { over = omega (arith, next-even); last = λ p. let e : 2 * (k + 1) - 2 ≡ 2 * k = omega arith in rw e g }
+    rounds Nearest = place (λ r. ToNearest f m (roundedTo Nearest k r))
+        (λ e. let g = up (2 * k) (2 * k + 1) (omega arith) in stays (omega arith) (λ t. absurd (omega arith)))
+        (λ g h. stays (le-of-lt h) (λ t. absurd (omega arith)))
+        tie
+        (λ g. goes (le-of-lt g) (λ t. absurd (omega arith)))
+
+-- h half units and a sticky bit, as code has them: the whole units are h / 2, and the rest is the lowest bit of h and the sticky bit
+module _ (f : ℕ → ℕ) (up : (i j : ℕ) → i < j → f i < f j) (m h : ℕ) (low : f h ≤ m) (high : m < f (h + 1)) where
+  pub whole-units : (f (2 * (h / 2)) ≤ m) × (m < f (2 * (h / 2) + 2))
+  whole-units = (
+    le-trans (mono f up (2 * (h / 2)) h (omega arith)) low,
+    lt-of-lt-of-le high (mono f up (h + 1) (2 * (h / 2) + 2) (omega arith)),
+  )
+
+  pub halves : restAt f m (h / 2) ≡ 2 * (h % 2) + min 1 (m - f h)
+  halves =
+      let l : f (h + 1) ≤ f (2 * (h / 2) + 2) = mono f up (h + 1) (2 * (h / 2) + 2) (omega arith) in
+      place f up m (h / 2) (whole-units .0) (whole-units .1) (λ r. r ≡ 2 * (h % 2) + min 1 (m - f h))
+      (λ e. ⊎-elim
+      (λ (z : h % 2 ≡ 0). let q : h ≡ 2 * (h / 2) = omega arith in omega (arith, ap f q))
+      (λ (z : 0 < h % 2). absurd (omega (arith, up (2 * (h / 2)) h (omega arith))))
+      (eq-zero-or-pos (h % 2)))
+      (λ g t. ⊎-elim
+      (λ (z : h % 2 ≡ 0). let q : h ≡ 2 * (h / 2) = omega arith in omega (arith, ap f q))
+      (λ (z : 0 < h % 2). absurd (omega (arith, mono f up (2 * (h / 2) + 1) h (omega arith))))
+      (eq-zero-or-pos (h % 2)))
+      (λ e. ⊎-elim
+      (λ (z : h % 2 ≡ 0). absurd (omega (arith, mono f up (h + 1) (2 * (h / 2) + 1) (omega arith))))
+      (λ (z : 0 < h % 2). let q : h ≡ 2 * (h / 2) + 1 = omega arith in omega (arith, ap f q))
+      (eq-zero-or-pos (h % 2)))
+      (λ g. ⊎-elim
+      (λ (z : h % 2 ≡ 0). absurd (omega (arith, mono f up (h + 1) (2 * (h / 2) + 1) (omega arith))))
+      (λ (z : 0 < h % 2). let q : h ≡ 2 * (h / 2) + 1 = omega arith in omega (arith, ap f q))
+      (eq-zero-or-pos (h % 2)))
+
+-- a quotient's rest, on the scale of its divisor
+pub quotient-rest : (n u : ℕ) → 0 < u → restOf (n % u) u ≡ restAt (λ j. j * u) (2 * n) (n / u)
+quotient-rest n u h =
+    let d : n / u * u + n % u ≡ n = div-add-mod' n u in
+    sym (place (λ j. j * u) (λ i j g. omega (arith, mul-lt-mul-of-pos-right g h)) (2 * n) (n / u) (omega arith) (omega (arith, mod-lt n h))
+    (λ r. r ≡ restOf (n % u) u)
+    (λ e. rw (eq-eqb (n % u) 0 (omega arith)))
+    (λ g l. rw (ne-eqb (n % u) 0 (omega arith), lt-ltb (2 * (n % u)) u (omega arith)))
+    (λ e. rw (ne-eqb (n % u) 0 (omega arith), le-ltb (2 * (n % u)) u (omega arith), eq-eqb (2 * (n % u)) u (omega arith)))
+    (λ g. rw (ne-eqb (n % u) 0 (omega arith), le-ltb (2 * (n % u)) u (omega arith), ne-eqb (2 * (n % u)) u (omega arith))))
+
+-- so the definition's rounded number is the one that rounds n / u
+pub quotient-rounds : (mode : Mode) (n u : ℕ) → 0 < u → Rounds mode (λ j. j * u) (2 * n) (roundedTo mode (n / u) (restOf (n % u) u))
+quotient-rounds mode n u h =
+    let d : n / u * u + n % u ≡ n = div-add-mod' n u in
+    rw (quotient-rest n u h) (rounds (λ j. j * u) (λ i j g. mul-lt-mul-of-pos-right g h) (2 * n) (n / u) (omega arith) (omega (arith, mod-lt n h)) mode)

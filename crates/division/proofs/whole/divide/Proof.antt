@@ -1,0 +1,63 @@
+-- `divide` meets its contract: the quotient goes through the row of the divisor moved up.
+use Prim.Native.Nat.{_*_, _%_, _^_}
+use Rattle.recurrence.proofs.Rows.{lent-row, row-of}
+use Rattle.division.proofs.Calls.{divisor-word, shifted-is}
+use borrow.Author.Needs.{needs}
+use Rattle.division.proofs.whole.divide.Statement.{statement}
+use Rattle.division.proofs.whole.divide.Tie as tie
+
+shift-of-requires : tie.Need-shift-of-requires
+shift-of-requires c κs = search needs
+
+cast-d : tie.Need-cast-d
+cast-d c = search needs
+
+shl-d : tie.Need-shl-d
+shl-d c = search needs
+
+sub-start : tie.Need-sub-start
+sub-start c = search needs
+
+mul-start : tie.Need-mul-start
+mul-start c = search needs
+
+add-shifted : tie.Need-add-shifted
+add-shifted c = search needs
+
+sub-shifted : tie.Need-sub-shifted
+sub-shifted c = search needs
+
+part-shifted-start : tie.Need-part-shifted-start
+part-shifted-start c = search needs
+
+part-shifted-end : tie.Need-part-shifted-end
+part-shifted-end c = search needs
+
+shifted-requires : tie.Need-shifted-requires
+shifted-requires c κs =
+    let s = c .before .before .before in
+    let k = c .before .shift-of in
+    rw (divisor-word (s .args .b) (k .result) (k .ensures .3)) (row-of (s .pre .0) (lent-row (s .args .table .now) (s .args .b * 2 ^ k .result)), s .pre .1, k .ensures .2, k .ensures .3, k .ensures .1)
+
+returns : tie.Need-returns
+returns c =
+    let s = c .before .before .before .before in
+    let k = c .before .before .shift-of in
+    shifted-is (s .args .table .now) (s .args .a) (s .args .b) (k .result) _ (k .ensures .0) (divisor-word (s .args .b) (k .result) (k .ensures .3))
+    (c .shifted .ensures (s .args .table .now) (s .pre .0) (lent-row (s .args .table .now) ((s .args .b * 2 ^ k .result) % 2 ^ 64)))
+
+pub divide-spec : {M : Type 1} → statement M
+divide-spec =
+    tie.close
+    (tie.spec
+    shift-of-requires
+    cast-d
+    shl-d
+    sub-start
+    mul-start
+    add-shifted
+    sub-shifted
+    part-shifted-start
+    part-shifted-end
+    shifted-requires
+    returns)

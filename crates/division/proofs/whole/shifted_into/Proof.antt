@@ -1,0 +1,72 @@
+-- `shifted_into` meets its contract: the words that it moves up do not wrap, and the part lent has as many bytes as the run has digits.
+use mathlib.Core.Path.{_≡_}
+use Prim.Native.Nat.{ℕ, _+_, _-_, _*_, _/_, _%_, _^_, _<_}
+use native.Mathlib.Nat.{mod-eq-of-lt}
+use native.Mathlib.Omega.{arith}
+use lib.ListN.{length, take, length-take}
+use Rattle.division.proofs.WholeThrough.{low-bit}
+use Rattle.division.proofs.Calls.{shifted-words}
+use borrow.Author.Needs.{needs}
+use Rattle.division.proofs.whole.shifted_into.Statement.{statement}
+use Rattle.division.proofs.whole.shifted_into.Tie as tie
+
+dividend-word : (a s : ℕ) → a < 2 ^ 60 → (a * 2 ^ (s % 2)) % 2 ^ 64 ≡ a * 2 ^ (s % 2)
+dividend-word a s h = mod-eq-of-lt (omega (arith, low-bit a s h))
+
+dividend-small : (a s : ℕ) → a < 2 ^ 60 → (a * 2 ^ (s % 2)) % 2 ^ 64 < 2 ^ 61
+dividend-small a s h = rw (dividend-word a s h) (low-bit a s h)
+
+cast-n : tie.Need-cast-n
+cast-n c = search needs
+
+shl-n : tie.Need-shl-n
+shl-n c = search needs
+
+add-count : tie.Need-add-count
+add-count c = search needs
+
+cast-count : tie.Need-cast-count
+cast-count c = search needs
+
+sub-run-row : tie.Need-sub-run-row
+sub-run-row c = search needs
+
+part-run-row-start : tie.Need-part-run-row-start
+part-run-row-start c = search needs
+
+part-run-row-end : tie.Need-part-run-row-end
+part-run-row-end c = search needs
+
+run-row-requires : tie.Need-run-row-requires
+run-row-requires c κs =
+    let s = c .before .before .before in
+    let l : length (take (s .args .s / 2 + 1 - 0) (s .args .digits .now)) ≡ s .args .s / 2 + 1 = rw length-take (omega (arith, s .pre .5, s .pre .4)) in
+    (s .pre .0, record { dividend = dividend-small (s .args .a) (s .args .s) (s .pre .1); least = s .pre .2; most = s .pre .3 }, omega (arith, l), omega (arith, l, s .pre .4))
+
+shr-t18 : tie.Need-shr-t18
+shr-t18 c = search needs
+
+same-length : tie.Need-same-length
+same-length c = search needs
+
+returns : tie.Need-returns
+returns c t p e =
+    let s = c .before .before .before .before .before .before in
+    let l : length (take (s .args .s / 2 + 1 - 0) (s .args .digits .now)) ≡ s .args .s / 2 + 1 = rw length-take (omega (arith, s .pre .5, s .pre .4)) in
+    shifted-words t (s .args .a) (s .args .d) (s .args .s) _ _ (c .before .before .run-row .result) (dividend-word (s .args .a) (s .args .s) (s .pre .1)) l (c .before .before .run-row .ensures t p e .1)
+
+pub shifted-into-spec : {M : Type 1} → statement M
+shifted-into-spec =
+    tie.close
+    (tie.spec
+    cast-n
+    shl-n
+    add-count
+    cast-count
+    sub-run-row
+    part-run-row-start
+    part-run-row-end
+    run-row-requires
+    shr-t18
+    same-length
+    returns)

@@ -1,0 +1,11 @@
+pub mod Whole
+pub mod Rounding
+pub mod Binary64
+pub mod Through
+pub mod Working
+pub mod Ieee
+pub mod Refusals
+pub mod Demand1
+pub mod Demand2
+pub mod Demand3
+pub mod BenchCases

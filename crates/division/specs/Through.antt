@@ -1,0 +1,78 @@
+-- Binary64 division through a table, as a caller sees it: document 01, "Binary64" and "Who sends bad input". The significands' quotient is the run's, its digits the table's.
+-- The steps between need not be believed: `binary64-through` shows that through every table that passes they give `divided`, and `ieee` what that means.
+use mathlib.Core.Bool.{Bool, cond}
+use mathlib.Core.List.{List}
+use Prim.Native.Nat.{ℕ, min, _+_, _-_, _*_, _/_, _%_, _^_}
+use lib.Dec.{leb, ltb, eqb}
+use Rattle.selection.specs.Answer.{refusal, admission, inOrder}
+use Rattle.selection.specs.Computed.{reportOf}
+use Rattle.selection.specs.declared.Refusal.{Refusal}
+use Rattle.selection.specs.declared.Admission.{Admission}
+use Rattle.selection.specs.declared.Admission.the-variants as A
+use Rattle.recurrence.specs.Recurrence.{resultOf}
+use Rattle.division.specs.Whole.{shiftTo}
+use Rattle.division.specs.Rounding.{modeOf, packed}
+use Rattle.division.specs.Binary64.{field, fraction, signOf, byClass, orQuotient}
+use Rattle.division.specs.declared.binary64.Scaled.{Scaled}
+use Rattle.division.specs.declared.binary64.Aligned.{Aligned}
+use Rattle.division.specs.declared.binary64.Binary64Result.{Binary64Result}
+use Rattle.division.specs.declared.binary64.Binary64Answer.{Binary64Answer}
+use Rattle.division.specs.declared.binary64.Binary64Answer.the-variants as B
+
+-- a quotient with its sticky bit: twice the whole part, and 1 more where something is left
+abbrev pub sticky : ℕ → ℕ → ℕ
+sticky n u = 2 * (n / u) + min 1 (n % u)
+
+-- the significand of a finite pattern that is no zero, moved up to 53 bits, with its exponent
+abbrev pub significandOf : ℕ → Scaled
+significandOf p =
+    cond (eqb (field p) 0)
+    (record { sig = fraction p * 2 ^ shiftTo 52 (fraction p); exp = 52 - shiftTo 52 (fraction p) })
+    (record { sig = 2 ^ 52 + fraction p; exp = field p + 51 })
+
+-- the quotient of two significands through the table t, 28 digits, with its sticky bit
+unfoldable pub ratioThrough : List ℕ → ℕ → ℕ → ℕ
+ratioThrough t a b = let r = resultOf t (a * 256) (b * 256) 28 in 2 * r .quotient + min 1 (r .remainder)
+
+-- that quotient at the exponent which its size gives, or at the least exponent: quarters of a unit, the lowest bit sticky
+abbrev pub alignedOf : ℕ → ℕ → ℕ → Aligned
+alignedOf w up down =
+    cond (leb down (up + w / 2 ^ 55))
+    (record { e = up + w / 2 ^ 55 - down; v = sticky w (2 * 2 ^ (w / 2 ^ 55)) })
+    (record { e = 0; v = sticky w (2 * 2 ^ (down - up)) })
+
+-- a sticky quotient w times 2^(up - down), rounded once
+unfoldable pub roundedQuotient : ℕ → Bool → ℕ → ℕ → ℕ → Binary64Result
+roundedQuotient direction s w up down =
+    let at = alignedOf w up down in
+    packed (modeOf direction s) s (at .e) (at .v / 4) (at .v % 4)
+
+-- the quotient of two significands with their exponents
+abbrev pub scaledThrough : List ℕ → ℕ → Bool → Scaled → Scaled → Binary64Result
+scaledThrough t direction s x y = roundedQuotient direction s (ratioThrough t (x .sig) (y .sig)) (x .exp + 1021) (y .exp)
+
+-- a / b, its significands' quotient by the digits of the table t
+abbrev pub binary64Through : List ℕ → ℕ → ℕ → ℕ → Binary64Result
+binary64Through t direction a b = orQuotient (scaledThrough t direction (signOf a b) (significandOf a) (significandOf b)) (byClass a b)
+
+-- 6: direction above 3
+abbrev pub binary64Refusal : ℕ → Admission
+binary64Refusal direction = cond (ltb 3 direction) (A.Refused (refusal 6 0)) A.Admitted
+
+abbrev pub binary64At : List ℕ → ℕ → ℕ → ℕ → Admission → Binary64Answer
+binary64At t direction a b A.Admitted = B.Done (binary64Through t direction a b)
+binary64At t direction a b (A.Refused f) = B.Refused f
+
+-- the answer: then 8, 9, 10, the table's, for every pair of operands
+abbrev pub binary64Of : List ℕ → ℕ → ℕ → ℕ → Binary64Answer
+binary64Of t direction a b = binary64At t direction a b (inOrder (binary64Refusal direction) (admission (reportOf t)))
+
+-- its paper numbers: the refusal (0: none), the pattern and the sum of flags, zeros where it refuses
+pub record Binary64Numbers : Type 0 where
+  pub refused : Refusal
+  pub pattern : ℕ
+  pub flags : ℕ
+
+abbrev pub binary64Numbers : Binary64Answer → Binary64Numbers
+binary64Numbers (B.Done r) = record { refused = refusal 0 0; pattern = r .pattern; flags = r .flags }
+binary64Numbers (B.Refused f) = record { refused = f; pattern = 0; flags = 0 }

@@ -1,0 +1,57 @@
+-- Whole-number division through a table, as a caller sees it: document 01, "The run" and "Who sends bad input".
+-- The steps between need not be believed: `whole-through` and `whole-divides` show that through every table that passes they give a / b and a % b.
+use mathlib.Core.Bool.{cond}
+use mathlib.Core.List.{List}
+use Prim.Native.Nat.{ℕ, _+_, _-_, _*_, _/_, _%_, _^_}
+use lib.Count.{leadingZeros}
+use lib.Dec.{leb, eqb}
+use Rattle.selection.specs.Answer.{refusal, admission, inOrder}
+use Rattle.selection.specs.Computed.{reportOf}
+use Rattle.selection.specs.declared.Refusal.{Refusal}
+use Rattle.selection.specs.declared.Admission.{Admission}
+use Rattle.selection.specs.declared.Admission.the-variants as A
+use Rattle.recurrence.specs.Recurrence.{resultOf}
+use Rattle.division.specs.declared.whole.WholeResult.{WholeResult}
+use Rattle.division.specs.declared.whole.WholeAnswer.{WholeAnswer}
+use Rattle.division.specs.declared.whole.WholeAnswer.the-variants as W
+
+-- how far a 64-bit number is moved up for its leading one to stand at bit k
+abbrev pub shiftTo : ℕ → ℕ → ℕ
+shiftTo k b = leadingZeros 64 b - (63 - k)
+
+-- quotient and remainder of a by a divisor that has been moved up by s bits to d, in the divisor's span: the run of s / 2 + 1 digits of a·2^(s % 2) by d,
+-- and its remainder moved down again
+unfoldable pub shiftedThrough : List ℕ → ℕ → ℕ → ℕ → WholeResult
+shiftedThrough t a d s =
+    let r = resultOf t (a * 2 ^ (s % 2)) d (s / 2 + 1) in
+    record { quotient = r .quotient; remainder = r .remainder / 2 ^ s }
+
+-- a by b, the quotient by the digits of the table t
+abbrev pub wholeThrough : List ℕ → ℕ → ℕ → WholeResult
+wholeThrough t a b = shiftedThrough t a (b * 2 ^ shiftTo 60 b) (shiftTo 60 b)
+
+-- 4: a or b is 2^60 or more. 5: b is 0
+abbrev pub wholeRefusal : ℕ → ℕ → Admission
+wholeRefusal a b =
+    cond (leb (2 ^ 60) a) (A.Refused (refusal 4 0))
+    (cond (leb (2 ^ 60) b) (A.Refused (refusal 4 0))
+    (cond (eqb b 0) (A.Refused (refusal 5 0))
+    A.Admitted))
+
+abbrev pub wholeAt : List ℕ → ℕ → ℕ → Admission → WholeAnswer
+wholeAt t a b A.Admitted = W.Done (wholeThrough t a b)
+wholeAt t a b (A.Refused f) = W.Refused f
+
+-- the answer: then 8, 9, 10, the table's
+abbrev pub wholeOf : List ℕ → ℕ → ℕ → WholeAnswer
+wholeOf t a b = wholeAt t a b (inOrder (wholeRefusal a b) (admission (reportOf t)))
+
+-- its paper numbers: the refusal (0: none), quotient and remainder, zeros where it refuses
+pub record WholeNumbers : Type 0 where
+  pub refused : Refusal
+  pub quotient : ℕ
+  pub remainder : ℕ
+
+abbrev pub wholeNumbers : WholeAnswer → WholeNumbers
+wholeNumbers (W.Done r) = record { refused = refusal 0 0; quotient = r .quotient; remainder = r .remainder }
+wholeNumbers (W.Refused f) = record { refused = f; quotient = 0; remainder = 0 }
