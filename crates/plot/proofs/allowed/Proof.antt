@@ -1,0 +1,33 @@
+-- `plot::allowed` meets its contract: it is what the check of the single cell says.
+use native.Mathlib.Omega.{arith}
+use Rattle.report.proofs.Verdicts.{verdict-says, never-refused}
+use Rattle.plot.proofs.Points.{allowed-yes, allowed-no}
+use borrow.Author.Needs.{needs}
+use Rattle.plot.proofs.allowed.Statement.{statement}
+use Rattle.plot.proofs.allowed.Tie as tie
+
+check-cell-requires : tie.Need-check-cell-requires
+check-cell-requires c κs = search needs
+
+enum-told : tie.Need-enum-told
+enum-told c = search needs
+
+enum-told-2 : tie.Need-enum-told-2
+enum-told-2 c = search needs
+
+enum-told-3 : tie.Need-enum-told-3
+enum-told-3 c = search needs
+
+returns : tie.Need-returns
+returns c = allowed-yes (verdict-says (c .before .before .check-cell .ensures .1) (c .enum-told .given .1) .1)
+
+returns-2 : tie.Need-returns-2
+returns-2 c = allowed-no (record { divisor = _; remainder = _; against = verdict-says (c .before .before .check-cell .ensures .1) (c .enum-told2 .given .1) .1 .against })
+
+returns-3 : tie.Need-returns-3
+returns-3 c = never-refused (omega arith) (omega arith) (omega arith) (c .before .before .check-cell .ensures .1) (c .enum-told3 .given .1)
+
+pub allowed-spec : {M : Type 1} → statement M
+allowed-spec =
+    tie.close
+    (tie.spec check-cell-requires enum-told enum-told-2 enum-told-3 returns returns-2 returns-3)

@@ -1,0 +1,43 @@
+-- `plot::draw_row` is safe and ends: a run of columns is never empty.
+use Prim.Native.Nat.{_-_, _≤_}
+use native.Mathlib.Omega.{arith}
+use borrow.Author.Needs.{needs}
+use Rattle.plot.proofs.draw_row.Statement.{statement}
+use Rattle.plot.proofs.draw_row.Tie as tie
+
+abbrev Inv-loop : tie.InvT-loop
+Inv-loop table row from₀ from = from ≤ 128
+
+abbrev μ-loop : tie.MeasureT-loop
+μ-loop table row from₀ from = 128 - from
+
+loop-holds : tie.Need-loop-holds Inv-loop μ-loop
+loop-holds c = omega arith
+
+run-from-requires : tie.Need-run-from-requires Inv-loop μ-loop
+run-from-requires c κs = (c .before .before .before .pre .0, omega arith, omega arith)
+
+print-cells-requires : tie.Need-print-cells-requires Inv-loop μ-loop
+print-cells-requires c κs = (c .before .before .before .before .pre .1, c .run-from .ensures .some, c .run-from .ensures .within)
+
+loop-less : tie.Need-loop-less Inv-loop μ-loop
+loop-less c = omega (arith, c .before .run-from .ensures .some)
+
+loop-again : tie.Need-loop-again Inv-loop μ-loop
+loop-again c = c .before .run-from .ensures .within
+
+returns : tie.Need-returns Inv-loop μ-loop
+returns c = search needs
+
+pub draw-row-spec : {M : Type 1} → statement M
+draw-row-spec =
+    tie.close
+    (tie.spec
+    Inv-loop
+    μ-loop
+    loop-holds
+    run-from-requires
+    print-cells-requires
+    loop-less
+    loop-again
+    returns)

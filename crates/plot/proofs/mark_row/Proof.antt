@@ -1,0 +1,51 @@
+-- `plot::mark_row` is safe and ends: a run of columns is never empty.
+use Prim.Native.Nat.{_-_, _≤_}
+use native.Mathlib.Omega.{arith}
+use borrow.Author.Needs.{needs}
+use Rattle.plot.proofs.mark_row.Statement.{statement}
+use Rattle.plot.proofs.mark_row.Tie as tie
+
+abbrev Inv-loop : tie.InvT-loop
+Inv-loop table row rings from₀ from = from ≤ 128
+
+abbrev μ-loop : tie.MeasureT-loop
+μ-loop table row rings from₀ from = 128 - from
+
+loop-holds : tie.Need-loop-holds Inv-loop μ-loop
+loop-holds c = omega arith
+
+run-from-requires : tie.Need-run-from-requires Inv-loop μ-loop
+run-from-requires c κs = (c .before .before .before .pre .0, omega arith, omega arith)
+
+mark-requires : tie.Need-mark-requires Inv-loop μ-loop
+mark-requires c κs = (c .before .before .before .before .before .before .pre .1, c .before .before .run-from .ensures .some, c .before .before .run-from .ensures .within)
+
+loop-less : tie.Need-loop-less Inv-loop μ-loop
+loop-less c = omega (arith, c .before .before .before .run-from .ensures .some)
+
+loop-again : tie.Need-loop-again Inv-loop μ-loop
+loop-again c = c .before .before .before .run-from .ensures .within
+
+loop-less-2 : tie.Need-loop-less-2 Inv-loop μ-loop
+loop-less-2 c = omega (arith, c .before .before .run-from .ensures .some)
+
+loop-again-2 : tie.Need-loop-again-2 Inv-loop μ-loop
+loop-again-2 c = c .before .before .run-from .ensures .within
+
+returns : tie.Need-returns Inv-loop μ-loop
+returns c = search needs
+
+pub mark-row-spec : {M : Type 1} → statement M
+mark-row-spec =
+    tie.close
+    (tie.spec
+    Inv-loop
+    μ-loop
+    loop-holds
+    run-from-requires
+    mark-requires
+    loop-less
+    loop-again
+    loop-less-2
+    loop-again-2
+    returns)

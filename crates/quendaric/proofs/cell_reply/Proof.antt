@@ -1,0 +1,40 @@
+use mathlib.Core.Path.{sym, ap, _∙_}
+use Rattle.quendaric.specs.Reply.{cellReply}
+use Rattle.selection.specs.Answer.{cellNumbers}
+use Rattle.selection.specs.declared.CellVerdict.{CellVerdict}
+use borrow.Author.Needs.{needs}
+use Rattle.quendaric.proofs.cell_reply.Statement.{statement}
+use Rattle.quendaric.proofs.cell_reply.Tie as tie
+
+enum-told : tie.Need-enum-told
+enum-told c = search needs
+
+enum-known-x : tie.Need-enum-known-x
+enum-known-x c = search needs
+
+disallowed-reply-requires : tie.Need-disallowed-reply-requires
+disallowed-reply-requires c κs = search needs
+
+enum-known-x-2 : tie.Need-enum-known-x-2
+enum-known-x-2 c = search needs
+
+returns : tie.Need-returns
+returns c = sym (ap (λ (x : CellVerdict). cellReply (cellNumbers x)) (c .enum-told .given .1))
+
+returns-2 : tie.Need-returns-2
+returns-2 c = c .disallowed-reply .ensures ∙ sym (ap (λ (x : CellVerdict). cellReply (cellNumbers x)) (c .before .before .x .given .1))
+
+returns-3 : tie.Need-returns-3
+returns-3 c = sym (ap (λ (x : CellVerdict). cellReply (cellNumbers x)) (c .before .x2 .given .1))
+
+pub cell-reply-spec : {M : Type 1} → statement M
+cell-reply-spec =
+    tie.close
+    (tie.spec
+    enum-told
+    enum-known-x
+    disallowed-reply-requires
+    enum-known-x-2
+    returns
+    returns-2
+    returns-3)

@@ -1,0 +1,20 @@
+use mathlib.Core.Path.{ap, _∙_}
+use Rattle.quendaric.specs.Reply.{binary64Reply}
+use Rattle.division.specs.Through.{binary64Numbers}
+use Rattle.division.specs.declared.binary64.Binary64Answer.{Binary64Answer}
+use borrow.Author.Needs.{needs}
+use Rattle.quendaric.proofs.quendaric_divide_binary64_kept.Statement.{statement}
+use Rattle.quendaric.proofs.quendaric_divide_binary64_kept.Tie as tie
+
+divide-binary64-kept-requires : tie.Need-divide-binary64-kept-requires
+divide-binary64-kept-requires c κs = search needs
+
+binary64-reply-requires : tie.Need-binary64-reply-requires
+binary64-reply-requires c κs = search needs
+
+returns : tie.Need-returns
+returns c = c .binary64-reply .ensures ∙ ap (λ (x : Binary64Answer). binary64Reply (binary64Numbers x)) (c .before .divide-binary64-kept .ensures)
+
+pub quendaric-divide-binary64-kept-spec : {M : Type 1} → statement M
+quendaric-divide-binary64-kept-spec =
+    tie.close (tie.spec divide-binary64-kept-requires binary64-reply-requires returns)

@@ -1,0 +1,27 @@
+-- A line of the vector files, 56 bytes: operands a and b, direction, expected pattern (hexadecimal) and flags (two decimal digits), parted by single bytes.
+use mathlib.Core.Bool.{Bool, true, cond, not}
+use mathlib.Core.List.{List}
+use Prim.Native.Nat.{ℕ, zero, suc, _+_, _*_, _-_}
+use lib.Dec.{ltb, eqb}
+use lib.ListN.{getD}
+use Rattle.division.specs.declared.binary64.Binary64Answer.{Binary64Answer}
+use Rattle.division.specs.declared.binary64.Binary64Answer.the-variants.{Done, Refused}
+use Rattle.vectors.specs.declared.Vector.{Vector}
+
+-- the value of a hexadecimal digit, 0 to 9 and a to f; of another byte 0
+abbrev pub nibbleOf : ℕ → ℕ
+nibbleOf c = cond (ltb c 48) 0 (cond (ltb c 58) (c - 48) (cond (ltb c 97) 0 (cond (ltb c 103) (c - 87) 0)))
+
+-- the number that the n hexadecimal digits from the index at on spell
+unfoldable pub hexOf : List ℕ → ℕ → ℕ → ℕ
+hexOf s at zero = 0
+hexOf s at (suc n) = 16 * hexOf s at n + nibbleOf (getD s (at + n) 0)
+
+-- the case that a line holds
+abbrev pub vectorOf : List ℕ → Vector
+vectorOf s = record { a = hexOf s 0 16; b = hexOf s 17 16; direction = hexOf s 34 1; pattern = hexOf s 36 16; flags = 10 * hexOf s 53 1 + hexOf s 54 1 }
+
+-- an answer differs from a case: in the pattern, or in the flags, or it is a refusal
+abbrev pub differsFrom : Vector → Binary64Answer → Bool
+differsFrom v (Done r) = cond (eqb (r .pattern) (v .pattern)) (not (eqb (r .flags) (v .flags))) true
+differsFrom v (Refused f) = true

@@ -1,0 +1,169 @@
+// Public test vectors of IEEE 754 division through the unit: how many were run, and how many differ.
+ghost use mathlib.Core.Path.{_≡_};
+ghost use Prim.Native.Nat.{_+_, _^_, _≤_, _<_};
+ghost use Rattle.selection.specs.Computed.{madeTable};
+ghost use Rattle.division.specs.Through.{binary64Of};
+ghost use Rattle.vectors.specs.Vectors.{nibbleOf, hexOf, vectorOf, differsFrom};
+use division::binary64::Binary64Answer;
+use report::print_number;
+use report::print_text;
+
+// One case: two operands, a direction, and the pattern and flags that are expected.
+struct Vector {
+    a: u64,
+    b: u64,
+    direction: u64,
+    pattern: u64,
+    flags: u64,
+}
+
+// What became of the next line of a file.
+enum Ran {
+    End,
+    Agrees,
+    Differs,
+}
+
+struct Tally {
+    run: u64,
+    differ: u64,
+}
+
+// No file has as many lines: a bound for the loop.
+const MOST: u64 = 1000000;
+
+fn nibble(c: u8) -> u64
+    ensures { λ r. ⌜ (r ≡ nibbleOf c) × (r < 16) ⌝ }
+{
+    if c < 48 {
+        return 0;
+    }
+    if c < 58 {
+        return (c - 48) as u64;
+    }
+    if c < 97 {
+        return 0;
+    }
+    if c < 103 {
+        return (c - 87) as u64;
+    }
+    0
+}
+
+// The number that the n hexadecimal digits from `at` on spell.
+fn hex(line: &[u8; 56], at: usize, n: usize) -> u64
+    requires { ⌜ (at + n ≤ 56) × (n ≤ 16) ⌝ }
+    ensures { λ r. ⌜ (r ≡ hexOf (now (line .entry)) at n) × (r < 16 ^ n) ⌝ }
+{
+    let mut value: u64 = 0;
+    let mut i: usize = 0;
+    while i < n {
+        value = 16 * value + nibble(line[at + i]);
+        i += 1;
+    }
+    value
+}
+
+fn parse(line: &[u8; 56]) -> Vector
+    ensures { λ r. ⌜ r ≡ vectorOf (now (line .entry)) ⌝ }
+{
+    let a = hex(line, 0, 16);
+    let b = hex(line, 17, 16);
+    let direction = hex(line, 34, 1);
+    let pattern = hex(line, 36, 16);
+    let flags = 10 * hex(line, 53, 1) + hex(line, 54, 1);
+    Vector {
+        a,
+        b,
+        direction,
+        pattern,
+        flags,
+    }
+}
+
+// Whether the unit's answer, through the kept table, differs from the expected one.
+fn differs(v: Vector) -> bool
+    ensures { λ r. ⌜ r ≡ differsFrom v (binary64Of madeTable (v .direction) (v .a) (v .b)) ⌝ }
+{
+    match division::binary64::divide_binary64_kept(v.a, v.b, v.direction) {
+        Binary64Answer::Done(answer) => {
+            if answer.pattern != v.pattern {
+                return true;
+            }
+            answer.flags != v.flags
+        }
+        Binary64Answer::Refused(_) => true,
+    }
+}
+
+// The next line of a file. One that is cut short differs.
+fn run_line(fd: i32) -> Ran {
+    let mut line = [0u8; 56];
+    let length = io::read_full(fd, &mut line);
+    if length == 0 {
+        return Ran::End;
+    }
+    if length != 56 {
+        return Ran::Differs;
+    }
+    if differs(parse(&line)) {
+        Ran::Differs
+    } else {
+        Ran::Agrees
+    }
+}
+
+fn run_lines(fd: i32) -> Tally
+    ensures { λ r. ⌜ (r .differ ≤ r .run) × (r .run ≤ 1000000) ⌝ }
+{
+    let mut run: u64 = 0;
+    let mut differ: u64 = 0;
+    while run < MOST {
+        let ran = run_line(fd);
+        match ran {
+            Ran::End => return Tally { run, differ },
+            Ran::Agrees => {}
+            Ran::Differs => differ += 1,
+        }
+        run += 1;
+    }
+    Tally { run, differ }
+}
+
+// A file's name, the number of its lines and how many of them differ.
+fn print_tally(name: &[u8], tally: Tally) {
+    print_text(name);
+    print_text(b" ");
+    print_number(tally.run, b" ");
+    print_number(tally.differ, b"\n");
+}
+
+// Runs a file, prints its line and adds it to the total. A file that cannot be opened adds nothing, and a message goes to standard error.
+fn run_file(name: &[u8], total: Tally) -> Tally
+    requires { ⌜ (total .differ ≤ total .run) × (total .run ≤ 1000000000) ⌝ }
+    ensures { λ r. ⌜ (r .differ ≤ r .run) × (r .run ≤ total .run + 1000000) ⌝ }
+{
+    let fd = os::open_read(name);
+    if fd < 0 {
+        os::fail(name);
+        return total;
+    }
+    let tally = run_lines(fd);
+    libc::close(fd);
+    print_tally(name, tally);
+    Tally {
+        run: total.run + tally.run,
+        differ: total.differ + tally.differ,
+    }
+}
+
+fn main() {
+    print_text(b"file run differ\n");
+    let none = Tally { run: 0, differ: 0 };
+    let one = run_file(b"div-testfloat.txt", none);
+    let two = run_file(b"div-glibc.txt", one);
+    let three = run_file(b"div-llvm.txt", two);
+    let four = run_file(b"div-mpfr.txt", three);
+    let five = run_file(b"div-nan.txt", four);
+    print_tally(b"total", five);
+}

@@ -1,0 +1,31 @@
+/* The same division in C, to measure against: document 01's recurrence step by step, the same with the next column known
+   ahead of the words, and binary64 division over each. */
+#ifndef BASELINE_H
+#define BASELINE_H
+
+#include <stdint.h>
+
+typedef struct {
+  uint64_t quotient, remainder;
+} baseline_ran;
+
+typedef struct {
+  uint64_t pattern, flags;
+} baseline_binary64;
+
+/* The recurrence as document 01 writes it: the column from the two words, then the words, at each step. */
+baseline_ran plain_run(const uint8_t *table, uint64_t dividend, uint64_t divisor, int digits, uint8_t *out);
+
+/* The same digits, the next column worked out from the top bits of the words and of the chosen multiple. */
+baseline_ran ahead_run(const uint8_t *table, uint64_t dividend, uint64_t divisor, int digits, uint8_t *out);
+
+baseline_binary64 plain_binary64(const uint8_t *table, uint64_t a, uint64_t b, uint64_t direction);
+baseline_binary64 ahead_binary64(const uint8_t *table, uint64_t a, uint64_t b, uint64_t direction);
+
+/* The number of bad cells of a table, cell by cell in 128-bit whole numbers. */
+int plain_check(const uint8_t *table);
+
+/* The processor's own division, nearest, without flags. */
+uint64_t processor_binary64(uint64_t a, uint64_t b);
+
+#endif

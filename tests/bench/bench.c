@@ -1,0 +1,217 @@
+/* Measures the unit beside the same division in C, interleaved round by round, and keeps the best round of each.
+     bench            times and ratios
+     bench NAME N     N calls of one measure and nothing else, for a count of instructions */
+#include "baseline.h"
+#include "quendaric.h"
+#include <math.h>
+#include <stdio.h>
+#include <stdlib.h>
+#include <string.h>
+#include <time.h>
+
+#ifdef SOFTFLOAT
+#include "softfloat.h"
+#endif
+
+enum { PAIRS = 1024, ROUNDS = 600 };
+
+static uint8_t table[QUENDARIC_TABLE_LENGTH];
+static uint64_t dividend[PAIRS], divisor[PAIRS], a[PAIRS], b[PAIRS];
+static uint8_t out[40];
+static int digits = 28;
+
+static uint64_t run_plain(int i, uint64_t x) { return plain_run(table, dividend[i] ^ (x & 255), divisor[i], digits, out).quotient; }
+static uint64_t run_ahead(int i, uint64_t x) { return ahead_run(table, dividend[i] ^ (x & 255), divisor[i], digits, out).quotient; }
+static uint64_t run_kept(int i, uint64_t x) { return quendaric_run_kept(dividend[i] ^ (x & 255), divisor[i], digits, out, sizeof out, 0).quotient; }
+static uint64_t run_lent(int i, uint64_t x) { return quendaric_run(table, sizeof table, dividend[i] ^ (x & 255), divisor[i], digits, out, sizeof out, 0).quotient; }
+static uint64_t check(int i, uint64_t x) { (void)i; return quendaric_check_table(table, sizeof table).refusal ^ x; }
+static uint64_t check_plain(int i, uint64_t x) { (void)i; return (uint64_t)plain_check(table) ^ x; }
+static uint64_t b64_plain(int i, uint64_t x) { return plain_binary64(table, a[i] ^ (x & 255), b[i], 0).pattern; }
+static uint64_t b64_ahead(int i, uint64_t x) { return ahead_binary64(table, a[i] ^ (x & 255), b[i], 0).pattern; }
+static uint64_t b64_kept(int i, uint64_t x) { return quendaric_divide_binary64_kept(a[i] ^ (x & 255), b[i], 0).pattern; }
+static uint64_t b64_processor(int i, uint64_t x) { return processor_binary64(a[i] ^ (x & 255), b[i]); }
+static uint64_t whole_kept(int i, uint64_t x) { return quendaric_divide_whole_kept((a[i] ^ x) >> 4, divisor[i] >> (2 + i % 56)).quotient; }
+#ifdef SOFTFLOAT
+static uint64_t b64_softfloat(int i, uint64_t x) {
+  float64_t u = {a[i] ^ (x & 255)}, v = {b[i]};
+  return f64_div(u, v).v;
+}
+#endif
+
+typedef struct {
+  const char *name, *what;
+  uint64_t (*call)(int, uint64_t);
+  int calls; /* in a round */
+  double apart, chained; /* best ns a call: calls that do not wait for each other, and calls that do */
+} measure;
+
+static measure measures[] = {
+    {"run-plain", "C, document 01's recurrence, 28 digits", run_plain, PAIRS, 0, 0},
+    {"run-ahead", "C, the same fast algorithm, 28 digits", run_ahead, PAIRS, 0, 0},
+    {"run-kept", "unit, kept run, 28 digits", run_kept, PAIRS, 0, 0},
+    {"run-lent", "unit, lent run, 28 digits (checks the table)", run_lent, 32, 0, 0},
+    {"check", "unit, check of a passing table", check, 32, 0, 0},
+    {"check-plain", "C, count of bad cells, 128-bit numbers", check_plain, 8, 0, 0},
+    {"b64-plain", "C, binary64 over document 01's recurrence", b64_plain, PAIRS, 0, 0},
+    {"b64-ahead", "C, binary64 over the fast algorithm", b64_ahead, PAIRS, 0, 0},
+    {"b64-kept", "unit, kept binary64", b64_kept, PAIRS, 0, 0},
+    {"b64-processor", "the processor's binary64", b64_processor, PAIRS, 0, 0},
+#ifdef SOFTFLOAT
+    {"b64-softfloat", "SoftFloat f64_div", b64_softfloat, PAIRS, 0, 0},
+#endif
+    {"whole-kept", "unit, kept whole numbers, mixed sizes", whole_kept, PAIRS, 0, 0},
+};
+enum { MEASURES = sizeof measures / sizeof *measures };
+
+static double now(void) {
+  struct timespec t;
+  clock_gettime(CLOCK_MONOTONIC, &t);
+  return t.tv_sec * 1e9 + t.tv_nsec;
+}
+
+static uint64_t bits(void) {
+  static uint64_t state = 1;
+  uint64_t z = state += 0x9E3779B97F4A7C15ull;
+  z = (z ^ z >> 30) * 0xBF58476D1CE4E5B9ull;
+  z = (z ^ z >> 27) * 0x94D049BB133111EBull;
+  return z ^ z >> 31;
+}
+
+static volatile uint64_t sink;
+
+static void prepare(void) {
+  quendaric_make_table(table, sizeof table);
+  for (int i = 0; i < PAIRS; i++) {
+    a[i] = (bits() & 0x800fffffffffffffull) | (823 + bits() % 400) << 52;
+    b[i] = (bits() & 0x800fffffffffffffull) | (823 + bits() % 400) << 52;
+    dividend[i] = ((a[i] & 0xfffffffffffffull) | 1ull << 52) << 8;
+    divisor[i] = ((b[i] & 0xfffffffffffffull) | 1ull << 52) << 8;
+  }
+}
+
+/* Every way gives the same answers before any is timed. */
+static int agree(void) {
+  int differ = 0;
+  for (int i = 0; i < PAIRS; i++) {
+    uint8_t x[28], y[28], z[28];
+    baseline_ran p = plain_run(table, dividend[i], divisor[i], 28, x), q = ahead_run(table, dividend[i], divisor[i], 28, y);
+    quendaric_ran r = quendaric_run_kept(dividend[i], divisor[i], 28, z, 28, 0);
+    differ += p.quotient != r.quotient || p.remainder != r.remainder || memcmp(x, z, 28);
+    differ += q.quotient != r.quotient || q.remainder != r.remainder || memcmp(y, z, 28);
+    for (uint64_t d = 0; d < 4; d++) {
+      uint64_t u = i % 2 ? a[i] : bits(), v = i % 4 > 1 ? b[i] : bits();
+      baseline_binary64 s = plain_binary64(table, u, v, d), t = ahead_binary64(table, u, v, d);
+      quendaric_binary64 w = quendaric_divide_binary64_kept(u, v, d);
+      differ += s.pattern != w.pattern || s.flags != w.flags || t.pattern != w.pattern || t.flags != w.flags;
+    }
+    differ += processor_binary64(a[i], b[i]) != quendaric_divide_binary64_kept(a[i], b[i], 0).pattern;
+#ifdef SOFTFLOAT
+    differ += b64_softfloat(i, 0) != quendaric_divide_binary64_kept(a[i], b[i], 0).pattern;
+#endif
+  }
+  differ += plain_check(table) != 0 || quendaric_check_table(table, sizeof table).refusal != 0;
+  return differ;
+}
+
+static double timed(measure *m, int chained) {
+  uint64_t x = 0;
+  double start = now();
+  if (chained)
+    for (int i = 0; i < m->calls; i++)
+      x = m->call(i, x);
+  else
+    for (int i = 0; i < m->calls; i++)
+      x ^= m->call(i, 0);
+  double t = (now() - start) / m->calls;
+  sink = x;
+  return t;
+}
+
+static void keep(double *best, double t) {
+  if (*best == 0 || t < *best)
+    *best = t;
+}
+
+static const measure *named(const char *name) {
+  for (int j = 0; j < MEASURES; j++)
+    if (!strcmp(measures[j].name, name))
+      return &measures[j];
+  fprintf(stderr, "no measure %s\n", name);
+  exit(2);
+}
+
+static void ratio(const char *what, const char *x, const char *y, double target) {
+  double r = named(x)->apart / named(y)->apart, c = named(x)->chained / named(y)->chained;
+  printf("%-58s %7.2f %7.2f", what, r, c);
+  if (target > 0)
+    printf("   at most %g: %s", target, r <= target ? "met" : "MISSED");
+  printf("\n");
+}
+
+/* Time over n from 1 to 31 digits, and the straight line nearest to it. */
+static void growth(void) {
+  static const char *const names[] = {"run-plain", "run-ahead", "run-kept"};
+  static const int shown[] = {1, 7, 14, 21, 28, 31};
+  double best[3][32] = {{0}};
+  for (int round = 0; round < ROUNDS / 4; round++)
+    for (digits = 1; digits <= 31; digits++)
+      for (int j = 0; j < 3; j++) {
+        measure m = *named(names[j]);
+        keep(&best[j][digits], timed(&m, 0));
+      }
+  digits = 28;
+  printf("growth over n digits, ns:");
+  for (int k = 0; k < 6; k++)
+    printf("%8s%-2d", "n = ", shown[k]);
+  printf("   nearest line\n");
+  for (int j = 0; j < 3; j++) {
+    double n = 31, sx = 0, sy = 0, sxx = 0, sxy = 0, most = 0;
+    for (int k = 1; k <= 31; k++)
+      sx += k, sy += best[j][k], sxx += k * k, sxy += k * best[j][k];
+    double slope = (n * sxy - sx * sy) / (n * sxx - sx * sx), start = (sy - slope * sx) / n;
+    for (int k = 1; k <= 31; k++)
+      most = fmax(most, fabs(best[j][k] - start - slope * k));
+    printf("%-25s", names[j]);
+    for (int k = 0; k < 6; k++)
+      printf("%10.1f", best[j][shown[k]]);
+    printf("   %.1f + %.2f n, within %.1f\n", start, slope, most);
+  }
+}
+
+int main(int argc, char **argv) {
+  prepare();
+  if (argc == 3) {
+    const measure *m = named(argv[1]);
+    for (int i = 0, n = atoi(argv[2]); i < n; i++)
+      sink = m->call(i % PAIRS, 0);
+    return 0;
+  }
+  int differ = agree();
+  printf("answers that differ between the ways: %d\n", differ);
+  if (differ)
+    return 1;
+  for (int round = 0; round < ROUNDS; round++)
+    for (int j = 0; j < MEASURES; j++) {
+      keep(&measures[j].apart, timed(&measures[j], 0));
+      keep(&measures[j].chained, timed(&measures[j], 1));
+    }
+  printf("%-58s %7s %7s\n", "best of rounds, ns a call", "apart", "chained");
+  for (int j = 0; j < MEASURES; j++)
+    printf("%-58s %7.1f %7.1f\n", measures[j].what, measures[j].apart, measures[j].chained);
+  printf("\n%-58s %7s %7s\n", "ratios", "apart", "chained");
+  ratio("kept run / the same recurrence in C", "run-kept", "run-plain", 0.65);
+  ratio("kept run / the same fast algorithm in C", "run-kept", "run-ahead", 1.10);
+  ratio("kept binary64 / binary64 over the recurrence in C", "b64-kept", "b64-plain", 0.65);
+  ratio("kept binary64 / binary64 over the fast algorithm in C", "b64-kept", "b64-ahead", 0);
+  ratio("kept binary64 / the processor", "b64-kept", "b64-processor", 0);
+#ifdef SOFTFLOAT
+  ratio("kept binary64 / SoftFloat", "b64-kept", "b64-softfloat", 0);
+#endif
+  ratio("check of a passing table / kept run", "check", "run-kept", 250);
+  ratio("check of a passing table / C count in 128-bit numbers", "check", "check-plain", 0);
+  double lent = named("run-lent")->apart - named("check")->apart;
+  printf("%-58s %7.1f\n", "lent run less a check, ns", lent);
+  printf("%-58s %7.2f\n\n", "the same / the same recurrence in C", lent / named("run-plain")->apart);
+  growth();
+  return 0;
+}

@@ -1,0 +1,134 @@
+//! The C interface, as include/quendaric.h declares it.
+
+#[repr(C)]
+#[derive(Clone, Copy, Debug, Default, PartialEq, Eq)]
+pub struct Cell {
+    pub refusal: u64,
+    pub place: u64,
+    pub allowed: u64,
+    pub divisor: u64,
+    pub remainder: i64,
+}
+
+#[repr(C)]
+#[derive(Clone, Copy, Debug, Default, PartialEq, Eq)]
+pub struct Table {
+    pub refusal: u64,
+    pub place: u64,
+    pub count: u64,
+    pub row: u64,
+    pub column: u64,
+    pub divisor: u64,
+    pub remainder: i64,
+}
+
+#[repr(C)]
+#[derive(Clone, Copy, Debug, Default, PartialEq, Eq)]
+pub struct Limits {
+    pub refusal: u64,
+    pub place: u64,
+    pub limits: [u8; 6],
+}
+
+#[repr(C)]
+#[derive(Clone, Copy, Debug, Default, PartialEq, Eq)]
+pub struct Make {
+    pub refusal: u64,
+    pub place: u64,
+}
+
+#[repr(C)]
+#[derive(Clone, Copy, Debug, Default, PartialEq, Eq)]
+pub struct Run {
+    pub refusal: u64,
+    pub place: u64,
+    pub quotient: u64,
+    pub remainder: u64,
+    pub digits: usize,
+}
+
+#[repr(C)]
+#[derive(Clone, Copy, Debug, Default, PartialEq, Eq)]
+pub struct Whole {
+    pub refusal: u64,
+    pub place: u64,
+    pub quotient: u64,
+    pub remainder: u64,
+}
+
+#[repr(C)]
+#[derive(Clone, Copy, Debug, Default, PartialEq, Eq)]
+pub struct Binary64 {
+    pub refusal: u64,
+    pub place: u64,
+    pub pattern: u64,
+    pub flags: u64,
+}
+
+extern "C" {
+    fn quendaric_check_cell(row: u64, column: u64, byte: u8) -> Cell;
+    fn quendaric_check_table(table: *const u8, length: usize) -> Table;
+    fn quendaric_row_limits(row: u64) -> Limits;
+    fn quendaric_make_table(buffer: *mut u8, length: usize) -> Make;
+    fn quendaric_run(
+        table: *const u8,
+        table_length: usize,
+        dividend: u64,
+        divisor: u64,
+        digits: usize,
+        buffer: *mut u8,
+        buffer_length: usize,
+        place: usize,
+    ) -> Run;
+    fn quendaric_run_kept(
+        dividend: u64,
+        divisor: u64,
+        digits: usize,
+        buffer: *mut u8,
+        buffer_length: usize,
+        place: usize,
+    ) -> Run;
+    fn quendaric_divide_whole(table: *const u8, table_length: usize, a: u64, b: u64) -> Whole;
+    fn quendaric_divide_whole_kept(a: u64, b: u64) -> Whole;
+    fn quendaric_divide_binary64(table: *const u8, table_length: usize, a: u64, b: u64, direction: u64) -> Binary64;
+    fn quendaric_divide_binary64_kept(a: u64, b: u64, direction: u64) -> Binary64;
+}
+
+pub fn check_cell(row: u64, column: u64, byte: u8) -> Cell {
+    unsafe { quendaric_check_cell(row, column, byte) }
+}
+
+pub fn check_table(table: &[u8]) -> Table {
+    unsafe { quendaric_check_table(table.as_ptr(), table.len()) }
+}
+
+pub fn row_limits(row: u64) -> Limits {
+    unsafe { quendaric_row_limits(row) }
+}
+
+pub fn make_table(buffer: &mut [u8]) -> Make {
+    unsafe { quendaric_make_table(buffer.as_mut_ptr(), buffer.len()) }
+}
+
+/// Through a lent table, or through the kept one.
+pub fn run(table: Option<&[u8]>, dividend: u64, divisor: u64, digits: usize, buffer: &mut [u8], place: usize) -> Run {
+    let (start, length) = (buffer.as_mut_ptr(), buffer.len());
+    match table {
+        Some(t) => unsafe { quendaric_run(t.as_ptr(), t.len(), dividend, divisor, digits, start, length, place) },
+        None => unsafe { quendaric_run_kept(dividend, divisor, digits, start, length, place) },
+    }
+}
+
+pub fn divide_whole(table: Option<&[u8]>, a: u64, b: u64) -> Whole {
+    match table {
+        Some(t) => unsafe { quendaric_divide_whole(t.as_ptr(), t.len(), a, b) },
+        None => unsafe { quendaric_divide_whole_kept(a, b) },
+    }
+}
+
+pub fn divide_binary64(table: Option<&[u8]>, a: u64, b: u64, direction: u64) -> Binary64 {
+    match table {
+        Some(t) => unsafe { quendaric_divide_binary64(t.as_ptr(), t.len(), a, b, direction) },
+        None => unsafe { quendaric_divide_binary64_kept(a, b, direction) },
+    }
+}

@@ -1,0 +1,87 @@
+//! Would catch a listing that leaves out or adds a bad cell, prints a wrong witness or number, or takes input of the
+//! wrong length for a table: the program is run on whole inputs and all that it prints is compared.
+use host::document::{rule, CELLS};
+use host::draw::Draw;
+use std::io::Write;
+use std::process::{Command, Stdio};
+
+const SEED: u64 = 0x5EED_0010;
+
+fn listing(input: &[u8]) -> String {
+    let program = concat!(env!("CARGO_MANIFEST_DIR"), "/../../target/bin/listing");
+    let mut child = Command::new(program)
+        .stdin(Stdio::piped())
+        .stdout(Stdio::piped())
+        .spawn()
+        .unwrap_or_else(|e| panic!("{program}: {e}; run `rt check listing` first"));
+    // a program that refuses long input may end before it has read all of it
+    let _ = child.stdin.take().expect("a pipe").write_all(input);
+    let output = child.wait_with_output().expect("the program ends");
+    assert!(output.status.success());
+    String::from_utf8(output.stdout).expect("text")
+}
+
+/// Document 01's listing of an input.
+fn wanted(input: &[u8]) -> String {
+    let report = rule().check(input);
+    if report.refusal == 8 || report.refusal == 9 {
+        return format!("refusal place\n{} {}\n", report.refusal, report.place);
+    }
+    let mut text = String::from("row column digit divisor remainder\n");
+    for (cell, (d, p)) in rule().bad_cells(input) {
+        text += &format!("{} {} {} {d} {p}\n", cell / 128, cell % 128, i16::from(input[cell]) - 2);
+    }
+    text
+}
+
+fn check(input: &[u8]) {
+    assert_eq!(listing(input), wanted(input));
+}
+
+#[test]
+fn worked_example() {
+    let mut table = rule().made();
+    table[215] = 2;
+    let text = "row column digit divisor remainder\n1 87 0 1242993497154256896 3314649325744685056\n";
+    assert_eq!(listing(&table), text);
+    assert_eq!(wanted(&table), text);
+}
+
+#[test]
+fn passing_tables_print_one_line() {
+    let mut draw = Draw::new(SEED);
+    check(&rule().made());
+    check(&rule().farthest());
+    check(&rule().passing(&mut draw));
+}
+
+#[test]
+fn lengths() {
+    let made = rule().made();
+    for length in [0, 1, 2047, 2049, 2050, 5000, 100_000] {
+        let input: Vec<u8> = made.iter().copied().cycle().take(length).collect();
+        check(&input);
+    }
+}
+
+#[test]
+fn damaged_and_random_tables() {
+    println!("seed {SEED:x}");
+    let mut draw = Draw::new(SEED + 1);
+    for turn in 0..150u64 {
+        let mut table = rule().passing(&mut draw);
+        for _ in 0..draw.below(60) {
+            table[draw.below(CELLS as u64) as usize] = draw.below(5 + turn % 10 / 9) as u8;
+        }
+        check(&table);
+    }
+    for bound in [5, 6, 256] {
+        let table: Vec<u8> = (0..CELLS).map(|_| draw.below(bound) as u8).collect();
+        check(&table);
+    }
+    // bad in every cell that has a point; a byte above 4 behind a bad cell
+    let mut worst: Vec<u8> = rule().made().iter().map(|b| if *b < 2 { 4 } else { 0 }).collect();
+    check(&worst);
+    worst[2000] = 5;
+    check(&worst);
+}

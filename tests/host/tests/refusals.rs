@@ -1,0 +1,194 @@
+//! Would catch a refusal that is missing, raised without its condition, out of order, with a wrong place or with values
+//! that are not zeros, and a call that touches a lent buffer when it refuses or writes past its end.
+use host::calls::{self, Binary64, Cell, Limits, Make, Run, Whole};
+use host::document::{rule, run, CELLS};
+
+const CANARY: u8 = 0xA5;
+
+/// Tables that pass and that do not, each with the refusal and place that a call gives for it.
+fn tables() -> Vec<(Vec<u8>, u64, u64)> {
+    let made = rule().made();
+    let with = |changes: &[(usize, u8)]| {
+        let mut table = made.clone();
+        for &(cell, byte) in changes {
+            table[cell] = byte;
+        }
+        table
+    };
+    let mut list = vec![
+        (made.clone(), 0, 0),
+        (rule().farthest(), 0, 0),
+        (Vec::new(), 8, 0),
+        (made[..2047].to_vec(), 8, 0),
+        ([&made[..], &[2]].concat(), 8, 0),
+        // too short, and a byte above 4, and a bad cell: 8 goes first
+        (with(&[(40, 9), (215, 2)])[..2000].to_vec(), 8, 0),
+        (with(&[(0, 5)]), 9, 0),
+        (with(&[(2047, 255)]), 9, 2047),
+        // a byte above 4 goes before an earlier bad cell
+        (with(&[(215, 2), (1000, 5), (1500, 7)]), 9, 1000),
+        (with(&[(215, 2)]), 10, 215),
+        (with(&[(215, 2), (1234, 0), (60, 0)]), 10, 60),
+    ];
+    for (table, refusal, place) in &mut list {
+        let report = rule().check(table);
+        assert_eq!((report.refusal, report.place), (*refusal, *place));
+    }
+    list.push((vec![2; CELLS], rule().check(&vec![2; CELLS]).refusal, rule().check(&vec![2; CELLS]).place));
+    list
+}
+
+/// The first condition that holds, in the order of the numbers; then the table's.
+fn first(conditions: &[(u64, bool)], table: (u64, u64)) -> (u64, u64) {
+    conditions.iter().find(|(_, holds)| *holds).map_or(table, |&(number, _)| (number, 0))
+}
+
+#[test]
+fn single_cell() {
+    for row in [0, 1, 15, 16, 17, 1 << 32, u64::MAX] {
+        for column in [0, 87, 127, 128, 1 << 32, u64::MAX] {
+            for byte in 0..=255u8 {
+                let got = calls::check_cell(row, column, byte);
+                let conditions = [(1, row > 15 || column > 127)];
+                let own = if byte > 4 { (9, row.wrapping_mul(128).wrapping_add(column)) } else { (0, 0) };
+                let (refusal, place) = first(&conditions, own);
+                if refusal != 0 {
+                    assert_eq!(got, Cell { refusal, place, ..Default::default() }, "{row} {column} {byte}");
+                } else {
+                    assert_eq!((got.refusal, got.place), (0, 0), "{row} {column} {byte}");
+                }
+            }
+        }
+    }
+}
+
+#[test]
+fn row_limits() {
+    for row in [16, 17, 255, 256, 1 << 32, u64::MAX] {
+        assert_eq!(calls::row_limits(row), Limits { refusal: 1, ..Default::default() });
+    }
+    for row in 0..16 {
+        assert_eq!(calls::row_limits(row).refusal, 0);
+    }
+}
+
+#[test]
+fn maker() {
+    for length in [0, 1, 2047, 2048, 2049] {
+        let mut space = vec![CANARY; length + 64];
+        let answer = calls::make_table(&mut space[32..32 + length]);
+        if length < CELLS {
+            assert_eq!(answer, Make { refusal: 7, place: 0 });
+            assert!(space.iter().all(|&b| b == CANARY), "length {length}");
+        } else {
+            assert_eq!(answer, Make::default());
+            assert!(space[..32].iter().chain(&space[32 + CELLS..]).all(|&b| b == CANARY), "length {length}");
+            assert_eq!(space[32..32 + CELLS], rule().made()[..]);
+        }
+    }
+}
+
+#[test]
+fn runs() {
+    let tables = tables();
+    let lent: Vec<_> = tables.iter().map(|(t, n, p)| (Some(t.as_slice()), (*n, *p))).collect();
+    let all: Vec<_> = lent.into_iter().chain([(None, (0, 0))]).collect();
+    let made = rule().made();
+    let (low, high) = (1u64 << 60, (1u64 << 61) - 1);
+    let mut seen = std::collections::BTreeMap::new();
+    for (table, faults) in all {
+        for digits in [0, 1, 28, 31, 32, usize::MAX] {
+            for (dividend, divisor) in [
+                (0, low),
+                (high, high),
+                (high, low),
+                (high + 1, low),
+                (u64::MAX, u64::MAX),
+                (5, low - 1),
+                (5, high + 1),
+                (0, 0),
+            ] {
+                for (length, place) in [
+                    (40usize, 0usize),
+                    (40, 40usize.saturating_sub(digits)),
+                    (40, 41usize.saturating_sub(digits)),
+                    (40, 39),
+                    (40, 40),
+                    (40, 41),
+                    (40, usize::MAX),
+                    (0, 0),
+                    (digits.min(64), 0),
+                ] {
+                    let fits = place <= length && length - place >= digits;
+                    let conditions = [
+                        (2, digits == 0 || digits > 31),
+                        (3, !(low..=high).contains(&divisor) || dividend > high),
+                        (7, !fits),
+                    ];
+                    let (refusal, at) = first(&conditions, faults);
+                    *seen.entry(refusal).or_insert(0) += 1;
+                    let mut space = vec![CANARY; length + 64];
+                    let got = calls::run(table, dividend, divisor, digits, &mut space[32..32 + length], place);
+                    if refusal != 0 {
+                        assert_eq!(got, Run { refusal, place: at, ..Default::default() });
+                        assert!(space.iter().all(|&b| b == CANARY), "a refused run touched its buffer");
+                        continue;
+                    }
+                    let trace = run(table.unwrap_or(&made), dividend, divisor, digits);
+                    let (quotient, remainder) = (trace.quotient as u64, trace.remainder as u64);
+                    assert_eq!(got, Run { refusal: 0, place: 0, quotient, remainder, digits });
+                    let mut want = vec![CANARY; length + 64];
+                    want[32 + place..32 + place + digits].copy_from_slice(&trace.digits);
+                    assert_eq!(space, want);
+                }
+            }
+        }
+    }
+    assert_eq!(seen.keys().copied().collect::<Vec<u64>>(), [0, 2, 3, 7, 8, 9, 10]);
+}
+
+#[test]
+fn whole_numbers() {
+    let tables = tables();
+    let lent: Vec<_> = tables.iter().map(|(t, n, p)| (Some(t.as_slice()), (*n, *p))).collect();
+    let values = [0, 1, 2, 7, (1 << 60) - 1, 1 << 60, (1 << 60) + 1, u64::MAX];
+    for (table, faults) in lent.into_iter().chain([(None, (0, 0))]) {
+        for a in values {
+            for b in values {
+                let conditions = [(4, a >= 1 << 60 || b >= 1 << 60), (5, b == 0)];
+                let (refusal, place) = first(&conditions, faults);
+                let want = match refusal {
+                    0 => Whole { refusal, place, quotient: a / b, remainder: a % b },
+                    _ => Whole { refusal, place, ..Default::default() },
+                };
+                assert_eq!(calls::divide_whole(table, a, b), want, "{a} / {b}");
+            }
+        }
+    }
+}
+
+#[test]
+fn binary64() {
+    let tables = tables();
+    let lent: Vec<_> = tables.iter().map(|(t, n, p)| (Some(t.as_slice()), (*n, *p))).collect();
+    let nan = 0x7FF8_0000_0000_0001u64;
+    let values = [0, 1, 1 << 63, 0x3FF0 << 48, 0x4008 << 48, 0x7FEF_FFFF_FFFF_FFFF, 0x7FF0 << 48, nan];
+    for (table, faults) in lent.into_iter().chain([(None, (0, 0))]) {
+        for direction in [0, 1, 2, 3, 4, 5, 1 << 32, u64::MAX] {
+            for a in values {
+                for b in values {
+                    let (refusal, place) = first(&[(6, direction > 3)], faults);
+                    let want = match refusal {
+                        0 => {
+                            let (pattern, flags) = host::dividers::exact(a, b, direction);
+                            Binary64 { refusal, place, pattern, flags }
+                        }
+                        _ => Binary64 { refusal, place, ..Default::default() },
+                    };
+                    let got = calls::divide_binary64(table, a, b, direction);
+                    assert_eq!(got, want, "{a:016x} / {b:016x}, direction {direction}");
+                }
+            }
+        }
+    }
+}

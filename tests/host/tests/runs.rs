@@ -1,0 +1,89 @@
+//! Would catch a run whose digits are not the table's, whose quotient or remainder is not that of the division, which
+//! pads or shortens its digits, or which writes a byte outside the n it was lent.
+use host::calls;
+use host::document::{rule, run};
+use host::draw::Draw;
+
+const SEED: u64 = 0x5EED_0031;
+
+/// One run through the unit and through the model: answer, digits and every other byte of the buffer.
+fn check(lent: Option<&[u8]>, model: &[u8], dividend: u64, divisor: u64, digits: usize, draw: &mut Draw) {
+    let trace = run(model, dividend, divisor, digits);
+    // the model itself: words and true remainder agree, and the remainder stays in range
+    assert_eq!(trace.words, trace.remainders);
+    assert!(trace.remainders.iter().all(|p| 3 * p.abs() <= 8 * i128::from(divisor)));
+    let scaled = u128::from(dividend) << (2 * (digits - 1));
+    assert_eq!(trace.quotient as u128, scaled / u128::from(divisor));
+    assert_eq!(trace.remainder as u128, scaled % u128::from(divisor));
+
+    let before: Vec<u8> = (0..digits + draw.below(40) as usize).map(|_| draw.bits() as u8).collect();
+    let place = draw.below((before.len() - digits + 1) as u64) as usize;
+    let mut want = before.clone();
+    want[place..place + digits].copy_from_slice(&trace.digits);
+    let mut buffer = before;
+    let got = calls::run(lent, dividend, divisor, digits, &mut buffer, place);
+    let answer =
+        calls::Run { refusal: 0, place: 0, quotient: trace.quotient as u64, remainder: trace.remainder as u64, digits };
+    assert_eq!(got, answer, "{dividend} / {divisor}, {digits} digits");
+    assert_eq!(buffer, want, "{dividend} / {divisor}, {digits} digits at {place}");
+}
+
+/// A divisor and a dividend: random, or at the edges of a row and of the spans.
+fn operands(draw: &mut Draw) -> (u64, u64) {
+    let row = draw.below(16);
+    let divisor = match draw.below(4) {
+        0 => ((16 + row) << 56) + draw.below(3),
+        1 => ((17 + row) << 56) - 1 - draw.below(3),
+        _ => 1 << 60 | draw.bits() >> 4,
+    };
+    let dividend = match draw.below(6) {
+        0 => draw.below(4),
+        1 => (1 << 61) - 1 - draw.below(4),
+        2 => divisor,
+        3 => (divisor + draw.below(7)).saturating_sub(3).min((1 << 61) - 1),
+        _ => draw.bits() >> 3,
+    };
+    (dividend, divisor)
+}
+
+#[test]
+fn kept_table() {
+    println!("seed {SEED:x}");
+    let mut draw = Draw::new(SEED);
+    let made = rule().made();
+    for turn in 0..300_000 {
+        let (dividend, divisor) = operands(&mut draw);
+        check(None, &made, dividend, divisor, 1 + turn % 31, &mut draw);
+    }
+}
+
+#[test]
+fn lent_passing_tables() {
+    let mut draw = Draw::new(SEED + 1);
+    let mut tables = vec![rule().made(), rule().farthest()];
+    for _ in 0..48 {
+        tables.push(rule().passing(&mut draw));
+    }
+    for table in &tables {
+        for turn in 0..400 {
+            let (dividend, divisor) = operands(&mut draw);
+            check(Some(table), table, dividend, divisor, 1 + turn % 31, &mut draw);
+        }
+    }
+}
+
+#[test]
+fn two_passing_tables_give_one_quotient_by_different_digits() {
+    let mut draw = Draw::new(SEED + 2);
+    let (made, farthest) = (rule().made(), rule().farthest());
+    let mut different = 0;
+    for _ in 0..2_000 {
+        let (dividend, divisor) = operands(&mut draw);
+        let (mut x, mut y) = ([0u8; 28], [0u8; 28]);
+        let a = calls::run(Some(&made), dividend, divisor, 28, &mut x, 0);
+        let b = calls::run(Some(&farthest), dividend, divisor, 28, &mut y, 0);
+        assert_eq!(a, b, "{dividend} / {divisor}");
+        different += u32::from(x != y);
+    }
+    assert!(different > 500, "the tables differ in {different} runs only");
+}

@@ -1,0 +1,74 @@
+//! Would catch a check that passes a damaged table or refuses a passing one, a wrong number of bad cells, and a first
+//! cell or witness that is not the first or not the least.
+use host::calls::check_table;
+use host::document::{rule, CELLS};
+use host::draw::Draw;
+
+const SEED: u64 = 0x5EED_2048;
+
+#[test]
+fn passing_tables_pass() {
+    let mut draw = Draw::new(SEED);
+    for turn in 0..500 {
+        let table = match turn {
+            0 => rule().made(),
+            1 => rule().farthest(),
+            _ => rule().passing(&mut draw),
+        };
+        assert_eq!(check_table(&table), Default::default());
+    }
+}
+
+#[test]
+fn each_single_damage_is_found() {
+    let made = rule().made();
+    let mut refused = 0;
+    for cell in 0..CELLS {
+        for byte in 0..5 {
+            let mut table = made.clone();
+            table[cell] = byte;
+            let got = check_table(&table);
+            assert_eq!(got, rule().check(&table), "cell {cell}, byte {byte}");
+            refused += u32::from(got.refusal == 10);
+        }
+    }
+    assert_eq!(refused, 4_176);
+}
+
+#[test]
+fn damaged_tables() {
+    println!("seed {SEED:x}");
+    let mut draw = Draw::new(SEED + 1);
+    for turn in 0..3_000 {
+        let mut table = rule().passing(&mut draw);
+        let changes = draw.below([4, 40, 4000][turn % 3]);
+        // every third table may hold bytes above 4, which go before any bad cell
+        let bound = if turn % 9 < 6 { 5 } else { 8 };
+        for _ in 0..changes {
+            table[draw.below(CELLS as u64) as usize] = draw.below(bound) as u8;
+        }
+        assert_eq!(check_table(&table), rule().check(&table), "table {turn}");
+    }
+}
+
+#[test]
+fn whole_tables_of_one_byte() {
+    for byte in 0..=255 {
+        let table = vec![byte; CELLS];
+        assert_eq!(check_table(&table), rule().check(&table), "byte {byte}");
+    }
+    // the opposite digit in every cell that has a point
+    let worst: Vec<u8> = rule().made().iter().map(|b| if *b < 2 { 4 } else { 0 }).collect();
+    let got = check_table(&worst);
+    assert_eq!(got, rule().check(&worst));
+    assert_eq!(got.count, 1_072);
+}
+
+#[test]
+fn other_lengths_are_refused() {
+    let made = rule().made();
+    for length in [0, 1, 127, 2047, 2049, 4096] {
+        let table: Vec<u8> = made.iter().copied().cycle().take(length).collect();
+        assert_eq!(check_table(&table), rule().check(&table), "length {length}");
+    }
+}

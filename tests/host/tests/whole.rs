@@ -1,0 +1,63 @@
+//! Would catch a whole-number quotient or remainder that is off: a normalising shift lost, a digit too few, a wrong end
+//! correction, an edge of the spans taken wrongly.
+use host::calls::{divide_whole, Whole};
+use host::document::rule;
+use host::draw::Draw;
+
+const SEED: u64 = 0x5EED_0060;
+const TOP: u64 = (1 << 60) - 1;
+
+/// The machine's own division, and that the answer multiplies back without wrapping.
+fn check(table: Option<&[u8]>, a: u64, b: u64) {
+    let want = Whole { refusal: 0, place: 0, quotient: a / b, remainder: a % b };
+    let got = divide_whole(table, a, b);
+    assert_eq!(got, want, "{a} / {b}");
+    assert_eq!(u128::from(got.quotient) * u128::from(b) + u128::from(got.remainder), u128::from(a), "{a} / {b}");
+}
+
+fn edges() -> Vec<u64> {
+    let mut list: Vec<u64> = (1..40).collect();
+    for k in 1..60 {
+        for x in [(1u64 << k) - 1, 1 << k, (1 << k) + 1, 3 << k >> 1, (1 << k) + (1 << (k / 2))] {
+            list.push(x.clamp(1, TOP));
+        }
+    }
+    list.extend([TOP - 1, TOP, 4195835, 3145727]);
+    list
+}
+
+#[test]
+fn kept_table_at_the_edges() {
+    let list = edges();
+    for &b in &list {
+        check(None, 0, b);
+        for &a in &list {
+            check(None, a, b);
+        }
+    }
+}
+
+#[test]
+fn kept_table_on_drawn_numbers() {
+    println!("seed {SEED:x}");
+    let mut draw = Draw::new(SEED);
+    for _ in 0..3_000_000 {
+        let (a, b) = (draw.whole(), draw.whole().max(1));
+        check(None, a, b);
+        // a multiple of b and its neighbours
+        let near = a / b * b;
+        check(None, near, b);
+        check(None, near.saturating_sub(1), b);
+    }
+}
+
+#[test]
+fn lent_tables() {
+    let mut draw = Draw::new(SEED + 1);
+    for _ in 0..40 {
+        let table = rule().passing(&mut draw);
+        for _ in 0..300 {
+            check(Some(&table), draw.whole(), draw.whole().max(1));
+        }
+    }
+}
