@@ -13,7 +13,7 @@
 #include "softfloat.h"
 #endif
 
-enum { PAIRS = 1024, ROUNDS = 600 };
+enum { PAIRS = 1024, ROUNDS = 600, DIFFERENCES = 4001 };
 
 static uint8_t table[QUENDARIC_TABLE_LENGTH];
 static uint64_t dividend[PAIRS], divisor[PAIRS], a[PAIRS], b[PAIRS];
@@ -148,6 +148,33 @@ static void ratio(const char *what, const char *x, const char *y, double target)
   printf("\n");
 }
 
+static int by_size(const void *x, const void *y) {
+  double u = *(const double *)x, v = *(const double *)y;
+  return (u > v) - (u < v);
+}
+
+static void of_lent(const char *what, double quarter[3], const char *than, double target) {
+  double t = named(than)->apart;
+  printf("%-58s %7.2f %7.2f %7.2f   at most %g: %s\n", what, quarter[0] / t, quarter[1] / t, quarter[2] / t, target,
+         quarter[1] / t <= target ? "met" : "MISSED");
+}
+
+/* The lent run without its check cannot be called: a round of lent runs less a round of checks beside it, many times over.
+   The middle difference, and those a quarter of the way from either end. */
+static void lent_alone(void) {
+  static double difference[DIFFERENCES];
+  measure lent = *named("run-lent"), alone = *named("check");
+  for (int i = 0; i < DIFFERENCES; i++)
+    difference[i] = timed(&lent, 0) - timed(&alone, 0);
+  qsort(difference, DIFFERENCES, sizeof *difference, by_size);
+  double quarter[3] = {difference[DIFFERENCES / 4], difference[DIFFERENCES / 2], difference[3 * (DIFFERENCES / 4)]};
+  printf("\n%-58s %7s %7s %7s\n", "a lent run less a check, of many differences", "quarter", "middle", "quarter");
+  printf("%-58s %7.1f %7.1f %7.1f\n", "ns a call", quarter[0], quarter[1], quarter[2]);
+  of_lent("the same / the same recurrence in C", quarter, "run-plain", 0.65);
+  of_lent("the same / the same fast algorithm in C", quarter, "run-ahead", 1.10);
+  printf("\n");
+}
+
 /* Time over n from 1 to 31 digits, and the straight line nearest to it. */
 static void growth(void) {
   static const char *const names[] = {"run-plain", "run-ahead", "run-kept"};
@@ -209,9 +236,7 @@ int main(int argc, char **argv) {
 #endif
   ratio("check of a passing table / kept run", "check", "run-kept", 250);
   ratio("check of a passing table / C count in 128-bit numbers", "check", "check-plain", 0);
-  double lent = named("run-lent")->apart - named("check")->apart;
-  printf("%-58s %7.1f\n", "lent run less a check, ns", lent);
-  printf("%-58s %7.2f\n\n", "the same / the same recurrence in C", lent / named("run-plain")->apart);
+  lent_alone();
   growth();
   return 0;
 }

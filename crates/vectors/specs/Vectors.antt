@@ -1,5 +1,5 @@
--- A line of the vector files, 56 bytes: operands a and b, direction, expected pattern (hexadecimal) and flags (two decimal digits), parted by single bytes.
-use mathlib.Core.Bool.{Bool, true, cond, not}
+-- A line of the vector files, 56 bytes: operands a and b, direction, expected pattern (hexadecimal) and flags (two decimal digits), parted by spaces, and the end of line.
+use mathlib.Core.Bool.{Bool, true, false, cond, not}
 use mathlib.Core.List.{List}
 use Prim.Native.Nat.{ℕ, zero, suc, _+_, _*_, _-_}
 use lib.Dec.{ltb, eqb}
@@ -20,6 +20,23 @@ hexOf s at (suc n) = 16 * hexOf s at n + nibbleOf (getD s (at + n) 0)
 -- the case that a line holds
 abbrev pub vectorOf : List ℕ → Vector
 vectorOf s = record { a = hexOf s 0 16; b = hexOf s 17 16; direction = hexOf s 34 1; pattern = hexOf s 36 16; flags = 10 * hexOf s 53 1 + hexOf s 54 1 }
+
+-- 0 to 9 and a to f
+abbrev pub isHex : ℕ → Bool
+isHex c = cond (ltb c 48) false (cond (ltb c 58) true (cond (ltb c 97) false (ltb c 103)))
+
+-- the indices between two fields
+abbrev pub parts : ℕ → Bool
+parts i = cond (eqb i 16) true (cond (eqb i 33) true (cond (eqb i 35) true (eqb i 52)))
+
+-- a line may have the byte c at index i: a space between two fields, an end of line at the end, elsewhere a hexadecimal digit
+abbrev pub fitsAt : ℕ → ℕ → Bool
+fitsAt i c = cond (parts i) (eqb c 32) (cond (eqb i 55) (eqb c 10) (isHex c))
+
+-- the first n bytes fit
+unfoldable pub formedUpto : List ℕ → ℕ → Bool
+formedUpto s zero = true
+formedUpto s (suc n) = cond (formedUpto s n) (fitsAt n (getD s n 0)) false
 
 -- an answer differs from a case: in the pattern, or in the flags, or it is a refusal
 abbrev pub differsFrom : Vector → Binary64Answer → Bool

@@ -3,7 +3,7 @@ ghost use mathlib.Core.Path.{_≡_};
 ghost use Prim.Native.Nat.{_+_, _^_, _≤_, _<_};
 ghost use Rattle.selection.specs.Computed.{madeTable};
 ghost use Rattle.division.specs.Through.{binary64Of};
-ghost use Rattle.vectors.specs.Vectors.{nibbleOf, hexOf, vectorOf, differsFrom};
+ghost use Rattle.vectors.specs.Vectors.{nibbleOf, hexOf, vectorOf, isHex, fitsAt, formedUpto, differsFrom};
 use division::binary64::Binary64Answer;
 use report::print_number;
 use report::print_text;
@@ -48,6 +48,45 @@ fn nibble(c: u8) -> u64
         return (c - 87) as u64;
     }
     0
+}
+
+fn is_hex(c: u8) -> bool
+    ensures { λ r. ⌜ r ≡ isHex c ⌝ }
+{
+    if c < 48 {
+        return false;
+    }
+    if c < 58 {
+        return true;
+    }
+    if c < 97 {
+        return false;
+    }
+    c < 103
+}
+
+// Whether a line may have the byte c at index i.
+fn fits(i: usize, c: u8) -> bool
+    ensures { λ r. ⌜ r ≡ fitsAt i c ⌝ }
+{
+    match i {
+        16 | 33 | 35 | 52 => c == 32,
+        55 => c == 10,
+        _ => is_hex(c),
+    }
+}
+
+fn well_formed(line: &[u8; 56]) -> bool
+    ensures { λ r. ⌜ r ≡ formedUpto (now (line .entry)) 56 ⌝ }
+{
+    let mut i: usize = 0;
+    while i < 56 {
+        if !fits(i, line[i]) {
+            return false;
+        }
+        i += 1;
+    }
+    true
 }
 
 // The number that the n hexadecimal digits from `at` on spell.
@@ -96,7 +135,7 @@ fn differs(v: Vector) -> bool
     }
 }
 
-// The next line of a file. One that is cut short differs.
+// The next line of a file. One that is cut short or not in the form differs.
 fn run_line(fd: i32) -> Ran {
     let mut line = [0u8; 56];
     let length = io::read_full(fd, &mut line);
@@ -104,6 +143,9 @@ fn run_line(fd: i32) -> Ran {
         return Ran::End;
     }
     if length != 56 {
+        return Ran::Differs;
+    }
+    if !well_formed(&line) {
         return Ran::Differs;
     }
     if differs(parse(&line)) {

@@ -1,0 +1,87 @@
+-- `vectors::well_formed` meets its contract: the bytes so far fit, and one that does not settles it.
+use mathlib.Core.Path.{_≡_, refl, subst, sym, ap, _∙_}
+use mathlib.Core.Bool.{Bool, true, false, cond, not}
+use mathlib.Core.List.{List}
+use Prim.Native.Nat.{ℕ, zero, suc, _+_, _-_, _≤_, _<_}
+use native.Mathlib.Nat.{zero-add, suc-add}
+use native.Mathlib.Numerals.{add-one}
+use native.Mathlib.Omega.{arith}
+use lib.ListN.{getD}
+use borrow.Author.Needs.{needs}
+use Rattle.vectors.specs.Vectors.{fitsAt, formedUpto}
+use Rattle.vectors.proofs.well_formed.Statement.{statement}
+use Rattle.vectors.proofs.well_formed.Tie as tie
+
+abbrev Inv-loop : tie.InvT-loop
+Inv-loop line i₀ i = (i ≤ 56) × (formedUpto line i ≡ true)
+
+abbrev μ-loop : tie.MeasureT-loop
+μ-loop line i₀ i = 56 - i
+
+-- the test is of the answer turned round
+turned : (r : Bool) {f b : Bool} → r ≡ f → not r ≡ b → f ≡ not b
+turned true e h = sym e ∙ ap not h
+turned false e h = sym e ∙ ap not h
+
+-- a byte that fits after those that do
+one-more : (s : List ℕ) (i : ℕ) → formedUpto s i ≡ true → fitsAt i (getD s i 0) ≡ true → formedUpto s (i + 1) ≡ true
+unfolding formedUpto
+one-more s i e f = rw (add-one i, e, f)
+
+nothing : (b : Bool) {f : Bool} → f ≡ false → cond b f false ≡ false
+nothing true e = e
+nothing false e = refl
+
+-- a byte that does not fit settles every longer part
+stays : (s : List ℕ) (i k : ℕ) → fitsAt i (getD s i 0) ≡ false → formedUpto s (k + suc i) ≡ false
+unfolding formedUpto
+stays s i zero f = rw (zero-add (suc i)) (nothing (formedUpto s i) f)
+stays s i (suc k) f = rw (suc-add k (suc i), stays s i k f)
+
+settled : (s : List ℕ) (i k : ℕ) {n : ℕ} → n ≡ k + suc i → fitsAt i (getD s i 0) ≡ false → false ≡ formedUpto s n
+settled s i k e f = rw (e, stays s i k f)
+
+all-fit : (s : List ℕ) {i n : ℕ} → i ≡ n → formedUpto s i ≡ true → true ≡ formedUpto s n
+all-fit s e f = sym (subst (λ (k : ℕ). formedUpto s k ≡ true) e f)
+
+loop-holds : tie.Need-loop-holds Inv-loop μ-loop
+unfolding formedUpto
+loop-holds c = (omega arith, refl)
+
+element-copy-out-fits : tie.Need-element-copy-out-fits Inv-loop μ-loop
+element-copy-out-fits c = omega arith
+
+fits-requires : tie.Need-fits-requires Inv-loop μ-loop
+fits-requires c κs = search needs
+
+returns : tie.Need-returns Inv-loop μ-loop
+returns c =
+    let i = c .before .before .before .before .loop .i in
+    settled _ i (56 - (i + 1)) (omega arith) (turned _ (c .before .fits2 .ensures) (c .if1 .taken))
+
+add-i : tie.Need-add-i Inv-loop μ-loop
+add-i c = omega arith
+
+loop-less : tie.Need-loop-less Inv-loop μ-loop
+loop-less c = omega arith
+
+loop-again : tie.Need-loop-again Inv-loop μ-loop
+loop-again c = (omega arith, one-more _ _ (c .before .before .before .before .loop .inv .1) (turned _ (c .before .fits2 .ensures) (c .if1 .left)))
+
+returns-2 : tie.Need-returns-2 Inv-loop μ-loop
+returns-2 c = all-fit _ (omega arith) (c .before .loop .inv .1)
+
+pub well-formed-spec : {M : Type 1} → statement M
+well-formed-spec =
+    tie.close
+    (tie.spec
+    Inv-loop
+    μ-loop
+    loop-holds
+    element-copy-out-fits
+    fits-requires
+    returns
+    add-i
+    loop-less
+    loop-again
+    returns-2)
