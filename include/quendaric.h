@@ -86,7 +86,7 @@ typedef struct {
   uint64_t place;
   uint64_t quotient;
   uint64_t remainder;
-  size_t digits;
+  uint64_t digits;
 } quendaric_ran;
 
 typedef struct {

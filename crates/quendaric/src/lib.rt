@@ -58,7 +58,7 @@ pub struct RunReply {
     pub place: u64,
     pub quotient: u64,
     pub remainder: u64,
-    pub digits: usize,
+    pub digits: u64,
 }
 
 #[repr(C)]
@@ -205,7 +205,7 @@ fn run_reply(x: RunAnswer) -> RunReply
             place: 0,
             quotient: a.quotient,
             remainder: a.remainder,
-            digits: a.count,
+            digits: a.count as u64,
         },
         RunAnswer::Refused(f) => RunReply {
             refusal: f.number,

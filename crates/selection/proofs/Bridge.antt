@@ -131,9 +131,6 @@ cell-known {r} {c} {b} k = simp (le-ltb 15 r (k .row), le-ltb 127 c (k .column),
 pub verdict-checked : {r c b : ℕ} {h : SearchResult} → IsCell r c b → h ≡ searchOf r c b → (cellVerdictOf h ≡ cellOf r c b) × CellChecked r c b (cellVerdictOf h)
 verdict-checked {r} {c} {b} k e = answers r c b (ap cellVerdictOf e ∙ sym (cell-known k))
 
-pub cell-checked-as : {r c b : ℕ} {v w : CellVerdict} → CellChecked r c b v → v ≡ w → CellChecked r c b w
-cell-checked-as {r} {c} {b} j e = subst (CellChecked r c b) e j
-
 pub known-not-refused : {r c b n p : ℕ} {X : Type 0} → IsCell r c b → CellRefused r c b n p → X
 known-not-refused k u = absurd (⊎-elim (λ l. ⊎-elim (λ x. omega arith) (λ x. omega arith) (l .0)) (λ l. omega arith) (u .why))
 

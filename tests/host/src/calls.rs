@@ -44,7 +44,7 @@ pub struct Run {
     pub place: u64,
     pub quotient: u64,
     pub remainder: u64,
-    pub digits: usize,
+    pub digits: u64,
 }
 
 #[repr(C)]

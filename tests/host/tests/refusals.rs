@@ -136,7 +136,7 @@ fn runs() {
                     }
                     let trace = run(table.unwrap_or(&made), dividend, divisor, digits);
                     let (quotient, remainder) = (trace.quotient as u64, trace.remainder as u64);
-                    assert_eq!(got, Run { refusal: 0, place: 0, quotient, remainder, digits });
+                    assert_eq!(got, Run { refusal: 0, place: 0, quotient, remainder, digits: digits as u64 });
                     let mut want = vec![CANARY; length + 64];
                     want[32 + place..32 + place + digits].copy_from_slice(&trace.digits);
                     assert_eq!(space, want);
