@@ -6,7 +6,12 @@ use lib.Dec.{ltb, eqb}
 use lib.ListN.{getD}
 use Rattle.division.specs.declared.binary64.Binary64Answer.{Binary64Answer}
 use Rattle.division.specs.declared.binary64.Binary64Answer.the-variants.{Done, Refused}
+use Rattle.selection.specs.Computed.{madeTable}
+use Rattle.division.specs.Through.{binary64Of}
 use Rattle.vectors.specs.declared.Vector.{Vector}
+use Rattle.vectors.specs.declared.Tally.{Tally}
+use Rattle.vectors.specs.declared.Verdict.{Verdict}
+use Rattle.vectors.specs.declared.Verdict.the-variants.{End, Agrees, Differs}
 
 -- the value of a hexadecimal digit, 0 to 9 and a to f; of another byte 0
 abbrev pub nibbleOf : ℕ → ℕ
@@ -21,17 +26,25 @@ hexOf s at (suc n) = 16 * hexOf s at n + nibbleOf (getD s (at + n) 0)
 abbrev pub vectorOf : List ℕ → Vector
 vectorOf s = record { a = hexOf s 0 16; b = hexOf s 17 16; direction = hexOf s 34 1; pattern = hexOf s 36 16; flags = 10 * hexOf s 53 1 + hexOf s 54 1 }
 
+-- 0 to 9
+abbrev pub isDecimal : ℕ → Bool
+isDecimal c = cond (ltb c 48) false (ltb c 58)
+
 -- 0 to 9 and a to f
 abbrev pub isHex : ℕ → Bool
-isHex c = cond (ltb c 48) false (cond (ltb c 58) true (cond (ltb c 97) false (ltb c 103)))
+isHex c = cond (isDecimal c) true (cond (ltb c 97) false (ltb c 103))
 
 -- the indices between two fields
 abbrev pub parts : ℕ → Bool
 parts i = cond (eqb i 16) true (cond (eqb i 33) true (cond (eqb i 35) true (eqb i 52)))
 
--- a line may have the byte c at index i: a space between two fields, an end of line at the end, elsewhere a hexadecimal digit
+-- the indices of the direction and of the flags
+abbrev pub decimals : ℕ → Bool
+decimals i = cond (eqb i 34) true (cond (ltb i 53) false (ltb i 55))
+
+-- a line may have the byte c at index i: a space between two fields, a decimal digit in direction and flags, an end of line at the end, elsewhere a hexadecimal digit
 abbrev pub fitsAt : ℕ → ℕ → Bool
-fitsAt i c = cond (parts i) (eqb c 32) (cond (eqb i 55) (eqb c 10) (isHex c))
+fitsAt i c = cond (parts i) (eqb c 32) (cond (decimals i) (isDecimal c) (cond (eqb i 55) (eqb c 10) (isHex c)))
 
 -- the first n bytes fit
 unfoldable pub formedUpto : List ℕ → ℕ → Bool
@@ -42,3 +55,16 @@ formedUpto s (suc n) = cond (formedUpto s n) (fitsAt n (getD s n 0)) false
 abbrev pub differsFrom : Vector → Binary64Answer → Bool
 differsFrom v (Done r) = cond (eqb (r .pattern) (v .pattern)) (not (eqb (r .flags) (v .flags))) true
 differsFrom v (Refused f) = true
+
+-- the unit's answer, through the kept table, differs from a case
+abbrev pub differsIn : Vector → Bool
+differsIn v = differsFrom v (binary64Of madeTable (v .direction) (v .a) (v .b))
+
+-- what becomes of a line of which n bytes were read: none is the end of the file, fewer than 56 differ, and so does a line that is not in the form
+abbrev pub verdictOf : List ℕ → ℕ → Verdict
+verdictOf s n =
+    cond (eqb n 0) End (cond (eqb n 56) (cond (formedUpto s 56) (cond (differsIn (vectorOf s)) Differs Agrees) Differs) Differs)
+
+-- one more line
+abbrev pub countedIn : Tally → Bool → Tally
+countedIn t agrees = record { run = t .run + 1; differ = cond agrees (t .differ) (t .differ + 1) }

@@ -1,9 +1,7 @@
 // Public test vectors of IEEE 754 division through the unit: how many were run, and how many differ.
 ghost use mathlib.Core.Path.{_≡_};
 ghost use Prim.Native.Nat.{_+_, _^_, _≤_, _<_};
-ghost use Rattle.selection.specs.Computed.{madeTable};
-ghost use Rattle.division.specs.Through.{binary64Of};
-ghost use Rattle.vectors.specs.Vectors.{nibbleOf, hexOf, vectorOf, isHex, fitsAt, formedUpto, differsFrom};
+ghost use Rattle.vectors.specs.Vectors.{nibbleOf, hexOf, vectorOf, isDecimal, isHex, fitsAt, formedUpto, differsIn, verdictOf, countedIn};
 use division::binary64::Binary64Answer;
 use report::print_number;
 use report::print_text;
@@ -17,8 +15,8 @@ struct Vector {
     flags: u64,
 }
 
-// What became of the next line of a file.
-enum Ran {
+// What becomes of the next line of a file.
+enum Verdict {
     End,
     Agrees,
     Differs,
@@ -50,13 +48,19 @@ fn nibble(c: u8) -> u64
     0
 }
 
-fn is_hex(c: u8) -> bool
-    ensures { λ r. ⌜ r ≡ isHex c ⌝ }
+fn is_decimal(c: u8) -> bool
+    ensures { λ r. ⌜ r ≡ isDecimal c ⌝ }
 {
     if c < 48 {
         return false;
     }
-    if c < 58 {
+    c < 58
+}
+
+fn is_hex(c: u8) -> bool
+    ensures { λ r. ⌜ r ≡ isHex c ⌝ }
+{
+    if is_decimal(c) {
         return true;
     }
     if c < 97 {
@@ -71,7 +75,9 @@ fn fits(i: usize, c: u8) -> bool
 {
     match i {
         16 | 33 | 35 | 52 => c == 32,
+        34 => is_decimal(c),
         55 => c == 10,
+        53..=54 => is_decimal(c),
         _ => is_hex(c),
     }
 }
@@ -122,7 +128,7 @@ fn parse(line: &[u8; 56]) -> Vector
 
 // Whether the unit's answer, through the kept table, differs from the expected one.
 fn differs(v: Vector) -> bool
-    ensures { λ r. ⌜ r ≡ differsFrom v (binary64Of madeTable (v .direction) (v .a) (v .b)) ⌝ }
+    ensures { λ r. ⌜ r ≡ differsIn v ⌝ }
 {
     match division::binary64::divide_binary64_kept(v.a, v.b, v.direction) {
         Binary64Answer::Done(answer) => {
@@ -135,41 +141,63 @@ fn differs(v: Vector) -> bool
     }
 }
 
-// The next line of a file. One that is cut short or not in the form differs.
-fn run_line(fd: i32) -> Ran {
-    let mut line = [0u8; 56];
-    let length = io::read_full(fd, &mut line);
+// Of the bytes read for a line, the first `length` are the file's. A line that is cut short or not in the form differs.
+fn verdict_of(line: &[u8; 56], length: usize) -> Verdict
+    ensures { λ r. ⌜ r ≡ verdictOf (now (line .entry)) length ⌝ }
+{
     if length == 0 {
-        return Ran::End;
+        return Verdict::End;
     }
     if length != 56 {
-        return Ran::Differs;
+        return Verdict::Differs;
     }
-    if !well_formed(&line) {
-        return Ran::Differs;
+    if !well_formed(line) {
+        return Verdict::Differs;
     }
-    if differs(parse(&line)) {
-        Ran::Differs
+    if differs(parse(line)) {
+        Verdict::Differs
     } else {
-        Ran::Agrees
+        Verdict::Agrees
+    }
+}
+
+// The next line of a file.
+fn run_line(fd: i32) -> Verdict {
+    let mut line = [0u8; 56];
+    let length = io::read_full(fd, &mut line);
+    verdict_of(&line, length)
+}
+
+// A tally with one more line, which agrees or differs.
+fn counted(tally: Tally, agrees: bool) -> Tally
+    requires { ⌜ (tally .differ ≤ tally .run) × (tally .run < 1000000) ⌝ }
+    ensures { λ r. ⌜ r ≡ countedIn tally agrees ⌝ }
+{
+    if agrees {
+        return Tally {
+            run: tally.run + 1,
+            differ: tally.differ,
+        };
+    }
+    Tally {
+        run: tally.run + 1,
+        differ: tally.differ + 1,
     }
 }
 
 fn run_lines(fd: i32) -> Tally
     ensures { λ r. ⌜ (r .differ ≤ r .run) × (r .run ≤ 1000000) ⌝ }
 {
-    let mut run: u64 = 0;
-    let mut differ: u64 = 0;
-    while run < MOST {
-        let ran = run_line(fd);
-        match ran {
-            Ran::End => return Tally { run, differ },
-            Ran::Agrees => {}
-            Ran::Differs => differ += 1,
+    let mut tally = Tally { run: 0, differ: 0 };
+    while tally.run < MOST {
+        let verdict = run_line(fd);
+        match verdict {
+            Verdict::End => return tally,
+            Verdict::Agrees => tally = counted(tally, true),
+            Verdict::Differs => tally = counted(tally, false),
         }
-        run += 1;
     }
-    Tally { run, differ }
+    tally
 }
 
 // A file's name, the number of its lines and how many of them differ.

@@ -1,17 +1,35 @@
 -- `vectors::fits` meets its contract: the arms are the definition's cases.
 use mathlib.Core.Path.{_≡_, _∙_}
-use mathlib.Core.Logic.{⊎-elim, inl, inr}
-use Prim.Native.Nat.{ℕ}
+use mathlib.Core.Bool.{false, cond}
+use mathlib.Core.List.{_∷_, []}
+use mathlib.Core.Logic.{_⊎_, ⊎-elim, inl, inr}
+use Prim.Native.Nat.{ℕ, _<_}
 use Prim.{⊥}
+use native.Mathlib.Omega.{arith}
+use lib.Dec.{ltb}
+use types.Run.{OneOf}
 use borrow.Author.Needs.{needs}
-use borrow.Author.Tests.{ne-eqb}
-use Rattle.vectors.specs.Vectors.{isHex, fitsAt}
+use borrow.Author.Tests.{lt-ltb, le-ltb, ne-eqb}
+use Rattle.vectors.specs.Vectors.{parts}
 use Rattle.vectors.proofs.fits.Statement.{statement}
 use Rattle.vectors.proofs.fits.Tie as tie
 
--- at none of the five indices
-elsewhere : (i c : ℕ) → (i ≡ 16 → ⊥) → (i ≡ 33 → ⊥) → (i ≡ 35 → ⊥) → (i ≡ 52 → ⊥) → (i ≡ 55 → ⊥) → isHex c ≡ fitsAt i c
-elsewhere i c a b d e f = simp (ne-eqb _ _ a, ne-eqb _ _ b, ne-eqb _ _ d, ne-eqb _ _ e, ne-eqb _ _ f)
+-- at none of the indices between two fields
+unparted : {i : ℕ} → (OneOf (16 ∷ 33 ∷ 35 ∷ 52 ∷ []) i → ⊥) → parts i ≡ false
+unparted {i} n = simp (ne-eqb i 16 (λ e. n (inl e)), ne-eqb i 33 (λ e. n (inr (inl e))), ne-eqb i 35 (λ e. n (inr (inr (inl e)))), ne-eqb i 52 (λ e. n (inr (inr (inr e)))))
+
+not-last : {i : ℕ} → (OneOf (16 ∷ 33 ∷ 35 ∷ 52 ∷ []) i → ⊥) → i ≡ 52 → ⊥
+not-last n e = n (inr (inr (inr e)))
+
+-- the indices of the flags are 53 and 54
+outside : {i : ℕ} → (i < 53) ⊎ (54 < i) → cond (ltb i 53) false (ltb i 55) ≡ false
+outside {i} = ⊎-elim (λ l. rw (lt-ltb i 53 l)) (λ l. rw (le-ltb i 53 (omega arith), le-ltb i 55 (omega arith)))
+
+is-decimal-requires : tie.Need-is-decimal-requires
+is-decimal-requires c κs = search needs
+
+is-decimal-requires-2 : tie.Need-is-decimal-requires-2
+is-decimal-requires-2 c κs = search needs
 
 is-hex-requires : tie.Need-is-hex-requires
 is-hex-requires c κs = search needs
@@ -20,12 +38,31 @@ returns : tie.Need-returns
 returns c = ⊎-elim (λ e. rw e) (⊎-elim (λ e. rw e) (⊎-elim (λ e. rw e) (λ e. rw e))) (c .match .keys1)
 
 returns-2 : tie.Need-returns-2
-returns-2 c = rw (c .match .keys2)
+returns-2 c = c .is-decimal .ensures ∙ rw (c .before .match .keys2)
 
 returns-3 : tie.Need-returns-3
-returns-3 c =
-    let rest = c .before .match .rest in
-    c .is-hex .ensures ∙ elsewhere _ (c .before .before .args .c) (λ e. rest .0 .1 (inl e)) (λ e. rest .0 .1 (inr (inl e))) (λ e. rest .0 .1 (inr (inr (inl e)))) (λ e. rest .0 .1 (inr (inr (inr e)))) (rest .1)
+returns-3 c = rw (c .match .keys3)
+
+returns-4 : tie.Need-returns-4
+returns-4 c =
+    let i = c .before .before .before .before .args .i in
+    let rest = c .before .before .before .match .rest in
+    rw (unparted (rest .0 .0 .1), ne-eqb _ _ (rest .0 .1), le-ltb i 53 (omega (arith, not-last (rest .0 .0 .1))), lt-ltb i 55 (omega (arith, rest .1))) (c .is-decimal2 .ensures)
+
+returns-5 : tie.Need-returns-5
+returns-5 c =
+    let rest = c .before .before .match .rest in
+    rw (unparted (rest .0 .0 .1), ne-eqb _ _ (rest .0 .1), outside {i = c .before .before .before .args .i} (⊎-elim (λ w. inl (omega (arith, w .taken))) (λ w. inr (omega (arith, w .1 .left))) (c .before .if1 .came)), ne-eqb _ _ (rest .1)) (c .is-hex .ensures)
 
 pub fits-spec : {M : Type 1} → statement M
-fits-spec = tie.close (tie.spec is-hex-requires returns returns-2 returns-3)
+fits-spec =
+    tie.close
+    (tie.spec
+    is-decimal-requires
+    is-decimal-requires-2
+    is-hex-requires
+    returns
+    returns-2
+    returns-3
+    returns-4
+    returns-5)

@@ -1,16 +1,15 @@
 -- `vectors::run_lines` meets its contract: of the lines run, at most all differ.
 use Prim.Native.Nat.{_-_, _≤_}
-use mathlib.Core.Logic.{⊎-elim}
 use native.Mathlib.Omega.{arith}
 use borrow.Author.Needs.{needs}
 use Rattle.vectors.proofs.run_lines.Statement.{statement}
 use Rattle.vectors.proofs.run_lines.Tie as tie
 
 abbrev Inv-loop : tie.InvT-loop
-Inv-loop fd run₀ differ₀ run differ = (run ≤ 1000000) × (differ ≤ run)
+Inv-loop fd tally₀ tally = (tally .run ≤ 1000000) × (tally .differ ≤ tally .run)
 
 abbrev μ-loop : tie.MeasureT-loop
-μ-loop fd run₀ differ₀ run differ = 1000000 - run
+μ-loop fd tally₀ tally = 1000000 - tally .run
 
 loop-holds : tie.Need-loop-holds Inv-loop μ-loop
 loop-holds c = omega arith
@@ -27,20 +26,26 @@ returns c = omega arith
 enum-told-2 : tie.Need-enum-told-2 Inv-loop μ-loop
 enum-told-2 c = search needs
 
+counted-requires : tie.Need-counted-requires Inv-loop μ-loop
+counted-requires c κs = omega arith
+
+loop-less : tie.Need-loop-less Inv-loop μ-loop
+loop-less c = rw (c .counted .ensures) (omega arith)
+
+loop-again : tie.Need-loop-again Inv-loop μ-loop
+loop-again c = rw (c .counted .ensures) (omega arith)
+
 enum-told-3 : tie.Need-enum-told-3 Inv-loop μ-loop
 enum-told-3 c = search needs
 
-add-differ : tie.Need-add-differ Inv-loop μ-loop
-add-differ c = omega arith
+counted-requires-2 : tie.Need-counted-requires-2 Inv-loop μ-loop
+counted-requires-2 c κs = omega arith
 
-add-run : tie.Need-add-run Inv-loop μ-loop
-add-run c = omega arith
+loop-less-2 : tie.Need-loop-less-2 Inv-loop μ-loop
+loop-less-2 c = rw (c .counted2 .ensures) (omega arith)
 
-loop-less : tie.Need-loop-less Inv-loop μ-loop
-loop-less c = omega arith
-
-loop-again : tie.Need-loop-again Inv-loop μ-loop
-loop-again c = ⊎-elim (λ w. omega arith) (λ w. omega arith) (c .match .came)
+loop-again-2 : tie.Need-loop-again-2 Inv-loop μ-loop
+loop-again-2 c = rw (c .counted2 .ensures) (omega arith)
 
 returns-2 : tie.Need-returns-2 Inv-loop μ-loop
 returns-2 c = omega arith
@@ -56,9 +61,11 @@ run-lines-spec =
     enum-told
     returns
     enum-told-2
-    enum-told-3
-    add-differ
-    add-run
+    counted-requires
     loop-less
     loop-again
+    enum-told-3
+    counted-requires-2
+    loop-less-2
+    loop-again-2
     returns-2)

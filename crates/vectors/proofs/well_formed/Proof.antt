@@ -1,6 +1,6 @@
 -- `vectors::well_formed` meets its contract: the bytes so far fit, and one that does not settles it.
-use mathlib.Core.Path.{_≡_, refl, subst, sym, ap, _∙_}
-use mathlib.Core.Bool.{Bool, true, false, cond, not}
+use mathlib.Core.Path.{_≡_, refl, subst, sym}
+use mathlib.Core.Bool.{Bool, true, false, cond}
 use mathlib.Core.List.{List}
 use Prim.Native.Nat.{ℕ, zero, suc, _+_, _-_, _≤_, _<_}
 use native.Mathlib.Nat.{zero-add, suc-add}
@@ -9,6 +9,7 @@ use native.Mathlib.Omega.{arith}
 use lib.ListN.{getD}
 use borrow.Author.Needs.{needs}
 use Rattle.vectors.specs.Vectors.{fitsAt, formedUpto}
+use Rattle.vectors.proofs.Turned.{turned}
 use Rattle.vectors.proofs.well_formed.Statement.{statement}
 use Rattle.vectors.proofs.well_formed.Tie as tie
 
@@ -17,11 +18,6 @@ Inv-loop line i₀ i = (i ≤ 56) × (formedUpto line i ≡ true)
 
 abbrev μ-loop : tie.MeasureT-loop
 μ-loop line i₀ i = 56 - i
-
--- the test is of the answer turned round
-turned : (r : Bool) {f b : Bool} → r ≡ f → not r ≡ b → f ≡ not b
-turned true e h = sym e ∙ ap not h
-turned false e h = sym e ∙ ap not h
 
 -- a byte that fits after those that do
 one-more : (s : List ℕ) (i : ℕ) → formedUpto s i ≡ true → fitsAt i (getD s i 0) ≡ true → formedUpto s (i + 1) ≡ true
