@@ -12,7 +12,7 @@ use Rattle.selection.specs.Word.{Within}
 use Rattle.selection.specs.Cell.{row, column, digit, Point}
 use Rattle.selection.specs.Table.{Passes}
 use Rattle.selection.proofs.Bridge.{signed-diff, digit-diff}
-use Rattle.selection.proofs.Columns.{column-of}
+use Rattle.selection.proofs.Columns.{row-in, column-of}
 use Rattle.selection.proofs.Reports.{passes-at}
 use Rattle.recurrence.specs.CarrySave.{sum3, maj3, multiple, lowestCarry}
 use Rattle.recurrence.specs.Recurrence.{State, residue, cellAt, stepBy}
@@ -25,7 +25,7 @@ pub residue-biased : (p : State) → residue p ≡ diff (biased p) (2 ^ 63)
 residue-biased p = signed-diff (p .sum + p .carry)
 
 -- the term is −qD modulo 2^64
-term : (d D : ℕ) → d ≤ 4 → D < 2 ^ 61 → (j : ℕ) × (multiple d D + lowestCarry d + d * D ≡ 2 * D + j * 2 ^ 64)
+pub term : (d D : ℕ) → d ≤ 4 → D < 2 ^ 61 → (j : ℕ) × (multiple d D + lowestCarry d + d * D ≡ 2 * D + j * 2 ^ 64)
 term zero D h l = (0, omega arith)
 term (suc zero) D h l = (0, omega arith)
 term (suc (suc zero)) D h l = (0, omega arith)
@@ -49,7 +49,7 @@ range-of p g =
 point : (p : State) → InRange p → Point (row (p .divisor)) (column (p .sum) (p .carry)) (p .divisor) (residue p)
 point p g =
     record {
-      row = record { from = omega arith; below = omega arith };
+      row = row-in (p .divisor) (g .least) (g .most) .1;
       column = column-of (p .sum) (p .carry);
       range = range-of p g;
     }

@@ -35,10 +35,11 @@ pub enum RunAnswer {
     Refused(Refusal),
 }
 
+// The count stands between the other two, so that a copy of both never loads as one piece what was just stored as two.
 pub struct RunResult {
     pub quotient: u64,
-    pub remainder: u64,
     pub count: usize,
+    pub remainder: u64,
 }
 
 // The multiple of the divisor for each digit byte, inverted for a digit above zero.
@@ -56,7 +57,7 @@ fn lane(multiple: u64) -> u64
     ((multiple >> 54) + 128) % 256
 }
 
-// The lanes of the five multiples, one in each nine bits, the first highest.
+// The lanes of the five multiples, nine bits apart, the first at the word's top (so the last starts at bit 20).
 fn lanes_of(m: &[u64; 5]) -> u64
     ensures { λ r. ⌜ r ≡ lanesOf (now (m .entry)) ⌝ }
 {

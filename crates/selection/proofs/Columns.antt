@@ -1,4 +1,4 @@
--- The column of a sum word and a carry word, and what their truncated estimate leaves out.
+-- The row of a divisor; the column of a sum word and a carry word, and what their truncated estimate leaves out.
 -- Assumes nothing.
 use mathlib.Core.Path.{_≡_, sym, ap, ap₂, _∙_}
 use mathlib.Core.Logic.{_↔_}
@@ -13,8 +13,12 @@ use Rattle.laws.proofs.Tests.{by-cond}
 use Rattle.laws.proofs.Diff.{diff, diffs, by-diff, diff-sub, diff-eq}
 use Rattle.laws.proofs.Words.{same-mod}
 use Rattle.selection.specs.Word.{signed}
-use Rattle.selection.specs.Cell.{InColumn, span, column, estimate}
+use Rattle.selection.specs.Cell.{InRow, InColumn, span, row, column, estimate}
 use Rattle.selection.proofs.Bridge.{signed-diff}
+
+-- a divisor in its span lies in its row, which is one of sixteen
+pub row-in : (D : ℕ) → 2 ^ 60 ≤ D → D < 2 ^ 61 → (row D ≤ 15) × InRow (row D) D
+row-in D least most = (omega arith, record { from = omega arith; below = omega arith })
 
 -- the column is the estimate plus 64
 estimate-diff : (s k : ℕ) → estimate s k ≡ diff (column s k) 64

@@ -1,6 +1,6 @@
 -- The answers, computed: `cellOf`, `rowLimitsOf`, `madeTable`, `makeOf`, `reportOf`. A reader need not believe them: `cell-checked`, `allows-decides`, `limits-right`,
--- `made-table-is`, `report-checked` show that each is the answer in document 01's words, and `cell-checked-one`, `limited-one`, `made-one`, `makes-one`, `checked-one` that
--- there is no other.
+-- `made-table-is`, `report-checked` and the contracts of `row_limits` and `make_table` show that each is the answer in document 01's words, and `cell-checked-one`,
+-- `limited-one`, `made-one`, `makes-one`, `checked-one` that there is no other.
 use mathlib.Core.Bool.{Bool, true, false, cond, not}
 use mathlib.Core.List.{List, [], _∷_, _++_}
 use Prim.Native.Nat.{ℕ, zero, suc, _+_, _*_, _-_, _/_, _%_}

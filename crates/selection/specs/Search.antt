@@ -1,4 +1,5 @@
--- Working definitions of the search of a cell: no public contract cites this file. The laws `search-right` and `cell-checked` say what it finds.
+-- Working definitions of the search of a cell. `cellOf` and `reportOf`, which public contracts cite, are computed by them; the laws `search-right` and `cell-checked` say
+-- what the search finds, in document 01's words.
 -- It is over natural numbers: W is P + 2^63, b is the digit plus 2.
 use mathlib.Core.Bool.{cond}
 use Prim.Native.Nat.{ℕ, _+_, _*_, _-_, _/_, _^_, max}

@@ -13,7 +13,6 @@ ghost use Rattle.selection.specs.Search.{leastPast, leastDivisor, tooLow
 ghost use Rattle.selection.specs.Computed.{cellOf};
 
 // A point of a cell that breaks a digit.
-#[repr(C)]
 pub struct Witness {
     pub divisor: u64,
     pub remainder: i64,
@@ -134,7 +133,8 @@ fn lesser(a: SearchResult, b: SearchResult) -> SearchResult
     }
 }
 
-// The least divisor, and for it the least remainder, that break a digit in a cell.
+// The least divisor, and for it the least remainder, that break a digit in a cell. A point has 3|P| <= 8D, so |P| is below 43 * 2^57:
+// outside the columns 20 to 106 no cell has one, and in them three times a column's end fits a word.
 fn search(row: u64, column: u64, byte: u64) -> SearchResult
     requires { ⌜ (row ≤ 15) × (byte ≤ 4) ⌝ }
     ensures { λ r. ⌜ r ≡ searchOf row column byte ⌝ }
