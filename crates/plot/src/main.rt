@@ -8,13 +8,13 @@ use libc::STDIN_FILENO;
 use selection::CellVerdict;
 use selection::table::Outcome;
 
-// Columns of one shade, up to before the column `end`.
-struct Run {
+// A stretch of columns of one shade, up to before the column `end`.
+struct Stretch {
     end: usize,
     shade: u64,
 }
 
-// Up to so many bad cells, each gets a ring.
+// Up to so many bad cells, each stretch of them of one digit gets a ring.
 const FEW: u64 = 64;
 
 fn allowed(row: u64, column: u64, byte: u8) -> bool
@@ -60,7 +60,7 @@ fn shade_of(table: &[u8], k: usize) -> u64
 }
 
 // The cells of one shade that follow each other from a column on.
-fn run_from(table: &[u8], row: usize, from: usize) -> Run
+fn stretch_from(table: &[u8], row: usize, from: usize) -> Stretch
     requires { ⌜ Table (now table) × (row ≤ 15) × (from < 128) ⌝ }
     ensures { λ r. ⌜ OneShade (now (table .entry)) row from (r .end) (r .shade) ⌝ }
 {
@@ -68,11 +68,11 @@ fn run_from(table: &[u8], row: usize, from: usize) -> Run
     let mut end = from + 1;
     while end < 128 {
         if shade_of(table, 128 * row + end) != shade {
-            return Run { end, shade };
+            return Stretch { end, shade };
         }
         end += 1;
     }
-    Run { end, shade }
+    Stretch { end, shade }
 }
 
 fn draw_row(table: &[u8], row: usize)
@@ -80,9 +80,9 @@ fn draw_row(table: &[u8], row: usize)
 {
     let mut from: usize = 0;
     while from < 128 {
-        let run = run_from(table, row, from);
-        picture::print_cells(row as u64, from as u64, run.end as u64, run.shade);
-        from = run.end;
+        let stretch = stretch_from(table, row, from);
+        picture::print_cells(row as u64, from as u64, stretch.end as u64, stretch.shade);
+        from = stretch.end;
     }
 }
 
@@ -92,11 +92,11 @@ fn mark_row(table: &[u8], row: usize, rings: bool)
 {
     let mut from: usize = 0;
     while from < 128 {
-        let run = run_from(table, row, from);
-        if 10 <= run.shade {
-            mark(row as u64, from as u64, run.end as u64, rings);
+        let stretch = stretch_from(table, row, from);
+        if 10 <= stretch.shade {
+            mark(row as u64, from as u64, stretch.end as u64, rings);
         }
-        from = run.end;
+        from = stretch.end;
     }
 }
 

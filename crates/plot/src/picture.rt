@@ -89,7 +89,7 @@ pub fn print_bad(count: u64, row: u64, column: u64) {
     print_number(column, b"</text>\n<g class='cells'>\n");
 }
 
-// A number at a place, in a class of text.
+// A text at a place, in a class of text.
 fn print_label(class: &[u8], x: u64, y: u64, text: &[u8]) {
     print_text(b"<text class='");
     print_text(class);

@@ -1,4 +1,4 @@
--- `plot::draw_row` is safe and ends: a run of columns is never empty.
+-- `plot::draw_row` is safe and ends: a stretch of columns is never empty.
 use Prim.Native.Nat.{_-_, _≤_}
 use native.Mathlib.Omega.{arith}
 use borrow.Author.Needs.{needs}
@@ -14,17 +14,17 @@ abbrev μ-loop : tie.MeasureT-loop
 loop-holds : tie.Need-loop-holds Inv-loop μ-loop
 loop-holds c = omega arith
 
-run-from-requires : tie.Need-run-from-requires Inv-loop μ-loop
-run-from-requires c κs = (c .before .before .before .pre .0, omega arith, omega arith)
+stretch-from-requires : tie.Need-stretch-from-requires Inv-loop μ-loop
+stretch-from-requires c κs = (c .before .before .before .pre .0, omega arith, omega arith)
 
 print-cells-requires : tie.Need-print-cells-requires Inv-loop μ-loop
-print-cells-requires c κs = (c .before .before .before .before .pre .1, c .run-from .ensures .some, c .run-from .ensures .within)
+print-cells-requires c κs = (c .before .before .before .before .pre .1, c .stretch-from .ensures .some, c .stretch-from .ensures .within)
 
 loop-less : tie.Need-loop-less Inv-loop μ-loop
-loop-less c = omega (arith, c .before .run-from .ensures .some)
+loop-less c = omega (arith, c .before .stretch-from .ensures .some)
 
 loop-again : tie.Need-loop-again Inv-loop μ-loop
-loop-again c = c .before .run-from .ensures .within
+loop-again c = c .before .stretch-from .ensures .within
 
 returns : tie.Need-returns Inv-loop μ-loop
 returns c = search needs
@@ -36,7 +36,7 @@ draw-row-spec =
     Inv-loop
     μ-loop
     loop-holds
-    run-from-requires
+    stretch-from-requires
     print-cells-requires
     loop-less
     loop-again

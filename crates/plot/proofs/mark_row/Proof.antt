@@ -1,4 +1,4 @@
--- `plot::mark_row` is safe and ends: a run of columns is never empty.
+-- `plot::mark_row` is safe and ends: a stretch of columns is never empty.
 use Prim.Native.Nat.{_-_, _≤_}
 use native.Mathlib.Omega.{arith}
 use borrow.Author.Needs.{needs}
@@ -14,23 +14,23 @@ abbrev μ-loop : tie.MeasureT-loop
 loop-holds : tie.Need-loop-holds Inv-loop μ-loop
 loop-holds c = omega arith
 
-run-from-requires : tie.Need-run-from-requires Inv-loop μ-loop
-run-from-requires c κs = (c .before .before .before .pre .0, omega arith, omega arith)
+stretch-from-requires : tie.Need-stretch-from-requires Inv-loop μ-loop
+stretch-from-requires c κs = (c .before .before .before .pre .0, omega arith, omega arith)
 
 mark-requires : tie.Need-mark-requires Inv-loop μ-loop
-mark-requires c κs = (c .before .before .before .before .before .before .pre .1, c .before .before .run-from .ensures .some, c .before .before .run-from .ensures .within)
+mark-requires c κs = (c .before .before .before .before .before .before .pre .1, c .before .before .stretch-from .ensures .some, c .before .before .stretch-from .ensures .within)
 
 loop-less : tie.Need-loop-less Inv-loop μ-loop
-loop-less c = omega (arith, c .before .before .before .run-from .ensures .some)
+loop-less c = omega (arith, c .before .before .before .stretch-from .ensures .some)
 
 loop-again : tie.Need-loop-again Inv-loop μ-loop
-loop-again c = c .before .before .before .run-from .ensures .within
+loop-again c = c .before .before .before .stretch-from .ensures .within
 
 loop-less-2 : tie.Need-loop-less-2 Inv-loop μ-loop
-loop-less-2 c = omega (arith, c .before .before .run-from .ensures .some)
+loop-less-2 c = omega (arith, c .before .before .stretch-from .ensures .some)
 
 loop-again-2 : tie.Need-loop-again-2 Inv-loop μ-loop
-loop-again-2 c = c .before .before .run-from .ensures .within
+loop-again-2 c = c .before .before .stretch-from .ensures .within
 
 returns : tie.Need-returns Inv-loop μ-loop
 returns c = search needs
@@ -42,7 +42,7 @@ mark-row-spec =
     Inv-loop
     μ-loop
     loop-holds
-    run-from-requires
+    stretch-from-requires
     mark-requires
     loop-less
     loop-again

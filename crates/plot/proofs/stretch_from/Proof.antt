@@ -1,9 +1,9 @@
--- `plot::run_from` meets its contract: all columns passed have the first one's shade.
+-- `plot::stretch_from` meets its contract: all columns passed have the first one's shade.
 use Prim.Native.Nat.{_-_, _≤_, _<_}
 use native.Mathlib.Omega.{arith}
-use Rattle.plot.proofs.Runs.{Alike, alike-one, alike-more}
-use Rattle.plot.proofs.run_from.Statement.{statement}
-use Rattle.plot.proofs.run_from.Tie as tie
+use Rattle.plot.proofs.Stretches.{Alike, alike-one, alike-more}
+use Rattle.plot.proofs.stretch_from.Statement.{statement}
+use Rattle.plot.proofs.stretch_from.Tie as tie
 
 abbrev Inv-loop : tie.InvT-loop
 Inv-loop table row from shade end₀ end = (from < end) × (end ≤ 128) × Alike table row from end shade
@@ -52,8 +52,8 @@ loop-again c =
 returns-2 : tie.Need-returns-2 Inv-loop μ-loop
 returns-2 c = let inv = c .before .loop .inv in record { some = inv .0; within = inv .1; alike = inv .2 }
 
-pub run-from-spec : {M : Type 1} → statement M
-run-from-spec =
+pub stretch-from-spec : {M : Type 1} → statement M
+stretch-from-spec =
     tie.close
     (tie.spec
     Inv-loop
