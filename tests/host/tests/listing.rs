@@ -2,23 +2,12 @@
 //! wrong length for a table: the program is run on whole inputs and all that it prints is compared.
 use host::document::{rule, CELLS};
 use host::draw::Draw;
-use std::io::Write;
-use std::process::{Command, Stdio};
+use host::programs::printed;
 
 const SEED: u64 = 0x5EED_0010;
 
 fn listing(input: &[u8]) -> String {
-    let program = concat!(env!("CARGO_MANIFEST_DIR"), "/../../target/bin/listing");
-    let mut child = Command::new(program)
-        .stdin(Stdio::piped())
-        .stdout(Stdio::piped())
-        .spawn()
-        .unwrap_or_else(|e| panic!("{program}: {e}; run `rt check listing` first"));
-    // a program that refuses long input may end before it has read all of it
-    let _ = child.stdin.take().expect("a pipe").write_all(input);
-    let output = child.wait_with_output().expect("the program ends");
-    assert!(output.status.success());
-    String::from_utf8(output.stdout).expect("text")
+    printed("listing", input)
 }
 
 /// Document 01's listing of an input.

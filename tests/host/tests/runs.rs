@@ -22,8 +22,13 @@ fn check(lent: Option<&[u8]>, model: &[u8], dividend: u64, divisor: u64, digits:
     want[place..place + digits].copy_from_slice(&trace.digits);
     let mut buffer = before;
     let got = calls::run(lent, dividend, divisor, digits, &mut buffer, place);
-    let answer =
-        calls::Run { refusal: 0, place: 0, quotient: trace.quotient as u64, remainder: trace.remainder as u64, digits: digits as u64 };
+    let answer = calls::Run {
+        refusal: 0,
+        place: 0,
+        quotient: trace.quotient as u64,
+        remainder: trace.remainder as u64,
+        digits: digits as u64,
+    };
     assert_eq!(got, answer, "{dividend} / {divisor}, {digits} digits");
     assert_eq!(buffer, want, "{dividend} / {divisor}, {digits} digits at {place}");
 }
