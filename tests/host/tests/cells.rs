@@ -44,7 +44,6 @@ fn cells_without_a_point() {
 
 #[test]
 fn the_other_check_agrees_with_each_divisor_near_the_corners_at_full_scale() {
-    println!("seed {SEED:x}");
     let mut draw = Draw::new(SEED);
     for (row, column, q) in cells() {
         let (first, last) = FULL.divisors(row);

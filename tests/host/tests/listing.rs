@@ -1,5 +1,6 @@
 //! Would catch a listing that leaves out or adds a bad cell, prints a wrong witness or number, or takes input of the
 //! wrong length for a table: the program is run on whole inputs and all that it prints is compared.
+//! The draws are from the fixed seed below.
 use host::document::{rule, CELLS};
 use host::draw::Draw;
 use host::programs::printed;
@@ -55,7 +56,6 @@ fn lengths() {
 
 #[test]
 fn damaged_and_random_tables() {
-    println!("seed {SEED:x}");
     let mut draw = Draw::new(SEED + 1);
     for turn in 0..150u64 {
         let mut table = rule().passing(&mut draw);
