@@ -55,6 +55,29 @@ fn lengths() {
 }
 
 #[test]
+fn bytes_above_four() {
+    let made = rule().made();
+    let with = |changes: &[(usize, u8)]| {
+        let mut table = made.clone();
+        changes.iter().for_each(|&(cell, byte)| table[cell] = byte);
+        table
+    };
+    for (changes, place) in [
+        (vec![(0, 5)], 0),
+        (vec![(2047, 5)], 2047),
+        (vec![(1500, 5), (100, 255)], 100),
+        // behind a bad cell
+        (vec![(215, 2), (1500, 5)], 1500),
+    ] {
+        assert_eq!(listing(&with(&changes)), format!("refusal place\n9 {place}\n"));
+    }
+    // the length goes before the bytes
+    let long = [&made[..], &[255]].concat();
+    assert_eq!(listing(&long), "refusal place\n8 0\n");
+    assert_eq!(listing(&with(&[(3, 9)])[..2047]), "refusal place\n8 0\n");
+}
+
+#[test]
 fn damaged_and_random_tables() {
     let mut draw = Draw::new(SEED + 1);
     for turn in 0..150u64 {

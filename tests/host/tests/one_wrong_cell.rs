@@ -118,5 +118,5 @@ fn the_made_table_with_the_wrong_cell_never_comes_to_it() {
         greatest = trace.remainders.into_iter().fold(greatest, i128::max);
     }
     // the remainders stay below 11/4, and come near to it; the cell begins at 23/8
-    assert!(4 * greatest < 11 << 60 && 5 * greatest > 13 << 60, "{greatest}");
+    assert!(4 * greatest < 11 << 60 && 10 * greatest > 27 << 60, "{greatest}");
 }
