@@ -29,9 +29,22 @@ impl Element {
     }
 }
 
-/// All elements, in the order in which they are painted.
+/// All elements, in the order in which they are painted. Each tag that is opened is closed, the last one first.
 pub fn elements(svg: &str) -> Result<Vec<Element>, String> {
-    svg.split('<').skip(1).map(element).collect()
+    let mut open: Vec<&str> = Vec::new();
+    for piece in svg.split('<').skip(1) {
+        let tag = piece.split('>').next().unwrap_or("");
+        let name = tag.split(' ').next().unwrap_or("");
+        match name.strip_prefix('/') {
+            Some(closed) if open.pop() != Some(closed) => return Err(format!("<{tag}> closes nothing")),
+            None if !tag.ends_with('/') => open.push(name),
+            _ => {}
+        }
+    }
+    match open.pop() {
+        None => svg.split('<').skip(1).map(element).collect(),
+        Some(name) => Err(format!("<{name}> is not closed")),
+    }
 }
 
 fn element(piece: &str) -> Result<Element, String> {

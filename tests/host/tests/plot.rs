@@ -59,6 +59,7 @@ struct Picture {
     /// the coloured fields of the legend
     keys: Vec<(String, Rectangle)>,
     grid: Vec<Vec<Spot>>,
+    axes: Vec<Vec<Spot>>,
     bounds: Vec<Vec<Spot>>,
     texts: Vec<(Spot, String)>,
 }
@@ -67,8 +68,12 @@ impl Picture {
     fn read(svg: &str) -> Result<Picture, String> {
         let mut picture = Picture::default();
         for (turn, element) in elements(svg)?.iter().enumerate() {
+            let known = ["class", "d", "fill", "cx", "cy", "rx", "ry"];
+            let plain =
+                turn == 0 || element.name == "text" || element.attributes.keys().all(|a| known.contains(&a.as_str()));
+            ensure(plain, format!("<{}> has an attribute that is not known", element.name))?;
             match element.name.as_str() {
-                "svg" => ensure(turn == 0, "a picture in the picture")?,
+                "svg" => ensure(turn == 0 && element.get("viewBox") == "0 0 900 820", "a part of the picture")?,
                 "style" => picture.styles = styles(&element.text),
                 "path" => picture.add_path(element)?,
                 "ellipse" => picture.add_ring(element)?,
@@ -90,7 +95,7 @@ impl Picture {
             "" => ensure(self.cells.is_empty() && element.get("fill") == "#fff", "a path without a class"),
             "grid" => lines(d).map(|found| self.grid.extend(found)),
             "bound" => lines(d).map(|found| self.bounds.extend(found)),
-            "axis" => Ok(()),
+            "axis" => lines(d).map(|found| self.axes.extend(found)),
             "bad" => {
                 self.marks.push(rectangle(d)?);
                 ensure(above, "a mark below the cells")
@@ -126,15 +131,19 @@ impl Picture {
         ensure(found, format!("no text {text} at {x} {y}"))
     }
 
-    /// The colour that the legend gives to a digit: that of the field beside its name.
-    fn legend(&self, digit: i32) -> Result<[i32; 3], String> {
-        let name = signed(digit);
+    /// The colour of a class that has nothing but a colour.
+    fn shade(&self, class: &str) -> Result<[i32; 3], String> {
+        let properties = self.styles.get(class).ok_or_else(|| format!("no style {class}"))?;
+        ensure(properties.len() == 1, format!("{class} has more than a colour"))?;
+        colour(self.property(class, "fill"))
+    }
+
+    /// The colours of the legend's fields beside a name.
+    fn legend(&self, name: &str) -> Result<Vec<[i32; 3]>, String> {
         let beside = |r: &Rectangle| {
-            self.texts.iter().any(|((x, y), text)| r.right < *x && r.top < *y && *y < r.bottom && *text == name)
+            self.texts.iter().any(|((x, y), text)| r.right < *x && r.top < *y && *y < r.bottom && text == name)
         };
-        let classes: Vec<&String> = self.keys.iter().filter(|(_, r)| beside(r)).map(|(class, _)| class).collect();
-        ensure(classes.len() == 1, format!("the legend has digit {digit} {} times", classes.len()))?;
-        colour(self.property(classes[0], "fill"))
+        self.keys.iter().filter(|(_, r)| beside(r)).map(|(class, _)| self.shade(class)).collect()
     }
 }
 
@@ -151,15 +160,27 @@ fn is_faded(faded: [i32; 3], full: [i32; 3]) -> bool {
     })
 }
 
+/// The colours of the digits from -2 to 2, all different. The legend has each once, and two as examples of faded ones.
+fn digit_colours(picture: &Picture) -> Result<Vec<[i32; 3]>, String> {
+    let mut colours = Vec::new();
+    for digit in -2..=2 {
+        match picture.legend(&signed(digit))?[..] {
+            [one] if !colours.contains(&one) => colours.push(one),
+            _ => return Err(format!("the legend has no colour for digit {digit}, or two, or another digit's")),
+        }
+    }
+    match picture.legend("pale: a cell")?[..] {
+        [two, zero] if is_faded(two, colours[4]) && is_faded(zero, colours[2]) => Ok(colours),
+        _ => Err("the legend's faded fields".to_string()),
+    }
+}
+
 /// Each cell once, in the colour of its digit, faded where it has no point.
 fn compare_cells(picture: &Picture, table: &[u8]) -> Result<(), String> {
-    let legend: Result<Vec<_>, _> = (-2..=2).map(|digit| picture.legend(digit)).collect();
-    let legend = legend?;
-    let different = (1..5).all(|k| !legend[..k].contains(&legend[k]));
-    ensure(different, "two digits have one colour")?;
+    let legend = digit_colours(picture)?;
     for (cell, &byte) in table.iter().enumerate() {
         let class = picture.cells.get(&cell).ok_or_else(|| format!("cell {cell} is not drawn"))?;
-        let drawn = colour(picture.property(class, "fill"))?;
+        let drawn = picture.shade(class)?;
         let full = legend[byte as usize];
         let wanted = match FULL.has_point(cell as i128 / 128, cell as i128 % 128) {
             true => drawn == full,
@@ -171,12 +192,15 @@ fn compare_cells(picture: &Picture, table: &[u8]) -> Result<(), String> {
     Ok(())
 }
 
-/// Each bad cell marked once and no other; up to 64 of them, each mark has a ring round it. The legend has one of each.
+/// Each bad cell marked once and no other, in a colour of its own; up to 64 of them, each mark has a ring round it. The
+/// legend has one of each.
 fn compare_marks(picture: &Picture, table: &[u8]) -> Result<(), String> {
     let own = |x: f64| x < across(2.0);
     let marks: Vec<Rectangle> = picture.marks.iter().copied().filter(|r| own(r.left)).collect();
     let rings: Vec<_> = picture.rings.iter().filter(|(middle, _)| own(middle.0)).collect();
     ensure(picture.marks.len() == marks.len() + 1 && picture.rings.len() == rings.len() + 1, "the legend's mark")?;
+    let own_colour = colour(picture.property("bad", "fill"))?;
+    ensure(picture.styles.keys().all(|class| picture.shade(class) != Ok(own_colour)), "a mark in a digit's colour")?;
     let mut marked = Vec::new();
     for &mark in &marks {
         marked.extend(covered(mark)?);
@@ -214,22 +238,34 @@ fn compare_bounds(picture: &Picture) -> Result<(), String> {
     Ok(())
 }
 
-/// The names on the axes stand where the cells are: a text's foot is 4 or 5 below the middle of its line.
+/// The frame, its ticks and their names fit the cells: a text's foot is 4 or 5 below the middle of its line.
 fn compare_axes(picture: &Picture) -> Result<(), String> {
+    let (left, right, top, bottom) = (across(1.0), across(2.0), down(8.0), down(-8.0));
+    let mut axes = vec![
+        vec![(left, top), (right, top), (right, bottom), (left, bottom)],
+        vec![(left, down(0.0)), (right, down(0.0))],
+    ];
     for row in 0..16 {
         picture.has_text(row_starts(f64::from(row) + 0.5), 737.0, &row.to_string())?;
     }
     for column in (0..128).step_by(16) {
-        picture.has_text(704.0, column_starts(f64::from(column)) + 4.0, &column.to_string())?;
+        let y = column_starts(f64::from(column));
+        axes.push(vec![(right, y), (right + 6.0, y)]);
+        picture.has_text(704.0, y + 4.0, &column.to_string())?;
     }
     for p in (-8..=8).step_by(2) {
-        picture.has_text(76.0, down(f64::from(p)) + 5.0, &signed(p))?;
+        let y = down(f64::from(p));
+        axes.push(vec![(left - 6.0, y), (left, y)]);
+        picture.has_text(76.0, y + 5.0, &signed(p))?;
     }
     for (d, name) in [(1.0, "1"), (1.25, "1.25"), (1.5, "1.5"), (1.75, "1.75"), (2.0, "2")] {
+        axes.push(vec![(across(d), bottom), (across(d), bottom + 6.0)]);
         picture.has_text(across(d), 757.0, name)?;
     }
+    let all = picture.axes.len() == axes.len() && axes.iter().all(|line| picture.axes.contains(line));
+    ensure(all, "the frame and its ticks")?;
     let grid: Vec<Vec<Spot>> =
-        (1..16).map(|row| [8.0, -8.0].map(|p| (row_starts(row as f64), down(p))).to_vec()).collect();
+        (1..16).map(|row| [top, bottom].map(|y| (row_starts(f64::from(row)), y)).to_vec()).collect();
     ensure(picture.grid == grid, "the lines between the rows")
 }
 
@@ -334,6 +370,12 @@ fn a_changed_picture_is_seen() {
         ("M86 293.3L", "M86 293.4L"),
         ("694 613.3", "694 612.3"),
         ("M124 80v640", "M125 80v640"),
+        ("M80 160h6", "M80 165h6"),
+        (".s3{fill", ".s3{fill-opacity:0;fill"),
+        (".bad{fill:#ff2ea6", ".bad{fill:#1f63ad"),
+        ("</svg>", ""),
+        ("<g ", "<g transform='scale(2)' "),
+        ("viewBox='0 0 900", "viewBox='0 0 600"),
         (".ring{fill:none", ".ring{fill:#fff"),
         ("Bad cells: 5", "Bad cells: 6"),
         (">1.25<", ">1.2<"),
