@@ -13,7 +13,7 @@
    are reentrant and may be called from any thread.
 
    The archive is for x86-64: the System V calling convention, a size_t of 64 bits. The calls use vector registers, and
-   of the stack at most 440 bytes below the caller's (measured on the archive, not proved). */
+   of the stack at most QUENDARIC_STACK bytes below the caller's (440 measured on the archive, not proved). */
 
 #ifndef QUENDARIC_H
 #define QUENDARIC_H
@@ -27,6 +27,7 @@ extern "C" {
 
 #define QUENDARIC_TABLE_LENGTH 2048
 #define QUENDARIC_MOST_DIGITS 31
+#define QUENDARIC_STACK 512
 
 /* Refusals. 1 to 7 are the caller's to mend, 8 to 10 the table maker's. */
 #define QUENDARIC_REFUSED_CELL 1      /* row above 15 or column above 127 */
