@@ -131,6 +131,11 @@ impl Picture {
         ensure(found, format!("no text {text} at {x} {y}"))
     }
 
+    /// The marks but for the legend's.
+    fn plotted_marks(&self) -> Vec<Rectangle> {
+        self.marks.iter().copied().filter(|r| r.left < across(2.0)).collect()
+    }
+
     /// The colour of a class that has nothing but a colour.
     fn shade(&self, class: &str) -> Result<[i32; 3], String> {
         let properties = self.styles.get(class).ok_or_else(|| format!("no style {class}"))?;
@@ -192,15 +197,12 @@ fn compare_cells(picture: &Picture, table: &[u8]) -> Result<(), String> {
     Ok(())
 }
 
-/// Each bad cell marked once and no other, in a colour of its own; up to 64 of them, each mark has a ring round it. The
-/// legend has one of each.
+/// Each bad cell marked once and no other, in a colour of its own; the legend has one mark more.
 fn compare_marks(picture: &Picture, table: &[u8]) -> Result<(), String> {
-    let own = |x: f64| x < across(2.0);
-    let marks: Vec<Rectangle> = picture.marks.iter().copied().filter(|r| own(r.left)).collect();
-    let rings: Vec<_> = picture.rings.iter().filter(|(middle, _)| own(middle.0)).collect();
-    ensure(picture.marks.len() == marks.len() + 1 && picture.rings.len() == rings.len() + 1, "the legend's mark")?;
-    let own_colour = colour(picture.property("bad", "fill"))?;
-    ensure(picture.styles.keys().all(|class| picture.shade(class) != Ok(own_colour)), "a mark in a digit's colour")?;
+    let mark = colour(picture.property("bad", "fill"))?;
+    ensure(picture.styles.keys().all(|class| picture.shade(class) != Ok(mark)), "a mark in a digit's colour")?;
+    let marks = picture.plotted_marks();
+    ensure(picture.marks.len() == marks.len() + 1, "the legend's mark")?;
     let mut marked = Vec::new();
     for &mark in &marks {
         marked.extend(covered(mark)?);
@@ -208,15 +210,20 @@ fn compare_marks(picture: &Picture, table: &[u8]) -> Result<(), String> {
     marked.sort_unstable();
     let bad: Vec<usize> = rule().bad_cells(table).iter().map(|&(cell, _)| cell).collect();
     ensure(marked == bad, format!("marked {marked:?}, bad {bad:?}"))?;
-    let ringed = |r: &Rectangle| {
+    compare_rings(picture, if bad.len() <= 64 { &marks } else { &[] })
+}
+
+/// A ring round each of these marks, and no other but the legend's.
+fn compare_rings(picture: &Picture, marks: &[Rectangle]) -> Result<(), String> {
+    ensure(picture.rings.len() == marks.len() + 1, format!("{} rings", picture.rings.len()))?;
+    for r in marks {
         let (x, y) = ((r.left + r.right) / 2.0, (r.top + r.bottom) / 2.0);
-        let round = |&&&((cx, cy), (rx, ry)): &&&(Spot, Spot)| {
-            cx == x && (cy - y).abs() <= 0.5 && rx > x - r.left && ry > y - r.top + 0.5
-        };
-        rings.iter().filter(round).count()
-    };
-    let (each, all) = if bad.len() <= 64 { (1, marks.len()) } else { (0, 0) };
-    ensure(rings.len() == all && marks.iter().all(|r| ringed(r) == each), "rings")
+        let round = picture.rings.iter().filter(|((cx, cy), (rx, ry))| {
+            *cx == x && (cy - y).abs() <= 0.5 && *rx > x - r.left && *ry > y - r.top + 0.5
+        });
+        ensure(round.count() == 1, format!("{r:?} has no ring of its own"))?;
+    }
+    Ok(())
 }
 
 /// The line that says whether the table passed.
