@@ -7,6 +7,7 @@
 
 #include "quendaric.h"
 #include <inttypes.h>
+#include <math.h>
 #include <stdio.h>
 #include <stdlib.h>
 #include <string.h>
@@ -24,11 +25,19 @@ static double number(uint64_t pattern) {
   return x;
 }
 
+/* Is the whole word a finite number? Then that is put into *x. */
+static int parse(const char *word, double *x) {
+  char *end;
+  *x = strtod(word, &end);
+  return end != word && *end == '\0' && isfinite(*x);
+}
+
 int main(int argc, char **argv) {
   /* one byte more than a table, so that a longer file is seen to be longer */
   uint8_t table[QUENDARIC_TABLE_LENGTH + 1];
-  if (argc != 4) {
-    fprintf(stderr, "usage: %s TABLE-FILE CURRENT SENSITIVITY\n", argv[0]);
+  double current, sensitivity;
+  if (argc != 4 || !parse(argv[2], &current) || !parse(argv[3], &sensitivity)) {
+    fprintf(stderr, "usage: reading TABLE-FILE CURRENT SENSITIVITY, the last two finite numbers\n");
     return 2;
   }
   FILE *file = fopen(argv[1], "rb");
@@ -42,7 +51,7 @@ int main(int argc, char **argv) {
   quendaric_report report = quendaric_check_table(table, length);
   if (report.refusal != 0) {
     printf("table refused: %" PRIu64 ", place %" PRIu64 "\n", report.refusal, report.place);
-    if (report.refusal == 10)
+    if (report.refusal == QUENDARIC_REFUSED_BAD_CELL)
       printf("%" PRIu64 " bad cells; the first is row %" PRIu64 ", column %" PRIu64 ", divisor %" PRIu64
              ", remainder %" PRId64 "\n",
              report.count, report.row, report.column, report.divisor, report.remainder);
@@ -50,8 +59,8 @@ int main(int argc, char **argv) {
   }
   printf("table passed\n");
 
-  uint64_t current = bits(strtod(argv[2], NULL)), sensitivity = bits(strtod(argv[3], NULL));
-  quendaric_binary64 reading = quendaric_divide_binary64(table, length, current, sensitivity, QUENDARIC_NEAREST);
+  quendaric_binary64 reading =
+      quendaric_divide_binary64(table, length, bits(current), bits(sensitivity), QUENDARIC_NEAREST);
   if (reading.refusal != 0 || (reading.flags & ~(uint64_t)QUENDARIC_INEXACT) != 0) {
     printf("no reading: refusal %" PRIu64 ", flags %" PRIu64 "\n", reading.refusal, reading.flags);
     return 1;

@@ -8,19 +8,12 @@
    Where a call refuses, every other field is 0 (but see quendaric_check_table) and every lent buffer is unchanged.
    Where several refusals apply, the one with the least number is given. The place is 0 except for 9 and 10.
 
-      1  row above 15 or column above 127
-      2  number of digits 0 or above 31
-      3  dividend or divisor outside its span
-      4  a or b is 2^60 or more
-      5  b is 0
-      6  direction above 3
-      7  the buffer ends before the last byte to write
-      8  the table's length is not 2,048
-      9  a byte above 4; the place is the first such index
-     10  a bad cell: its digit can drive the remainder out of range; the place is the first such cell
+   A pointer must be valid for its length; with length 0 it is not read and may be NULL. Tables and buffers may be at
+   any address and must not overlap. No call keeps a pointer, allocates memory, or has state of its own, so all of them
+   are reentrant and may be called from any thread.
 
-   A pointer must be valid for its length. Tables and buffers must not overlap. No call keeps a pointer, allocates
-   memory, or has state of its own, so all of them may be called from any thread and from an interrupt. */
+   The archive is for x86-64: the System V calling convention, a size_t of 64 bits. The calls use vector registers, and
+   of the stack at most QUENDARIC_STACK bytes below the caller's (440 measured on the archive, not proved). */
 
 #ifndef QUENDARIC_H
 #define QUENDARIC_H
@@ -34,6 +27,19 @@ extern "C" {
 
 #define QUENDARIC_TABLE_LENGTH 2048
 #define QUENDARIC_MOST_DIGITS 31
+#define QUENDARIC_STACK 512
+
+/* Refusals. 1 to 7 are the caller's to mend, 8 to 10 the table maker's. */
+#define QUENDARIC_REFUSED_CELL 1      /* row above 15 or column above 127 */
+#define QUENDARIC_REFUSED_DIGITS 2    /* number of digits 0 or above 31 */
+#define QUENDARIC_REFUSED_SPAN 3      /* dividend or divisor outside its span */
+#define QUENDARIC_REFUSED_TOO_LARGE 4 /* a or b is 2^60 or more */
+#define QUENDARIC_REFUSED_BY_ZERO 5   /* b is 0 */
+#define QUENDARIC_REFUSED_DIRECTION 6 /* direction above 3 */
+#define QUENDARIC_REFUSED_ROOM 7      /* the buffer ends before the last byte to write */
+#define QUENDARIC_REFUSED_LENGTH 8    /* the table's length is not 2,048 */
+#define QUENDARIC_REFUSED_BYTE 9      /* a byte above 4; the place is the first such index */
+#define QUENDARIC_REFUSED_BAD_CELL 10 /* a digit that can drive the remainder out of range; the place is the first */
 
 /* Rounding directions of binary64 division. */
 #define QUENDARIC_NEAREST 0 /* to nearest, ties to even */
@@ -138,7 +144,7 @@ quendaric_whole quendaric_divide_whole(const uint8_t *table, size_t table_length
 quendaric_whole quendaric_divide_whole_kept(uint64_t a, uint64_t b);
 
 /* IEEE 754 binary64 division of two patterns (a double's 64 bits), rounded once in the direction, through the table.
-   A NaN operand gives 7FF8000000000000 and no flag.
+   A NaN operand, quiet or signalling, gives 7FF8000000000000 and no flag; IEEE 754 raises invalid for a signalling one.
    Checks the table on each call, whatever the operands. Refuses 6, 8, 9, 10. */
 quendaric_binary64 quendaric_divide_binary64(const uint8_t *table, size_t table_length, uint64_t a, uint64_t b,
                                              uint64_t direction);

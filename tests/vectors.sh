@@ -1,12 +1,8 @@
 #!/bin/sh
 # The vector program on damaged files: each damage is seen, and counted in its file's line and in the total.
-# Run at the repository's root, after `rt check vectors` has written target/bin/.
-set -u
-root=$(cd "$(dirname "$0")/.." && pwd)
-work=$(mktemp -d) || exit 1
-trap 'rm -rf "$work"' EXIT
-passed=0
-failed=0
+# Run it after `rt check vectors` has written target/bin/.
+# shellcheck source=tests/cases.sh
+. "$(dirname "$0")/cases.sh"
 
 # The case $1: in a folder of the files with `llvm` as file $2, the program prints its stored output changed by the sed commands $3.
 runs() {
@@ -16,13 +12,7 @@ runs() {
     [ ! -f "$2" ] || cp "$2" "$work/data/div-llvm.txt"
     sed "$3" "$root/crates/vectors/stdout" >"$work/expected"
     (cd "$work/data" && "$root/target/bin/vectors" >"$work/found" 2>"$work/said")
-    if diff "$work/expected" "$work/found" >"$work/why"; then
-        passed=$((passed + 1))
-    else
-        failed=$((failed + 1))
-        echo "FAILED: $1:"
-        cat "$work/why"
-    fi
+    same "$1" "$work/expected"
 }
 
 llvm=$root/crates/vectors/data/div-llvm.txt
@@ -43,5 +33,4 @@ sed '4d' "$llvm" >"$work/fewer"
 runs 'a line left out' "$work/fewer" 's/llvm.txt 28/llvm.txt 27/; s/total 6098/total 6097/'
 runs 'no file' "$work/none" '/llvm/d; s/total 6098/total 6070/'
 
-echo "vectors: $passed passed, $failed failed"
-[ "$failed" -eq 0 ]
+ends vectors 8

@@ -42,7 +42,7 @@ typedef struct {
   const char *name, *what;
   uint64_t (*call)(int, uint64_t);
   int calls; /* in a round */
-  double apart, chained; /* best ns a call: calls that do not wait for each other, and calls that do */
+  double apart, chained; /* best ns a call: calls that do not wait for each other, and calls that do (0: not measured) */
 } measure;
 
 static measure measures[] = {
@@ -127,6 +127,9 @@ static double timed(measure *m, int chained) {
   return t;
 }
 
+/* A check has no operand that could come from the last answer. */
+static int chains(const measure *m) { return m->call != check && m->call != check_plain; }
+
 static void keep(double *best, double t) {
   if (*best == 0 || t < *best)
     *best = t;
@@ -141,8 +144,12 @@ static const measure *named(const char *name) {
 }
 
 static void ratio(const char *what, const char *x, const char *y, double target) {
-  double r = named(x)->apart / named(y)->apart, c = named(x)->chained / named(y)->chained;
-  printf("%-58s %7.2f %7.2f", what, r, c);
+  double r = named(x)->apart / named(y)->apart;
+  printf("%-58s %7.2f", what, r);
+  if (chains(named(x)) && chains(named(y)))
+    printf(" %7.2f", named(x)->chained / named(y)->chained);
+  else
+    printf(" %7s", "-");
   if (target > 0)
     printf("   at most %g: %s", target, r <= target ? "met" : "MISSED");
   printf("\n");
@@ -220,11 +227,17 @@ int main(int argc, char **argv) {
   for (int round = 0; round < ROUNDS; round++)
     for (int j = 0; j < MEASURES; j++) {
       keep(&measures[j].apart, timed(&measures[j], 0));
-      keep(&measures[j].chained, timed(&measures[j], 1));
+      if (chains(&measures[j]))
+        keep(&measures[j].chained, timed(&measures[j], 1));
     }
   printf("%-58s %7s %7s\n", "best of rounds, ns a call", "apart", "chained");
-  for (int j = 0; j < MEASURES; j++)
-    printf("%-58s %7.1f %7.1f\n", measures[j].what, measures[j].apart, measures[j].chained);
+  for (int j = 0; j < MEASURES; j++) {
+    printf("%-58s %7.1f", measures[j].what, measures[j].apart);
+    if (chains(&measures[j]))
+      printf(" %7.1f\n", measures[j].chained);
+    else
+      printf(" %7s\n", "-");
+  }
   printf("\n%-58s %7s %7s\n", "ratios", "apart", "chained");
   ratio("kept run / the same recurrence in C", "run-kept", "run-plain", 0.65);
   ratio("kept run / the same fast algorithm in C", "run-kept", "run-ahead", 1.10);

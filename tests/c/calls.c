@@ -1,5 +1,6 @@
 /* Would catch a header that does not fit the library, or that only one of C and C++ takes: every call is made through
-   it, on document 01's worked examples, in a program that is compiled as both. It prints nothing but what differs. */
+   it, on document 01's worked examples, on each refusal and with NULL for what has no length, in a program that is
+   compiled as both. It prints nothing but what differs. */
 
 #include "quendaric.h"
 #include <stdio.h>
@@ -16,6 +17,17 @@ static void same(const char *what, uint64_t got, uint64_t want) {
 
 #define SAME(got, want) same(#got, (uint64_t)(got), (uint64_t)(want))
 
+static const uint64_t one = (uint64_t)1 << 60;
+static const uint8_t untouched = 0xC3;
+
+/* Is every byte what it was made? */
+static int all_untouched(const uint8_t *bytes, size_t length) {
+  for (size_t i = 0; i < length; i++)
+    if (bytes[i] != untouched)
+      return 0;
+  return 1;
+}
+
 static void cells(void) {
   quendaric_cell cell = quendaric_check_cell(0, 75, 3);
   SAME(cell.refusal, 0);
@@ -28,49 +40,98 @@ static void cells(void) {
   SAME(cell.allowed, 0);
   SAME(cell.remainder < 0, 1);
   cell = quendaric_check_cell(3, 5, 9);
-  SAME(cell.refusal, 9);
+  SAME(cell.refusal, QUENDARIC_REFUSED_BYTE);
   SAME(cell.place, 3 * 128 + 5);
+  SAME(quendaric_check_cell(0, 128, 2).refusal, QUENDARIC_REFUSED_CELL);
   quendaric_limits limits = quendaric_row_limits(0);
   static const uint8_t row0[6] = {40, 51, 59, 68, 76, 87};
   SAME(limits.refusal, 0);
   SAME(memcmp(limits.limits, row0, 6), 0);
-  SAME(quendaric_row_limits(16).refusal, 1);
+  SAME(quendaric_row_limits(16).refusal, QUENDARIC_REFUSED_CELL);
 }
 
 static void tables(uint8_t *table) {
   quendaric_made made = quendaric_make_table(table, QUENDARIC_TABLE_LENGTH - 1);
-  SAME(made.refusal, 7);
+  SAME(made.refusal, QUENDARIC_REFUSED_ROOM);
   SAME(made.place, 0);
+  SAME(all_untouched(table, QUENDARIC_TABLE_LENGTH), 1);
   SAME(quendaric_make_table(table, QUENDARIC_TABLE_LENGTH).refusal, 0);
   SAME(quendaric_check_table(table, QUENDARIC_TABLE_LENGTH).refusal, 0);
-  SAME(quendaric_check_table(table, 5).refusal, 8);
+  SAME(quendaric_check_table(table, 5).refusal, QUENDARIC_REFUSED_LENGTH);
   table[215] = 2;
   quendaric_report report = quendaric_check_table(table, QUENDARIC_TABLE_LENGTH);
-  SAME(report.refusal, 10);
+  SAME(report.refusal, QUENDARIC_REFUSED_BAD_CELL);
   SAME(report.place, 215);
   SAME(report.count, 1);
   SAME(report.row, 1);
   SAME(report.column, 87);
   SAME(report.divisor, 1242993497154256896ull);
   SAME(report.remainder, 3314649325744685056ll);
-  table[215] = 4;
+  table[1000] = 5;
+  report = quendaric_check_table(table, QUENDARIC_TABLE_LENGTH);
+  SAME(report.refusal, QUENDARIC_REFUSED_BYTE);
+  SAME(report.place, 1000);
+  SAME(report.count, 0);
+  SAME(quendaric_make_table(table, QUENDARIC_TABLE_LENGTH).refusal, 0);
+  SAME(table[215], 4);
 }
 
 static void runs(const uint8_t *table) {
   uint8_t buffer[5] = {9, 9, 9, 9, 9};
   static const uint8_t after[5] = {9, 3, 1, 1, 9};
-  quendaric_ran ran = quendaric_run(table, QUENDARIC_TABLE_LENGTH, 1ull << 60, 3ull << 59, 3, buffer, 5, 1);
+  quendaric_ran ran = quendaric_run(table, QUENDARIC_TABLE_LENGTH, one, one / 2 * 3, 3, buffer, 5, 1);
   SAME(ran.refusal, 0);
   SAME(ran.place, 0);
   SAME(ran.quotient, 10);
-  SAME(ran.remainder, 1ull << 60);
+  SAME(ran.remainder, one);
   SAME(ran.digits, 3);
   SAME(memcmp(buffer, after, 5), 0);
-  ran = quendaric_run_kept(1ull << 60, 1ull << 60, 3, buffer, 5, 0);
+  ran = quendaric_run_kept(one, one, 3, buffer, 5, 0);
   SAME(ran.quotient, 16);
   SAME(ran.remainder, 0);
   SAME(buffer[0], 3);
-  SAME(quendaric_run_kept(1, 1ull << 60, 32, buffer, 5, 0).refusal, 2);
+}
+
+/* Runs that are refused: the lowest number, and every byte of the buffer as it was. */
+static void refused_runs(const uint8_t *table) {
+  uint8_t buffer[40];
+  uint8_t bad[QUENDARIC_TABLE_LENGTH];
+  const size_t length = sizeof buffer;
+  memset(buffer, untouched, length);
+  memcpy(bad, table, sizeof bad);
+  bad[215] = 2;
+  SAME(quendaric_run_kept(1, one, 0, buffer, length, 0).refusal, QUENDARIC_REFUSED_DIGITS);
+  SAME(quendaric_run_kept(1, one, 32, buffer, length, 0).refusal, QUENDARIC_REFUSED_DIGITS);
+  SAME(quendaric_run_kept(1, one - 1, 28, buffer, length, 0).refusal, QUENDARIC_REFUSED_SPAN);
+  SAME(quendaric_run_kept(2 * one, one, 28, buffer, length, 0).refusal, QUENDARIC_REFUSED_SPAN);
+  SAME(quendaric_run_kept(1, one, 28, buffer, length, 13).refusal, QUENDARIC_REFUSED_ROOM);
+  SAME(quendaric_run_kept(1, one, 28, buffer, length, SIZE_MAX).refusal, QUENDARIC_REFUSED_ROOM);
+  SAME(quendaric_run(table, sizeof bad, 1, one, 32, buffer, length, 0).refusal, QUENDARIC_REFUSED_DIGITS);
+  SAME(quendaric_run(table, sizeof bad, 1, 0, 28, buffer, length, 0).refusal, QUENDARIC_REFUSED_SPAN);
+  SAME(quendaric_run(bad, 5, 1, one, 28, buffer, length, 13).refusal, QUENDARIC_REFUSED_ROOM);
+  SAME(quendaric_run(bad, 5, 1, one, 28, buffer, length, 0).refusal, QUENDARIC_REFUSED_LENGTH);
+  SAME(quendaric_run(bad, sizeof bad, 1, one, 28, buffer, length, 0).refusal, QUENDARIC_REFUSED_BAD_CELL);
+  SAME(quendaric_run(bad, sizeof bad, 1, one, 28, buffer, length, 0).place, 215);
+  bad[1000] = 5;
+  SAME(quendaric_run(bad, sizeof bad, 1, one, 28, buffer, length, 0).refusal, QUENDARIC_REFUSED_BYTE);
+  SAME(quendaric_run(bad, sizeof bad, 1, one, 28, buffer, length, 0).place, 1000);
+  SAME(all_untouched(buffer, length), 1);
+}
+
+/* NULL with length 0, alone and beside what is right. */
+static void nothing_lent(const uint8_t *table) {
+  const size_t length = QUENDARIC_TABLE_LENGTH;
+  uint8_t buffer[28];
+  memset(buffer, untouched, sizeof buffer);
+  SAME(quendaric_check_table(NULL, 0).refusal, QUENDARIC_REFUSED_LENGTH);
+  SAME(quendaric_make_table(NULL, 0).refusal, QUENDARIC_REFUSED_ROOM);
+  SAME(quendaric_run(NULL, 0, 1, one, 28, NULL, 0, 0).refusal, QUENDARIC_REFUSED_ROOM);
+  SAME(quendaric_run(table, length, 1, one, 28, NULL, 0, 0).refusal, QUENDARIC_REFUSED_ROOM);
+  SAME(quendaric_run(NULL, 0, 1, one, 28, buffer, sizeof buffer, 0).refusal, QUENDARIC_REFUSED_LENGTH);
+  SAME(quendaric_run_kept(1, one, 28, NULL, 0, 0).refusal, QUENDARIC_REFUSED_ROOM);
+  SAME(quendaric_divide_whole(NULL, 0, 1, 1).refusal, QUENDARIC_REFUSED_LENGTH);
+  SAME(quendaric_divide_binary64(NULL, 0, 1, 1, QUENDARIC_NEAREST).refusal, QUENDARIC_REFUSED_LENGTH);
+  SAME(all_untouched(buffer, sizeof buffer), 1);
 }
 
 static void divisions(const uint8_t *table) {
@@ -78,7 +139,8 @@ static void divisions(const uint8_t *table) {
   SAME(whole.refusal, 0);
   SAME(whole.quotient, 1);
   SAME(whole.remainder, 1050108);
-  SAME(quendaric_divide_whole_kept(1, 0).refusal, 5);
+  SAME(quendaric_divide_whole_kept(1, 0).refusal, QUENDARIC_REFUSED_BY_ZERO);
+  SAME(quendaric_divide_whole_kept(one, 0).refusal, QUENDARIC_REFUSED_TOO_LARGE);
   quendaric_binary64 third = quendaric_divide_binary64(table, QUENDARIC_TABLE_LENGTH, 0x3FF0000000000000ull,
                                                        0x4008000000000000ull, QUENDARIC_NEAREST);
   SAME(third.refusal, 0);
@@ -88,15 +150,24 @@ static void divisions(const uint8_t *table) {
   quendaric_binary64 least = quendaric_divide_binary64_kept(1, 0x4000000000000000ull, QUENDARIC_UPWARD);
   SAME(least.pattern, 1);
   SAME(least.flags, QUENDARIC_INEXACT + QUENDARIC_UNDERFLOW);
-  SAME(quendaric_divide_binary64_kept(1, 1, 4).refusal, 6);
+  SAME(quendaric_divide_binary64_kept(1, 1, 4).refusal, QUENDARIC_REFUSED_DIRECTION);
+  /* a NaN operand, quiet or signalling */
+  static const uint64_t nan[2] = {0x7FF8000000000001ull, 0xFFF0000000000001ull};
+  for (int i = 0; i < 2; i++) {
+    quendaric_binary64 none = quendaric_divide_binary64_kept(nan[i], 1, QUENDARIC_NEAREST);
+    SAME(none.pattern, 0x7FF8000000000000ull);
+    SAME(none.flags, 0);
+  }
 }
 
 int main(void) {
   uint8_t table[QUENDARIC_TABLE_LENGTH];
-  memset(table, 9, sizeof table);
+  memset(table, untouched, sizeof table);
   cells();
   tables(table);
   runs(table);
+  refused_runs(table);
+  nothing_lent(table);
   divisions(table);
   return differences != 0;
 }

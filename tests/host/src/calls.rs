@@ -94,12 +94,20 @@ extern "C" {
     fn quendaric_divide_binary64_kept(a: u64, b: u64, direction: u64) -> Binary64;
 }
 
+/// A call with a lent table, which it leaves as it was.
+fn lend<T>(table: &[u8], call: impl FnOnce(*const u8, usize) -> T) -> T {
+    let before = table.to_vec();
+    let answer = call(table.as_ptr(), table.len());
+    assert!(std::hint::black_box(table) == before, "a call changed a lent table");
+    answer
+}
+
 pub fn check_cell(row: u64, column: u64, byte: u8) -> Cell {
     unsafe { quendaric_check_cell(row, column, byte) }
 }
 
 pub fn check_table(table: &[u8]) -> Table {
-    unsafe { quendaric_check_table(table.as_ptr(), table.len()) }
+    lend(table, |t, length| unsafe { quendaric_check_table(t, length) })
 }
 
 pub fn row_limits(row: u64) -> Limits {
@@ -112,23 +120,25 @@ pub fn make_table(buffer: &mut [u8]) -> Make {
 
 /// Through a lent table, or through the kept one.
 pub fn run(table: Option<&[u8]>, dividend: u64, divisor: u64, digits: usize, buffer: &mut [u8], place: usize) -> Run {
-    let (start, length) = (buffer.as_mut_ptr(), buffer.len());
+    let (start, room) = (buffer.as_mut_ptr(), buffer.len());
     match table {
-        Some(t) => unsafe { quendaric_run(t.as_ptr(), t.len(), dividend, divisor, digits, start, length, place) },
-        None => unsafe { quendaric_run_kept(dividend, divisor, digits, start, length, place) },
+        Some(table) => {
+            lend(table, |t, length| unsafe { quendaric_run(t, length, dividend, divisor, digits, start, room, place) })
+        }
+        None => unsafe { quendaric_run_kept(dividend, divisor, digits, start, room, place) },
     }
 }
 
 pub fn divide_whole(table: Option<&[u8]>, a: u64, b: u64) -> Whole {
     match table {
-        Some(t) => unsafe { quendaric_divide_whole(t.as_ptr(), t.len(), a, b) },
+        Some(table) => lend(table, |t, length| unsafe { quendaric_divide_whole(t, length, a, b) }),
         None => unsafe { quendaric_divide_whole_kept(a, b) },
     }
 }
 
 pub fn divide_binary64(table: Option<&[u8]>, a: u64, b: u64, direction: u64) -> Binary64 {
     match table {
-        Some(t) => unsafe { quendaric_divide_binary64(t.as_ptr(), t.len(), a, b, direction) },
+        Some(table) => lend(table, |t, length| unsafe { quendaric_divide_binary64(t, length, a, b, direction) }),
         None => unsafe { quendaric_divide_binary64_kept(a, b, direction) },
     }
 }

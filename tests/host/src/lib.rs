@@ -5,3 +5,5 @@ pub mod compare;
 pub mod dividers;
 pub mod document;
 pub mod draw;
+pub mod programs;
+pub mod svg;

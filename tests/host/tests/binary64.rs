@@ -1,5 +1,6 @@
 //! Would catch a binary64 quotient or flag that differs from IEEE 754: a wrong rounding, a second rounding of a
 //! subnormal result, a lost sticky bit, a wrong overflow value, a flag too many or too few, a wrong special case.
+//! The draws are from the fixed seed below.
 use host::compare::{drawn, drawn_on_all_cores, pair, Tally};
 use host::document::rule;
 use host::draw::{landmarks, Draw};

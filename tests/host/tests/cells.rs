@@ -1,5 +1,6 @@
 //! Would catch a cell judged wrongly, a witness that is no point, breaks nothing or is not the least, and a made digit
 //! or limit that is not the one nearest zero. The other check is first held against a list of all points.
+//! The draws are from the fixed seed below.
 use host::calls::{check_cell, make_table, row_limits, Cell, Limits};
 use host::document::{breaks, rule, Unit, CELLS, FULL};
 use host::draw::Draw;
@@ -25,8 +26,24 @@ fn the_other_check_agrees_with_a_list_of_all_points_at_small_scales() {
 }
 
 #[test]
+fn cells_without_a_point() {
+    for unit in [4, 5, 6, 7, 8].map(Unit) {
+        for k in 0..CELLS as i128 {
+            let listed = unit.points(k / 128, k % 128).next().is_some();
+            assert_eq!(unit.has_point(k / 128, k % 128), listed, "unit 2^{}, cell {k}", unit.0);
+        }
+    }
+    // at full scale they are the cells that allow all five digits, and no other cell allows both -2 and 2
+    let without: Vec<usize> = (0..CELLS).filter(|k| !FULL.has_point(*k as i128 / 128, *k as i128 % 128)).collect();
+    let five: Vec<usize> = (0..CELLS).filter(|&k| rule().allowed(k).len() == 5).collect();
+    let both: Vec<usize> =
+        (0..CELLS).filter(|&k| rule().allowed(k).contains(&0) && rule().allowed(k).contains(&4)).collect();
+    assert_eq!(without.len(), 976);
+    assert_eq!((&five, &both), (&without, &without));
+}
+
+#[test]
 fn the_other_check_agrees_with_each_divisor_near_the_corners_at_full_scale() {
-    println!("seed {SEED:x}");
     let mut draw = Draw::new(SEED);
     for (row, column, q) in cells() {
         let (first, last) = FULL.divisors(row);

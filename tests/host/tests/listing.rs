@@ -1,24 +1,14 @@
 //! Would catch a listing that leaves out or adds a bad cell, prints a wrong witness or number, or takes input of the
 //! wrong length for a table: the program is run on whole inputs and all that it prints is compared.
+//! The draws are from the fixed seed below.
 use host::document::{rule, CELLS};
 use host::draw::Draw;
-use std::io::Write;
-use std::process::{Command, Stdio};
+use host::programs::printed;
 
 const SEED: u64 = 0x5EED_0010;
 
 fn listing(input: &[u8]) -> String {
-    let program = concat!(env!("CARGO_MANIFEST_DIR"), "/../../target/bin/listing");
-    let mut child = Command::new(program)
-        .stdin(Stdio::piped())
-        .stdout(Stdio::piped())
-        .spawn()
-        .unwrap_or_else(|e| panic!("{program}: {e}; run `rt check listing` first"));
-    // a program that refuses long input may end before it has read all of it
-    let _ = child.stdin.take().expect("a pipe").write_all(input);
-    let output = child.wait_with_output().expect("the program ends");
-    assert!(output.status.success());
-    String::from_utf8(output.stdout).expect("text")
+    printed("listing", input)
 }
 
 /// Document 01's listing of an input.
@@ -65,8 +55,30 @@ fn lengths() {
 }
 
 #[test]
+fn bytes_above_four() {
+    let made = rule().made();
+    let with = |changes: &[(usize, u8)]| {
+        let mut table = made.clone();
+        changes.iter().for_each(|&(cell, byte)| table[cell] = byte);
+        table
+    };
+    for (changes, place) in [
+        (vec![(0, 5)], 0),
+        (vec![(2047, 5)], 2047),
+        (vec![(1500, 5), (100, 255)], 100),
+        // behind a bad cell
+        (vec![(215, 2), (1500, 5)], 1500),
+    ] {
+        assert_eq!(listing(&with(&changes)), format!("refusal place\n9 {place}\n"));
+    }
+    // the length goes before the bytes
+    let long = [&made[..], &[255]].concat();
+    assert_eq!(listing(&long), "refusal place\n8 0\n");
+    assert_eq!(listing(&with(&[(3, 9)])[..2047]), "refusal place\n8 0\n");
+}
+
+#[test]
 fn damaged_and_random_tables() {
-    println!("seed {SEED:x}");
     let mut draw = Draw::new(SEED + 1);
     for turn in 0..150u64 {
         let mut table = rule().passing(&mut draw);

@@ -1,8 +1,11 @@
 //! Would catch a check that lets one wrong cell through: a table with a single digit changed divides some operands
-//! wrongly, and every call must refuse it. docs/ONE-WRONG-CELL.md tells the story with these numbers.
+//! wrongly, and every call must refuse it; another divides all rightly, and is refused too. docs/ONE-WRONG-CELL.md tells
+//! the story with these numbers. The draws are from the fixed seed below.
 use host::calls::{self, Binary64, Run, Whole};
 use host::document::{breaks, rule, run, FULL};
+use host::draw::Draw;
 
+const SEED: u64 = 0x5EED_0215;
 const DIVIDEND: u64 = 2023347993445111535;
 const DIVISOR: u64 = 1297036692411679568;
 const CELL: usize = 128 + 87;
@@ -80,4 +83,40 @@ fn every_call_refuses_the_table() {
     let scaled = u128::from(DIVIDEND) << (2 * (DIGITS - 1));
     assert_eq!(u128::from(ran.quotient), scaled / u128::from(DIVISOR));
     assert_eq!(buffer[..], run(&good, DIVIDEND, DIVISOR, DIGITS).digits[..]);
+}
+
+/// A dividend, and a divisor of row 1, from 17/16 to 18/16 of 2^60: drawn, or next to the ends of their spans.
+fn operands_of_row_1(draw: &mut Draw) -> (u64, u64) {
+    let divisor = match draw.below(4) {
+        0 => (17 << 56) + draw.below(4),
+        1 => (18 << 56) - 1 - draw.below(4),
+        _ => (17 << 56) + draw.below(1 << 56),
+    };
+    let dividend = match draw.below(4) {
+        0 => draw.below(4),
+        1 => (1 << 61) - 1 - draw.below(4),
+        _ => draw.below(1 << 61),
+    };
+    (dividend, divisor)
+}
+
+#[test]
+fn the_made_table_with_the_wrong_cell_never_comes_to_it() {
+    let mut wrong = rule().made();
+    wrong[CELL] = 2;
+    let report = calls::check_table(&wrong);
+    assert_eq!((report.refusal, report.place, report.count), (10, 215, 1));
+    let mut draw = Draw::new(SEED);
+    let mut greatest = 0;
+    for _ in 0..100_000 {
+        let (dividend, divisor) = operands_of_row_1(&mut draw);
+        let trace = run(&wrong, dividend, divisor, DIGITS);
+        let scaled = i128::from(dividend) << (2 * (DIGITS - 1));
+        assert_eq!(trace.quotient, scaled / i128::from(divisor), "{dividend} / {divisor}");
+        assert_eq!(trace.remainder, scaled % i128::from(divisor), "{dividend} / {divisor}");
+        assert!(!trace.cells.contains(&CELL), "{dividend} / {divisor}");
+        greatest = trace.remainders.into_iter().fold(greatest, i128::max);
+    }
+    // the remainders stay below 11/4, and come near to it; the cell begins at 23/8
+    assert!(4 * greatest < 11 << 60 && 10 * greatest > 27 << 60, "{greatest}");
 }

@@ -1,6 +1,6 @@
 //! Would catch a refusal that is missing, raised without its condition, out of order, with a wrong place or with values
 //! that are not zeros, and a call that touches a lent buffer when it refuses or writes past its end.
-use host::calls::{self, Binary64, Cell, Limits, Make, Run, Whole};
+use host::calls::{self, Binary64, Cell, Limits, Make, Run, Table, Whole};
 use host::document::{rule, run, CELLS};
 
 const CANARY: u8 = 0xA5;
@@ -41,6 +41,20 @@ fn tables() -> Vec<(Vec<u8>, u64, u64)> {
 /// The first condition that holds, in the order of the numbers; then the table's.
 fn first(conditions: &[(u64, bool)], table: (u64, u64)) -> (u64, u64) {
     conditions.iter().find(|(_, holds)| *holds).map_or(table, |&(number, _)| (number, 0))
+}
+
+#[test]
+fn whole_table() {
+    for (table, refusal, place) in tables() {
+        let got = calls::check_table(&table);
+        assert_eq!((got.refusal, got.place), (refusal, place));
+        let want = match refusal {
+            // only 10 has more than number and place: the cells are counted and the first one's witness is given
+            10 => rule().check(&table),
+            _ => Table { refusal, place, ..Default::default() },
+        };
+        assert_eq!(got, want);
+    }
 }
 
 #[test]

@@ -1,5 +1,5 @@
 //! Would catch a check that passes a damaged table or refuses a passing one, a wrong number of bad cells, and a first
-//! cell or witness that is not the first or not the least.
+//! cell or witness that is not the first or not the least. The draws are from the fixed seed below.
 use host::calls::check_table;
 use host::document::{rule, CELLS};
 use host::draw::Draw;
@@ -37,7 +37,6 @@ fn each_single_damage_is_found() {
 
 #[test]
 fn damaged_tables() {
-    println!("seed {SEED:x}");
     let mut draw = Draw::new(SEED + 1);
     for turn in 0..3_000 {
         let mut table = rule().passing(&mut draw);

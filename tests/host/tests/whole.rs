@@ -1,5 +1,5 @@
 //! Would catch a whole-number quotient or remainder that is off: a normalising shift lost, a digit too few, a wrong end
-//! correction, an edge of the spans taken wrongly.
+//! correction, an edge of the spans taken wrongly. The draws are from the fixed seed below.
 use host::calls::{divide_whole, Whole};
 use host::document::rule;
 use host::draw::Draw;
@@ -39,7 +39,6 @@ fn kept_table_at_the_edges() {
 
 #[test]
 fn kept_table_on_drawn_numbers() {
-    println!("seed {SEED:x}");
     let mut draw = Draw::new(SEED);
     for _ in 0..3_000_000 {
         let (a, b) = (draw.whole(), draw.whole().max(1));

@@ -1,0 +1,56 @@
+# What tests/listing.sh, tests/plot.sh and tests/vectors.sh share, to be read in by them: comparing whole outputs, and counting.
+# shellcheck shell=sh
+set -u
+root=$(cd "$(dirname "$0")/.." && pwd)
+kept=$root/tables/kept.table
+pentium=$root/tables/pentium-1994.table
+work=$(mktemp -d) || exit 1
+trap 'rm -rf "$work"' EXIT
+passed=0
+failed=0
+
+# The case $1: what it has put into $work/found is the file $2.
+same() {
+    if cmp "$work/found" "$2" >"$work/why" 2>&1; then
+        passed=$((passed + 1))
+    else
+        failed=$((failed + 1))
+        echo "FAILED: $1: $(cat "$work/why")"
+        diff "$2" "$work/found" | head -5
+    fi
+}
+
+# The case $1: the program $2 on the input $3 prints the text $4, each line ended.
+prints() {
+    "$root/target/bin/$2" <"$3" >"$work/found"
+    printf '%s\n' "$4" >"$work/expected"
+    same "$1" "$work/expected"
+}
+
+# The inputs that are no table, and what the program $1 prints on each.
+refuses() {
+    prints 'no bytes' "$1" /dev/null 'refusal place
+8 0'
+    head -c 2047 "$kept" >"$work/input"
+    prints '2,047 bytes' "$1" "$work/input" 'refusal place
+8 0'
+    { cat "$kept"; printf '\002'; } >"$work/input"
+    prints '2,049 bytes' "$1" "$work/input" 'refusal place
+8 0'
+    changed "$pentium" 1500 005
+    prints 'a byte above 4 behind a bad cell' "$1" "$work/changed" 'refusal place
+9 1500'
+}
+
+# A copy of the table $1 whose byte at the index $2 is the octal $3, in $work/changed.
+changed() {
+    cp "$1" "$work/changed"
+    printf "\\$3" | dd of="$work/changed" bs=1 seek="$2" conv=notrunc 2>/dev/null
+}
+
+# The last line of the tests named $1, of which there are $2.
+ends() {
+    [ $((passed + failed)) -eq "$2" ] || echo "FAILED: $1: $2 cases were to run"
+    echo "$1: $passed passed, $failed failed"
+    [ "$passed" -eq "$2" ] && [ "$failed" -eq 0 ]
+}
