@@ -1,11 +1,16 @@
 // The listing program: the bad cells of a table that is read from standard input.
-ghost use Prim.Native.Nat.{_<_};
+ghost use Prim.Native.Nat.{_+_, _*_, _≤_, _<_};
+ghost use mathlib.Core.Path.{_≡_};
+ghost use lib.ListN.{length, take, drop};
 ghost use Rattle.selection.specs.Table.{Table};
-ghost use Rattle.listing.specs.Listing.{Listed};
+ghost use Rattle.report.specs.Text.{Appended};
+ghost use Rattle.listing.specs.Listing.{Listed, Lists, lineOf, witnessText, lineText, linesUpto, tableText, listingOf};
+use libc::STDERR_FILENO;
 use libc::STDIN_FILENO;
-use report::print_number;
-use report::print_signed;
-use report::print_text;
+use libc::STDOUT_FILENO;
+use report::text::append;
+use report::text::append_number;
+use report::text::append_signed;
 use selection::CellVerdict;
 use selection::Witness;
 use selection::table::Outcome;
@@ -16,10 +21,13 @@ enum Line {
     BadCell(u64, u64, i64, Witness),
 }
 
+// Room for the longest text: 35 bytes of names, and 2,048 lines of five numbers, each of 20 digits, with a sign to two of them.
+const ROOM: usize = 219171;
+
 // The line of cell k.
 fn line_of(table: &[u8], k: usize) -> Line
     requires { ⌜ Table (now table) × (k < 2048) ⌝ }
-    ensures { λ r. ⌜ Listed (now (table .entry)) k r ⌝ }
+    ensures { λ r. ⌜ (r ≡ lineOf (now (table .entry)) k) × Listed (now (table .entry)) k r ⌝ }
 {
     let row = (k / 128) as u64;
     let column = (k % 128) as u64;
@@ -37,42 +45,76 @@ fn line_of(table: &[u8], k: usize) -> Line
     }
 }
 
-fn print_line(line: Line) {
+// The end of a line: the witness's divisor and its remainder.
+fn append_witness(out: &mut [u8], at: usize, witness: Witness) -> usize
+    requires { ⌜ at + 43 ≤ length (now out) ⌝ }
+    ensures { λ r. ⌜ Appended (now (out .entry)) at (witnessText witness) (now (out .exit)) r ⌝ }
+    ensures { λ r. ⌜ r ≤ at + 43 ⌝ }
+{
+    let after_divisor = append_number(out, at, witness.divisor, b" ");
+    append_signed(out, after_divisor, witness.remainder, b"\n")
+}
+
+fn append_line(out: &mut [u8], at: usize, line: Line) -> usize
+    requires { ⌜ at + 107 ≤ length (now out) ⌝ }
+    ensures { λ r. ⌜ Appended (now (out .entry)) at (lineText line) (now (out .exit)) r ⌝ }
+    ensures { λ r. ⌜ r ≤ at + 107 ⌝ }
+{
     match line {
-        Line::Nothing => {}
+        Line::Nothing => at,
         Line::BadCell(row, column, digit, witness) => {
-            print_number(row, b" ");
-            print_number(column, b" ");
-            print_signed(digit, b" ");
-            print_number(witness.divisor, b" ");
-            print_signed(witness.remainder, b"\n");
+            let after_row = append_number(out, at, row, b" ");
+            let after_column = append_number(out, after_row, column, b" ");
+            let after_digit = append_signed(out, after_column, digit, b" ");
+            append_witness(out, after_digit, witness)
         }
     }
 }
 
-fn list_cells(table: &[u8])
-    requires { ⌜ Table (now table) ⌝ }
+// The lines of all cells, in index order.
+fn append_lines(out: &mut [u8], at: usize, table: &[u8]) -> usize
+    requires { ⌜ Table (now table) × (at + 107 * 2048 ≤ length (now out)) ⌝ }
+    ensures { λ r. ⌜ Appended (now (out .entry)) at (linesUpto (now (table .entry)) 2048) (now (out .exit)) r ⌝ }
+    ensures { λ r. ⌜ r ≤ at + 107 * 2048 ⌝ }
 {
-    print_text(b"row column digit divisor remainder\n");
+    let mut next = at;
     for k in 0..2048 {
-        print_line(line_of(table, k));
+        next = append_line(out, next, line_of(table, k));
     }
+    next
 }
 
-// The check tells a table, passed or bad, from what gets the two lines of a refusal.
-fn list(bytes: &[u8]) {
+fn append_table(out: &mut [u8], table: &[u8]) -> usize
+    requires { ⌜ Table (now table) × (219171 ≤ length (now out)) ⌝ }
+    ensures { λ r. ⌜ Appended (now (out .entry)) 0 (tableText (now (table .entry))) (now (out .exit)) r ⌝ }
+    ensures { λ r. ⌜ r ≤ 219171 ⌝ }
+{
+    let next = append(out, 0, b"row column digit divisor remainder\n");
+    append_lines(out, next, table)
+}
+
+// All that is printed. The check tells a table, passed or bad, from what gets the two lines of a refusal.
+fn listing(bytes: &[u8], out: &mut [u8; ROOM]) -> usize
+    ensures { λ r. ⌜ (take r (now (out .exit)) ≡ listingOf (now (bytes .entry))) × Lists (now (bytes .entry)) (take r (now (out .exit))) ⌝ }
+    ensures { λ r. ⌜ drop r (now (out .exit)) ≡ drop r (now (out .entry)) ⌝ }
+    ensures { λ r. ⌜ r ≤ length (now (out .exit)) ⌝ }
+{
     let report = selection::table::check_table(bytes);
     let outcome = report.outcome;
     match outcome {
-        Outcome::Passed => list_cells(bytes),
-        Outcome::Bad(_) => list_cells(bytes),
-        Outcome::Refused(refusal) => report::print_refusal(refusal),
+        Outcome::Passed => append_table(out, bytes),
+        Outcome::Bad(_) => append_table(out, bytes),
+        Outcome::Refused(refusal) => report::text::append_refusal(out, 0, refusal),
     }
 }
 
-// One byte more than a table has, so that a longer input is seen.
+// One byte more than a table has, so that a longer input is seen. A write that fails is told, since a lost line would make a bad cell look allowed.
 fn main() {
     let mut bytes = [0u8; 2049];
     let length = io::read_full(STDIN_FILENO, &mut bytes);
-    list(&bytes[..length]);
+    let mut out = [0u8; ROOM];
+    let end = listing(&bytes[..length], &mut out);
+    if !io::write_all(STDOUT_FILENO, &out[..end]) {
+        io::write_all(STDERR_FILENO, b"listing: not all was written\n");
+    }
 }

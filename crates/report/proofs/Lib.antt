@@ -1,1 +1,4 @@
+pub mod Decimals
+pub mod Signs
+pub mod Texts
 pub mod Verdicts

@@ -1,5 +1,7 @@
 // How the programs print on standard output: texts, numbers and the two lines of a refusal.
 // No contract can say which bytes a call of the C library's writes; what decides them is stated here and in the libraries below.
+pub mod text;
+
 ghost use mathlib.Core.Path.{_≡_};
 ghost use lib.IntN.{natAbs};
 ghost use Rattle.selection.specs.Cell.{digit};
@@ -26,14 +28,6 @@ pub fn magnitude(number: i64) -> u64
     number as u64
 }
 
-// A signed number in decimal, and what follows it.
-pub fn print_signed(number: i64, end: &[u8]) {
-    if number < 0 {
-        print_text(b"-");
-    }
-    print_number(magnitude(number), end);
-}
-
 // The digit q that a byte holds as q + 2.
 pub fn digit_of(byte: u8) -> i64
     ensures { λ r. ⌜ r ≡ digit byte ⌝ }
@@ -43,7 +37,7 @@ pub fn digit_of(byte: u8) -> i64
 
 // Document 01's two lines for a refusal: its number and its place.
 pub fn print_refusal(refusal: Refusal) {
-    print_text(b"refusal place\n");
-    print_number(refusal.number, b" ");
-    print_number(refusal.place, b"\n");
+    let mut out = [0u8; 56];
+    let end = text::append_refusal(&mut out, 0, refusal);
+    print_text(&out[..end]);
 }

@@ -1,9 +1,10 @@
 -- `listing::line_of` meets its contract: a line is what the check of the single cell says.
-use mathlib.Core.Path.{refl, _∙_}
+use mathlib.Core.Path.{_∙_}
 use mir.Syntax.{w64}
 use mir.Facts.{toZ-ofZ}
 use native.Mathlib.Omega.{arith}
-use Rattle.report.proofs.Verdicts.{verdict-says, never-refused}
+use Rattle.report.proofs.Verdicts.{never-refused}
+use Rattle.listing.proofs.Lines.{line-is, allowed-line, disallowed-line}
 use borrow.Author.Needs.{needs}
 use Rattle.listing.proofs.line_of.Statement.{statement}
 use Rattle.listing.proofs.line_of.Tie as tie
@@ -27,13 +28,15 @@ enum-told-2 : tie.Need-enum-told-2
 enum-told-2 c = search needs
 
 returns : tie.Need-returns
-returns c = record { means = verdict-says (c .before .before .check-cell .ensures .1) (c .enum-told .given .1) .1 }
+returns c =
+    let p = c .before .before .before .before .before .pre in
+    line-is _ _ (p .0) (p .1) (allowed-line _ _ (c .before .before .check-cell .ensures .0) (c .enum-told .given .1))
 
 returns-2 : tie.Need-returns-2
 returns-2 c =
+    let p = c .before .before .before .before .before .before .before .pre in
     let q = toZ-ofZ {w = w64} {z = c .digit-of .result} (record { sfits = c .digit-of .ok }) ∙ c .digit-of .ensures in
-    let w = verdict-says (c .before .before .before .before .check-cell .ensures .1) (c .before .before .witness .given .1) .1 in
-    record { means = (refl, refl, q, rw q w) }
+    line-is _ _ (p .0) (p .1) (disallowed-line _ _ (c .before .before .before .before .check-cell .ensures .0) (c .before .before .witness .given .1) q)
 
 returns-3 : tie.Need-returns-3
 returns-3 c = never-refused (omega arith) (omega arith) (c .before .before .before .before .before .pre .0 .digits _) (c .before .before .check-cell .ensures .1) (c .enum-told2 .given .1)

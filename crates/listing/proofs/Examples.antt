@@ -1,0 +1,81 @@
+-- A table with no bad cell or with one, and document 01's example of a listing.
+-- Assumes nothing.
+use mathlib.Core.Path.{_≡_, refl, sym, ap, _∙_}
+use mathlib.Core.List.{List, [], _++_, append-nil}
+use mathlib.Core.Logic.{⊎-elim, _⊎_, inl, inr, _≢_}
+use Prim.Native.Nat.{ℕ, zero, suc, _/_, _%_, _<_}
+use native.Mathlib.Decide.{decLe}
+use native.Mathlib.Nat.{eq-or-lt-of-le, lt-of-not-le}
+use native.Mathlib.Omega.{arith}
+use lib.IntN.{pos}
+use lib.ListN.{length, getD, set, length-set}
+use lib.Seq.{getD-set-same, getD-set-other}
+use Rattle.selection.specs.Cell.{Allows, digit}
+use Rattle.selection.specs.Computed.{cellOf, allowsOf, madeOf, listFrom, madeTable}
+use Rattle.selection.specs.Table.{Table, Passes}
+use Rattle.selection.specs.declared.Witness.{Witness}
+use Rattle.selection.proofs.MadeTables.{kept-passes}
+use Rattle.report.specs.Text.{decimalUpto, decimalOf, lineEnd}
+use Rattle.listing.specs.Listing.{names, lineText, lineFrom, lineOf, linesUpto, listingOf}
+use Rattle.listing.specs.Example.{exampleLine, Example}
+use Rattle.listing.specs.declared.Line.the-variants.{Nothing, BadCell}
+use Rattle.listing.proofs.Lines.{listed-one}
+use Rattle.listing.proofs.Listings.{table-text}
+
+-- a cell whose digit is allowed has no line
+quiet : {t : List ℕ} → Table t → (k : ℕ) → k < 2048 → Allows (k / 128) (k % 128) (digit (getD t k 0)) → lineOf t k ≡ Nothing
+quiet h k b a = sym (listed-one h b (record { means = a }))
+
+no-lines : (t : List ℕ) (n : ℕ) → ((k : ℕ) → k < n → lineOf t k ≡ Nothing) → linesUpto t n ≡ []
+unfolding linesUpto
+no-lines t zero f = refl
+no-lines t (suc n) f = rw (no-lines t n (λ k l. f k (omega arith)), f n (omega arith))
+
+one-line : (t : List ℕ) (m n : ℕ) → m < n → ((k : ℕ) → k < n → k ≢ m → lineOf t k ≡ Nothing) → linesUpto t n ≡ lineText (lineOf t m)
+unfolding linesUpto
+one-line t m zero l f = absurd (omega arith)
+one-line t m (suc n) l f =
+    ⊎-elim (λ e. rw (e, no-lines t n (λ k b. f k (omega arith) (λ x. omega arith))))
+    (λ b. rw (one-line t m n b (λ k c x. f k (omega arith) x), f n (omega arith) (λ x. omega arith)) (append-nil _))
+    (eq-or-lt-of-le {n = m} {m = n} (omega arith))
+
+passed-prints : (t : List ℕ) → Passes t → listingOf t ≡ names ++ lineEnd
+passed-prints t p = table-text t (p .table) ∙ ap (λ (y : List ℕ). (names ++ lineEnd) ++ y) (no-lines t 2048 (λ k l. quiet (p .table) k l (p .allowed k l)))
+
+same-or-other : (k m : ℕ) → (k ≡ m) ⊎ (k ≢ m)
+same-or-other k m = elim (decLe k m) [ yes l ↦ ⊎-elim (λ e. inl e) (λ b. inr (λ e. omega arith)) (eq-or-lt-of-le l) | no x ↦ inr (λ e. omega (arith, lt-of-not-le x)) ]
+
+changed : List ℕ
+changed = set madeTable 215 2
+
+at-215 : getD changed 215 0 ≡ 2
+unfolding changed
+at-215 = getD-set-same madeTable 215 2 0 (omega (arith, kept-passes .table .size))
+
+elsewhere : (k : ℕ) → k ≢ 215 → getD changed k 0 ≡ getD madeTable k 0
+unfolding changed
+elsewhere k x = getD-set-other madeTable 215 k 2 0 x
+
+changed-size : length changed ≡ 2048
+unfolding changed
+changed-size = simp length-set (kept-passes .table .size)
+
+changed-table : Table changed
+changed-table = record { size = changed-size; digits = λ k. ⊎-elim (λ e. omega (arith, ap (λ (j : ℕ). getD changed j 0) e, at-215)) (λ x. omega (arith, elsewhere k x, kept-passes .table .digits k)) (same-or-other k 215) }
+
+witness : Witness
+witness = record { divisor = 1242993497154256896; remainder = pos 3314649325744685056 }
+
+only-line : (t : List ℕ) → getD t 215 0 ≡ 2 → lineText (lineOf t 215) ≡ exampleLine ++ lineEnd
+unfolding witness lineOf digit decimalUpto decimalOf
+only-line t e = ap (λ (b : ℕ). lineText (lineFrom t 215 (cellOf 1 87 b))) e ∙ ap (λ (b : ℕ). lineText (BadCell 1 87 (digit b) witness)) e
+
+quiet-elsewhere : (k : ℕ) → k < 2048 → k ≢ 215 → lineOf changed k ≡ Nothing
+quiet-elsewhere k l x = quiet changed-table k l (rw (elsewhere k x) (kept-passes .allowed k l))
+
+whole : listingOf changed ≡ (names ++ lineEnd) ++ (exampleLine ++ lineEnd)
+whole = table-text changed changed-table ∙ ap (λ (y : List ℕ). (names ++ lineEnd) ++ y) (one-line changed 215 2048 (omega arith) quiet-elsewhere ∙ only-line changed at-215)
+
+pub example : Example
+unfolding changed allowsOf madeOf listFrom madeTable
+example = record { byte = refl; whole = whole; passed = passed-prints }

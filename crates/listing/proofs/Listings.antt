@@ -1,0 +1,68 @@
+-- The computed listing is the one in document 01's words and there is no other, and the text in the buffer is it.
+-- Assumes nothing.
+use mathlib.Core.Path.{_≡_, refl, sym, ap, _∙_}
+use mathlib.Core.List.{List, _++_}
+use mathlib.Core.Logic.{⊎-elim}
+use Prim.Native.Nat.{ℕ, _≤_}
+use native.Mathlib.Nat.{add-zero, not-le-of-lt}
+use native.Mathlib.Omega.{arith}
+use lib.ListN.{length, take, drop}
+use Rattle.selection.specs.Table.{Table, NoTable, ReportMeaning}
+use Rattle.selection.specs.Computed.{reportOf}
+use Rattle.selection.specs.declared.Refusal.{Refusal}
+use Rattle.selection.specs.declared.table.Outcome.{Outcome}
+use Rattle.selection.specs.declared.table.Outcome.the-variants as O
+use Rattle.selection.specs.declared.table.Report.{Report}
+use Rattle.selection.proofs.Reports.{report-checked}
+use Rattle.selection.proofs.UniqueReport.{checked-one}
+use Rattle.report.specs.Text.{Appended, lineEnd, refusalText}
+use Rattle.report.proofs.Texts.{appended-size, appended-take, appended-drop}
+use Rattle.listing.specs.Listing.{Lists, names, linesUpto, tableText, textFor, listingOf}
+use Rattle.listing.proofs.Lines.{lines-right, lines-one}
+
+-- by the check's answer, the text is the listing in document 01's words
+module _ (t : List ℕ) where
+  table-not-refused : {n p : ℕ} {X : Type 0} → Table t → NoTable t n p → X
+  table-not-refused h f = absurd (⊎-elim (λ l. l .0 (h .size)) (λ r. not-le-of-lt (r .2 .here) (h .digits _)) (f .why))
+
+  one-refusal : (f g : Refusal) → NoTable t (f .number) (f .place) → NoTable t (g .number) (g .place) → f ≡ g
+  one-refusal f g u v =
+      let a : Report = record { count = 0; outcome = O.Refused f } in
+      let b : Report = record { count = 0; outcome = O.Refused g } in
+      let e : O.Refused f ≡ O.Refused g = ap (λ (x : Report). x .outcome) (checked-one {t = t} a b (record { means = (u, refl) }) (record { means = (v, refl) })) in
+      cc
+
+  table-lists : Table t → Lists t (tableText t)
+  table-lists h = record { table = λ _. (linesUpto t 2048, lines-right h 2048 (omega arith), refl); refused = λ f g. table-not-refused h g }
+
+  answer-lists : (n : ℕ) (o : Outcome) → ReportMeaning t n o → Lists t (textFor t o)
+  answer-lists n O.Passed w = table-lists (w .0 .table)
+  answer-lists n (O.Bad b) w = table-lists (w .0)
+  answer-lists n (O.Refused f) w = record { table = λ h. table-not-refused h (w .0); refused = λ g v. ap refusalText (one-refusal f g (w .0) v) }
+
+  pub lists : Lists t (listingOf t)
+  unfolding listingOf
+  lists = answer-lists (reportOf t .count) (reportOf t .outcome) (report-checked t .means)
+
+  table-one : {x : List ℕ} → Lists t x → Table t → x ≡ tableText t
+  table-one l h = let p = l .table h in p .2 ∙ ap (λ (y : List ℕ). (names ++ lineEnd) ++ y) (lines-one h (omega arith) (p .1))
+
+  answer-one : {x : List ℕ} → Lists t x → (n : ℕ) (o : Outcome) → ReportMeaning t n o → x ≡ textFor t o
+  answer-one l n O.Passed w = table-one l (w .0 .table)
+  answer-one l n (O.Bad b) w = table-one l (w .0)
+  answer-one l n (O.Refused f) w = l .refused f (w .0)
+
+  pub lists-one : {x : List ℕ} → Lists t x → x ≡ listingOf t
+  unfolding listingOf
+  lists-one l = answer-one l (reportOf t .count) (reportOf t .outcome) (report-checked t .means)
+
+  pub table-text : Table t → listingOf t ≡ tableText t
+  table-text h = table-one lists h
+
+-- the text for the check's answer, from the start of the buffer on: what the code of `listing` asks
+pub printed : (t : List ℕ) {s s' : List ℕ} {r : ℕ} {a : Report} {o : Outcome} → a ≡ reportOf t → a .outcome ≡ o → Appended s 0 (textFor t o) s' r → r ≤ length s → ((take r s' ≡ listingOf t) × Lists t (take r s')) × ((drop r s' ≡ drop r s) × (r ≤ length s'))
+unfolding listingOf
+printed t e f a h =
+    let size = appended-size a h in
+    let text = appended-take a h ∙ ap (textFor t) (sym f ∙ ap (λ (x : Report). x .outcome) e) in
+    ((text, rw text (lists t)), (rw add-zero at (appended-drop a h 0), omega arith))

@@ -1,0 +1,64 @@
+-- `listing::append_lines` meets its contract: after k turns the buffer has the lines of the first k cells.
+use mathlib.Core.Path.{_≡_, refl, ap, _∙_}
+use Prim.Native.Nat.{_+_, _*_, _-_, _≤_}
+use native.Mathlib.Omega.{arith}
+use lib.ListN.{length}
+use Rattle.report.specs.Text.{Appended}
+use Rattle.report.proofs.Texts.{appended-none, appended-then, appended-as, appended-size}
+use Rattle.listing.specs.Listing.{linesUpto}
+use Rattle.listing.proofs.Lines.{lines-more}
+use Rattle.listing.proofs.append_lines.Statement.{statement}
+use Rattle.listing.proofs.append_lines.Tie as tie
+
+abbrev Inv-loop : tie.InvT-loop
+Inv-loop out₀ at table next₀ k₀ out next k = (k ≤ 2048) × (length out ≡ length out₀) × (next ≤ at + 107 * k) × Appended out₀ at (linesUpto table k) out next
+
+abbrev μ-loop : tie.MeasureT-loop
+μ-loop out₀ at table next₀ k₀ out next k = 2048 - k
+
+loop-holds : tie.Need-loop-holds Inv-loop μ-loop
+unfolding linesUpto
+loop-holds c = (omega arith, refl, omega arith, appended-none _ _)
+
+line-of-requires : tie.Need-line-of-requires Inv-loop μ-loop
+line-of-requires c κs = (c .before .before .before .before .before .pre .0, omega arith)
+
+append-line-requires : tie.Need-append-line-requires Inv-loop μ-loop
+append-line-requires c κs = omega arith
+
+add-k : tie.Need-add-k Inv-loop μ-loop
+add-k c = omega arith
+
+loop-less : tie.Need-loop-less Inv-loop μ-loop
+loop-less c = omega arith
+
+loop-again : tie.Need-loop-again Inv-loop μ-loop
+loop-again c =
+    let l = c .before .before .before .before .before .before .loop in
+    let line = c .before .before .append-line .ensures in
+    let e = lines-more _ _ (c .before .before .before .line-of .ensures .0) in
+    let h : length (c .before .before .append-line .last .0) ≡ length (l .out) = appended-size (line .0) (omega arith) in
+    (omega arith, h ∙ l .inv .1, omega arith, appended-as (appended-then (l .inv .3) (line .0) (omega arith)) e)
+
+same-length : tie.Need-same-length Inv-loop μ-loop
+same-length c = c .before .loop .inv .1
+
+returns : tie.Need-returns Inv-loop μ-loop
+returns c =
+    let e : c .before .loop .k ≡ 2048 = omega arith in
+    (appended-as (c .before .loop .inv .3) (ap (linesUpto _) e), omega arith)
+
+pub append-lines-spec : {M : Type 1} → statement M
+append-lines-spec =
+    tie.close
+    (tie.spec
+    Inv-loop
+    μ-loop
+    loop-holds
+    line-of-requires
+    append-line-requires
+    add-k
+    loop-less
+    loop-again
+    same-length
+    returns)

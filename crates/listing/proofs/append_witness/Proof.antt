@@ -1,0 +1,45 @@
+-- `listing::append_witness` meets its contract: two numbers, one after another.
+use native.Mathlib.Omega.{arith}
+use mathlib.Core.Path.{ap}
+use mathlib.Core.List.{_++_}
+use lib.IntN.{ℤ}
+use mir.Facts.{toZ-ofZ}
+use mir.Syntax.{w64}
+use Rattle.report.specs.Text.{signedOf, lineEnd}
+use Rattle.report.proofs.Texts.{appended-then, appended-as}
+use borrow.Author.Needs.{needs}
+use Rattle.listing.proofs.append_witness.Statement.{statement}
+use Rattle.listing.proofs.append_witness.Tie as tie
+
+slice-aggregate-append-number : tie.Need-slice-aggregate-append-number
+slice-aggregate-append-number c = search needs
+
+append-number-requires : tie.Need-append-number-requires
+append-number-requires c κs = search needs
+
+slice-aggregate-append-signed : tie.Need-slice-aggregate-append-signed
+slice-aggregate-append-signed c = search needs
+
+append-signed-requires : tie.Need-append-signed-requires
+append-signed-requires c κs = search needs
+
+same-length : tie.Need-same-length
+same-length c = search needs
+
+returns : tie.Need-returns
+returns c =
+    let e = toZ-ofZ {w = w64} {z = c .before .before .before .before .before .before .before .before .before .before .before .before .args .witness .remainder} (record { sfits = c .before .before .before .struct-told .given .1 .0 .1 }) in
+    let divisor = c .before .before .before .before .before .before .before .before .append-number .ensures in
+    let remainder = c .before .before .append-signed .ensures in
+    (appended-then (divisor .0) (appended-as (remainder .0) (ap (λ (z : ℤ). signedOf z ++ lineEnd) e)) (omega arith), omega arith)
+
+pub append-witness-spec : {M : Type 1} → statement M
+append-witness-spec =
+    tie.close
+    (tie.spec
+    slice-aggregate-append-number
+    append-number-requires
+    slice-aggregate-append-signed
+    append-signed-requires
+    same-length
+    returns)

@@ -1,0 +1,52 @@
+-- `listing::listing` meets its contract: what the check passes or calls bad is a table, and its text is the listing; so is the refusal's.
+use native.Mathlib.Omega.{arith}
+use Rattle.report.proofs.Verdicts.{passed-table, bad-table}
+use Rattle.listing.proofs.Listings.{printed}
+use borrow.Author.Needs.{needs}
+use Rattle.listing.proofs.listing.Statement.{statement}
+use Rattle.listing.proofs.listing.Tie as tie
+
+check-table-requires : tie.Need-check-table-requires
+check-table-requires c κs = search needs
+
+enum-told : tie.Need-enum-told
+enum-told c = search needs
+
+append-table-requires : tie.Need-append-table-requires
+append-table-requires c κs = (passed-table (c .before .before .before .check-table .ensures .1) (c .before .enum-told .given .1), omega arith)
+
+enum-told-2 : tie.Need-enum-told-2
+enum-told-2 c = search needs
+
+append-table-requires-2 : tie.Need-append-table-requires-2
+append-table-requires-2 c κs = (bad-table (c .before .before .before .check-table .ensures .1) (c .before .enum-told2 .given .1), omega arith)
+
+enum-known-outcome : tie.Need-enum-known-outcome
+enum-known-outcome c = search needs
+
+append-refusal-requires : tie.Need-append-refusal-requires
+append-refusal-requires c κs = search needs
+
+returns : tie.Need-returns
+returns c = printed _ (c .before .before .before .before .check-table .ensures .0) (c .before .before .enum-told .given .1) (c .append-table .ensures .0) (omega arith)
+
+returns-2 : tie.Need-returns-2
+returns-2 c = printed _ (c .before .before .before .before .check-table .ensures .0) (c .before .before .enum-told2 .given .1) (c .append-table2 .ensures .0) (omega arith)
+
+returns-3 : tie.Need-returns-3
+returns-3 c = printed _ (c .before .before .before .before .before .check-table .ensures .0) (c .before .before .before .outcome .given .1) (c .append-refusal .ensures .0) (omega arith)
+
+pub listing-spec : {M : Type 1} → statement M
+listing-spec =
+    tie.close
+    (tie.spec
+    check-table-requires
+    enum-told
+    append-table-requires
+    enum-told-2
+    append-table-requires-2
+    enum-known-outcome
+    append-refusal-requires
+    returns
+    returns-2
+    returns-3)

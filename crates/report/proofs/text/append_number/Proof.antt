@@ -1,0 +1,52 @@
+-- `report::text::append_number` meets its contract: what `io::decimal` makes is the number in decimal, of at most 20 digits.
+use Prim.Native.Nat.{_≤_}
+use mathlib.Core.Path.{_∙_}
+use native.Mathlib.Omega.{arith}
+use Rattle.report.proofs.Decimals.{decimal-count, decimal-is}
+use Rattle.report.proofs.Texts.{appended-then, appended-as}
+use borrow.Author.Needs.{needs}
+use Rattle.report.proofs.text.append_number.Statement.{statement}
+use Rattle.report.proofs.text.append_number.Tie as tie
+
+decimal-requires : tie.Need-decimal-requires
+decimal-requires c κs = search needs
+
+array-share-prefix-digits : tie.Need-array-share-prefix-digits
+array-share-prefix-digits c = search needs
+
+slice-aggregate-append : tie.Need-slice-aggregate-append
+slice-aggregate-append c = search needs
+
+few : (c : tie.After-decimal) → c .decimal .result ≤ 20
+few c = decimal-count _ (c .before .before .before .before .args .number) (c .decimal .ensures .1 .0) (omega arith)
+
+append-requires : tie.Need-append-requires
+append-requires c κs = omega (arith, c .before .before .decimal .ensures .0 .1, few (c .before .before))
+
+append-requires-2 : tie.Need-append-requires-2
+append-requires-2 c κs =
+    let d = c .before .before .before .before .before .before in
+    omega (arith, c .before .before .before .append .ensures .past, d .decimal .ensures .0 .1, few d)
+
+same-length : tie.Need-same-length
+same-length c = search needs
+
+returns : tie.Need-returns
+returns c =
+    let d = c .before .before .before .before .before .before .before .before .before in
+    let a = c .before .before .before .before .before .before .append .ensures in
+    let b = c .before .before .append2 .ensures in
+    let h = few d in
+    (appended-then (appended-as a (d .decimal .ensures .1 .1 ∙ decimal-is _ _ (d .decimal .ensures .1 .0) h)) b (omega (arith, a .past, d .decimal .ensures .0 .1)), omega (arith, a .past, b .past, d .decimal .ensures .0 .1))
+
+pub append-number-spec : {M : Type 1} → statement M
+append-number-spec =
+    tie.close
+    (tie.spec
+    decimal-requires
+    array-share-prefix-digits
+    slice-aggregate-append
+    append-requires
+    append-requires-2
+    same-length
+    returns)
