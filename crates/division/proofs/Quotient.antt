@@ -9,16 +9,29 @@ use native.Mathlib.Omega.{arith}
 use lib.Dec.{ltb, eqb}
 use lib.Pow.{pow-add, pow-mono, pow-pos}
 use borrow.Author.Tests.{le-leb, lt-leb}
-use Rattle.division.specs.Rounding.{restOf, restAt, packed, modeOf}
+use Rattle.division.specs.Rounding.{modeOf}
 use Rattle.division.specs.Through.{sticky}
 use Rattle.division.specs.declared.binary64.Scaled.{Scaled}
 use Rattle.division.specs.declared.binary64.Aligned.{Aligned}
-use Rattle.division.specs.Binary64.{largest, exponent, finiteQuotient}
-use Rattle.division.specs.Working.{ScaledTo, AlignedTo}
+use Rattle.division.specs.Computed.{restOf, packed, largest, exponent, finiteQuotient}
+use Rattle.division.specs.Working.{Normalized}
 use Rattle.laws.proofs.Division.{either, quotient}
 use Rattle.division.proofs.Rounding.{cond-in}
 use Rattle.division.proofs.Sticky.{sticky-cross, sticky-sticky}
-use Rattle.division.proofs.Nearest.{whole-units, halves, quotient-rest}
+use Rattle.division.proofs.Nearest.{restAt, whole-units, halves, quotient-rest}
+
+-- x is normalized, and sig * 2^exp is m * 2^52
+pub record ScaledTo (m : ℕ) (x : Scaled) : Type 0 where
+  pub bits : Normalized x
+  pub same : x .sig * 2 ^ x .exp ≡ m * 2 ^ 52
+
+-- at the exponent e, w * 2^(up - down) is cut down by e + down - up bits
+pub record AlignedTo (w up down : ℕ) (x : Aligned) : Type 0 where
+  pub reach : up ≤ x .e + down
+  pub value : x .v ≡ sticky w (2 * 2 ^ (x .e + down - up))
+  pub low : 2 ^ 54 * min 1 (x .e) ≤ x .v
+  pub high : x .v < 2 ^ 55
+  pub small : x .e ≤ 3119
 
 -- the search finds the one exponent in range
 pub largest-is : (d a b e : ℕ) → e ≤ d → (0 < e → b * 2 ^ e ≤ a * 2 ^ 1022) → a * 2 ^ 1022 < b * 2 ^ suc e → largest d a b ≡ e

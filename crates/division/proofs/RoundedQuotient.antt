@@ -11,8 +11,9 @@ use borrow.Author.Tests.{le-leb, lt-leb, eq-eqb, ne-eqb, lt-ltb, le-ltb}
 use Rattle.division.specs.declared.binary64.Mode.{Mode}
 use Rattle.division.specs.declared.binary64.Mode.the-variants.{Nearest, Toward, Away}
 use Rattle.division.specs.declared.binary64.Binary64Result.{Binary64Result}
-use Rattle.division.specs.Rounding.{roundedTo, restOf, packed, modeOf, signBit, overflowOf, flagsOf}
-use Rattle.division.specs.Binary64.{exponent, finiteQuotient, magnitude, negative, field, IsExponent}
+use Rattle.division.specs.Rounding.{modeOf, signBit}
+use Rattle.division.specs.Binary64.{magnitude, negative, field, IsExponent}
+use Rattle.division.specs.Computed.{roundedTo, restOf, overflowOf, flagsOf, packed, exponent, finiteQuotient}
 use Rattle.division.specs.Ieee.{overflowValue, flagsOfResult, RoundedQuotient}
 use Rattle.laws.proofs.Division.{either, quotient}
 use Rattle.division.proofs.Rounding.{rounded-near, overflows, cond-in, packed-fits}
