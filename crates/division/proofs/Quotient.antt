@@ -73,12 +73,12 @@ above a b x p v h e l =
     omega arith
 
 -- any e and v in range, v the sticky quotient at half units of 2^(e - 1074), give the definition's answer
-pub finite-is : (direction : ℕ) (s : Bool) (a b e v : ℕ) → 0 < b → e ≤ 3120 → v ≡ sticky (2 * (a * 2 ^ 1074)) (b * 2 ^ e) → 2 ^ 54 * min 1 e ≤ v → v < 2 ^ 55
+pub finite-is : (direction : ℕ) (s : Bool) (a b e v : ℕ) → 0 < b → e ≤ 3119 → v ≡ sticky (2 * (a * 2 ^ 1074)) (b * 2 ^ e) → 2 ^ 54 * min 1 e ≤ v → v < 2 ^ 55
     → finiteQuotient direction s a b ≡ packed (modeOf direction s) s e (v / 4) (v % 4)
 unfolding finiteQuotient
 finite-is direction s a b e v p l q low high =
     let u : 0 < b * 2 ^ e = mul-pos p (pow-pos e) in
-    let E : exponent a b ≡ e = largest-is 3120 a b e l
+    let E : exponent a b ≡ e = largest-is 3119 a b e l
     (λ g. above a b (2 ^ 1022) (2 ^ e) v u q (omega arith))
     (rw (pow-suc 2 e) (below a b (2 ^ 1022) (2 ^ e) v u q high)) in
     let n = a * 2 ^ 1074 in

@@ -62,10 +62,10 @@ unfoldable pub largest : ℕ → ℕ → ℕ → ℕ
 largest zero a b = 0
 largest (suc d) a b = elim (leb (b * 2 ^ suc d) (a * 2 ^ 1022)) [ true ↦ suc d | false ↦ largest d a b ]
 
--- a magnitude is below 2^2098 units, so a/b is below 2^2098 and E + 1022 below 3120
+-- a magnitude is below 2^2098 units, so a/b is below 2^2098 and E + 1022 at most 3119
 unfoldable pub exponent : ℕ → ℕ → ℕ
 unfolding largest
-exponent a b = largest 3120 a b
+exponent a b = largest 3119 a b
 
 -- a * 2^1074 is the quotient a/b's dividend in units of 2^-1074, and b * 2^e the unit's divisor
 unfoldable pub finiteQuotient : ℕ → Bool → ℕ → ℕ → Binary64Result
