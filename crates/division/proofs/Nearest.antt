@@ -8,8 +8,8 @@ use native.Mathlib.Omega.{arith}
 use mathlib.Core.Bool.{cond}
 use lib.Dec.{eqb, ltb}
 use borrow.Author.Tests.{lt-ltb, le-ltb, eq-eqb, ne-eqb}
-use Rattle.division.specs.declared.binary64.Mode.{Mode}
-use Rattle.division.specs.declared.binary64.Mode.the-variants.{Nearest, Toward, Away}
+use Rattle.division.specs.declared.rounding.Mode.{Mode}
+use Rattle.division.specs.declared.rounding.Mode.the-variants.{Nearest, Toward, Away}
 use Rattle.division.specs.Rounding.{AwayFromZero, ToNearest, Rounds}
 use Rattle.division.specs.Computed.{roundedTo, restOf}
 use Rattle.laws.proofs.Division.{either}

@@ -16,7 +16,7 @@ use Rattle.division.specs.declared.binary64.Aligned.{Aligned}
 use Rattle.division.specs.Computed.{restOf, packed, largest, exponent, finiteQuotient}
 use Rattle.division.specs.Working.{Normalized}
 use Rattle.laws.proofs.Division.{either, quotient}
-use Rattle.division.proofs.Rounding.{cond-in}
+use Rattle.division.proofs.Packing.{cond-in}
 use Rattle.division.proofs.Sticky.{sticky-cross, sticky-sticky}
 use Rattle.division.proofs.Nearest.{restAt, whole-units, halves, quotient-rest}
 

@@ -3,8 +3,8 @@
 use mathlib.Core.Bool.{Bool, true, false, _&&_, _||_, cond}
 use Prim.Native.Nat.{ℕ, zero, suc, _+_, _*_, _/_, _%_, _^_}
 use lib.Dec.{leb, ltb, eqb}
-use Rattle.division.specs.declared.binary64.Mode.{Mode}
-use Rattle.division.specs.declared.binary64.Mode.the-variants.{Nearest, Toward, Away}
+use Rattle.division.specs.declared.rounding.Mode.{Mode}
+use Rattle.division.specs.declared.rounding.Mode.the-variants.{Nearest, Toward, Away}
 use Rattle.division.specs.declared.binary64.Binary64Result.{Binary64Result}
 use Rattle.division.specs.declared.binary64.Class.{Class}
 use Rattle.division.specs.declared.binary64.Class.the-variants.{Zero, Subnormal, Normal, Infinite, Nan}

@@ -5,8 +5,8 @@ use mathlib.Core.Path.{_≡_}
 use mathlib.Core.Logic.{_⊎_}
 use Prim.Native.Nat.{ℕ, zero, suc, _+_, _-_, _*_, _%_, _^_, _≤_, _<_}
 use mathlib.Core.Bool.{Bool, cond}
-use Rattle.division.specs.declared.binary64.Mode.{Mode}
-use Rattle.division.specs.declared.binary64.Mode.the-variants.{Nearest, Toward, Away}
+use Rattle.division.specs.declared.rounding.Mode.{Mode}
+use Rattle.division.specs.declared.rounding.Mode.the-variants.{Nearest, Toward, Away}
 
 -- direction 0 nearest, 1 toward zero, 2 toward plus infinity, 3 toward minus infinity; true is a negative sign. Above 3, which the calls refuse, it is read as 0
 abbrev pub modeOf : ℕ → Bool → Mode
