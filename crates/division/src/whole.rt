@@ -69,17 +69,15 @@ fn divide_kept(a: u64, b: u64) -> WholeResult
 fn refusal_of(a: u64, b: u64) -> Admission
     ensures { λ r. ⌜ r ≡ wholeRefusal a b ⌝ }
 {
+    let outside = Admission::Refused(Refusal {
+        number: 4,
+        place: 0,
+    });
     if 0x1000_0000_0000_0000 <= a {
-        return Admission::Refused(Refusal {
-            number: 4,
-            place: 0,
-        });
+        return outside;
     }
     if 0x1000_0000_0000_0000 <= b {
-        return Admission::Refused(Refusal {
-            number: 4,
-            place: 0,
-        });
+        return outside;
     }
     if b == 0 {
         return Admission::Refused(Refusal {
