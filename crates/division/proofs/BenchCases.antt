@@ -13,7 +13,7 @@ use Rattle.selection.proofs.MadeTables.{made-bytes, kept-passes}
 use Rattle.selection.proofs.Reports.{passes-admitted}
 use Rattle.recurrence.specs.Recurrence.{digits, after, nextOf, value, endRemainder, resultOf}
 use Rattle.division.specs.Whole.{wholeOf}
-use Rattle.division.specs.Binary64.{finiteQuotient}
+use Rattle.division.specs.Computed.{finiteQuotient}
 use Rattle.division.specs.Through.{binary64Of}
 use Rattle.division.specs.BenchCases.{Case8, Case9, BenchCases}
 use Rattle.division.specs.declared.whole.WholeAnswer.the-variants as W

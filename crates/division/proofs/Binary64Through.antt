@@ -15,13 +15,14 @@ use Rattle.selection.specs.Table.{Passes}
 use Rattle.recurrence.specs.Recurrence.{Operands, resultOf}
 use Rattle.recurrence.proofs.RunDemand.{result-divides}
 use Rattle.division.specs.Whole.{shiftTo}
-use Rattle.division.specs.Binary64.{magnitude, field, fraction, signOf, finiteQuotient, byClass, orQuotient, divided}
+use Rattle.division.specs.Binary64.{magnitude, field, fraction, signOf}
+use Rattle.division.specs.Computed.{finiteQuotient, byClass, orQuotient, divided}
 use Rattle.division.specs.Through.{sticky, significandOf, ratioThrough, alignedOf, roundedQuotient, scaledThrough, binary64Through}
-use Rattle.division.specs.Working.{FiniteNonzero, ScaledTo, AlignedTo}
+use Rattle.division.specs.Working.{FiniteNonzero}
 use Rattle.division.specs.declared.binary64.ByClass.{ByClass}
 use Rattle.division.specs.declared.binary64.ByClass.the-variants.{Decided, Quotient}
 use Rattle.division.proofs.Sticky.{ratio-is, cut-high, cut-low}
-use Rattle.division.proofs.Quotient.{aligned-is}
+use Rattle.division.proofs.Quotient.{ScaledTo, AlignedTo, aligned-is}
 use Rattle.division.proofs.Classes.{quotient-operands}
 
 pub significand-right : (p : ℕ) → FiniteNonzero p → ScaledTo (magnitude p) (significandOf p)

@@ -13,7 +13,8 @@ use Rattle.division.specs.declared.binary64.Class.the-variants.{Zero, Su
 use Rattle.division.specs.declared.binary64.Case.{Case}
 use Rattle.division.specs.declared.binary64.Case.the-variants.{Quiet, Invalid, ToInfinity, ByZero, ToZero, Finite}
 use Rattle.division.specs.declared.binary64.ByClass.the-variants.{Quotient}
-use Rattle.division.specs.Binary64.{caseOf, classOf, field, fraction, signOf, decided, byClass}
+use Rattle.division.specs.Binary64.{classOf, field, fraction, signOf}
+use Rattle.division.specs.Computed.{caseOf, decided, byClass}
 use Rattle.division.specs.Working.{FiniteNonzero}
 use Rattle.division.specs.Ieee.{IsNonzero, IsFinite}
 use Rattle.laws.proofs.Division.{either}

@@ -8,7 +8,8 @@ use lib.Dec.{lit≤}
 use mathlib.Core.List.{List}
 use lib.Pow.{pow-pos, pow-mono}
 use borrow.Author.Tests.{ne-eqb}
-use Rattle.division.specs.Binary64.{finiteQuotient, magnitude, field, classOf, caseOf, signOf, decided, orQuotient, divided}
+use Rattle.division.specs.Binary64.{magnitude, field, classOf, signOf}
+use Rattle.division.specs.Computed.{finiteQuotient, caseOf, decided, orQuotient, divided}
 use Rattle.division.specs.Through.{binary64Through}
 use Rattle.division.specs.Ieee.{RoundedQuotient, Ieee}
 use Rattle.division.specs.declared.binary64.Class.{Class}

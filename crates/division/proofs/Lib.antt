@@ -1,6 +1,6 @@
 pub mod Sticky
 pub mod Nearest
-pub mod Rounding
+pub mod Packing
 pub mod Quotient
 pub mod Meaning
 pub mod Classes

@@ -5,11 +5,18 @@ use mathlib.Core.Logic.{inl, inr, ⊎-elim}
 use Prim.Native.Nat.{ℕ, suc, min, _+_, _-_, _*_, _/_, _%_, _≤_, _<_}
 use native.Mathlib.Nat.{div-add-mod', mod-lt, le-of-lt, lt-of-lt-of-le, eq-zero-or-pos, eq-or-lt-of-le, le-refl, le-of-eq, lt-of-not-le, not-le-of-lt, mul-lt-mul-of-pos-right, le-trans}
 use native.Mathlib.Omega.{arith}
+use mathlib.Core.Bool.{cond}
+use lib.Dec.{eqb, ltb}
 use borrow.Author.Tests.{lt-ltb, le-ltb, eq-eqb, ne-eqb}
-use Rattle.division.specs.declared.binary64.Mode.{Mode}
-use Rattle.division.specs.declared.binary64.Mode.the-variants.{Nearest, Toward, Away}
-use Rattle.division.specs.Rounding.{roundedTo, restOf, restAt, AwayFromZero, ToNearest, Rounds}
+use Rattle.division.specs.declared.rounding.Mode.{Mode}
+use Rattle.division.specs.declared.rounding.Mode.the-variants.{Nearest, Toward, Away}
+use Rattle.division.specs.Rounding.{AwayFromZero, ToNearest, Rounds}
+use Rattle.division.specs.Computed.{roundedTo, restOf}
 use Rattle.laws.proofs.Division.{either}
+
+-- the rest beyond k units: 0 none, 1 below half a unit, 2 half, 3 above
+abbrev pub restAt : (ℕ → ℕ) → ℕ → ℕ → ℕ
+restAt f m k = cond (eqb m (f (2 * k))) 0 (cond (ltb m (f (2 * k + 1))) 1 (cond (eqb m (f (2 * k + 1))) 2 3))
 
 parity : (y : ℕ) → suc y % 2 ≡ 0 → y % 2 ≡ 0 → ⊥
 parity y p q = omega arith

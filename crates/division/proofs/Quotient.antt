@@ -9,16 +9,29 @@ use native.Mathlib.Omega.{arith}
 use lib.Dec.{ltb, eqb}
 use lib.Pow.{pow-add, pow-mono, pow-pos}
 use borrow.Author.Tests.{le-leb, lt-leb}
-use Rattle.division.specs.Rounding.{restOf, restAt, packed, modeOf}
+use Rattle.division.specs.Rounding.{modeOf}
 use Rattle.division.specs.Through.{sticky}
 use Rattle.division.specs.declared.binary64.Scaled.{Scaled}
 use Rattle.division.specs.declared.binary64.Aligned.{Aligned}
-use Rattle.division.specs.Binary64.{largest, exponent, finiteQuotient}
-use Rattle.division.specs.Working.{ScaledTo, AlignedTo}
+use Rattle.division.specs.Computed.{restOf, packed, largest, exponent, finiteQuotient}
+use Rattle.division.specs.Working.{Normalized}
 use Rattle.laws.proofs.Division.{either, quotient}
-use Rattle.division.proofs.Rounding.{cond-in}
+use Rattle.division.proofs.Packing.{cond-in}
 use Rattle.division.proofs.Sticky.{sticky-cross, sticky-sticky}
-use Rattle.division.proofs.Nearest.{whole-units, halves, quotient-rest}
+use Rattle.division.proofs.Nearest.{restAt, whole-units, halves, quotient-rest}
+
+-- x is normalized, and sig * 2^exp is m * 2^52
+pub record ScaledTo (m : ℕ) (x : Scaled) : Type 0 where
+  pub bits : Normalized x
+  pub same : x .sig * 2 ^ x .exp ≡ m * 2 ^ 52
+
+-- at the exponent e, w * 2^(up - down) is cut down by e + down - up bits
+pub record AlignedTo (w up down : ℕ) (x : Aligned) : Type 0 where
+  pub reach : up ≤ x .e + down
+  pub value : x .v ≡ sticky w (2 * 2 ^ (x .e + down - up))
+  pub low : 2 ^ 54 * min 1 (x .e) ≤ x .v
+  pub high : x .v < 2 ^ 55
+  pub small : x .e ≤ 3119
 
 -- the search finds the one exponent in range
 pub largest-is : (d a b e : ℕ) → e ≤ d → (0 < e → b * 2 ^ e ≤ a * 2 ^ 1022) → a * 2 ^ 1022 < b * 2 ^ suc e → largest d a b ≡ e
@@ -60,12 +73,12 @@ above a b x p v h e l =
     omega arith
 
 -- any e and v in range, v the sticky quotient at half units of 2^(e - 1074), give the definition's answer
-pub finite-is : (direction : ℕ) (s : Bool) (a b e v : ℕ) → 0 < b → e ≤ 3120 → v ≡ sticky (2 * (a * 2 ^ 1074)) (b * 2 ^ e) → 2 ^ 54 * min 1 e ≤ v → v < 2 ^ 55
+pub finite-is : (direction : ℕ) (s : Bool) (a b e v : ℕ) → 0 < b → e ≤ 3119 → v ≡ sticky (2 * (a * 2 ^ 1074)) (b * 2 ^ e) → 2 ^ 54 * min 1 e ≤ v → v < 2 ^ 55
     → finiteQuotient direction s a b ≡ packed (modeOf direction s) s e (v / 4) (v % 4)
 unfolding finiteQuotient
 finite-is direction s a b e v p l q low high =
     let u : 0 < b * 2 ^ e = mul-pos p (pow-pos e) in
-    let E : exponent a b ≡ e = largest-is 3120 a b e l
+    let E : exponent a b ≡ e = largest-is 3119 a b e l
     (λ g. above a b (2 ^ 1022) (2 ^ e) v u q (omega arith))
     (rw (pow-suc 2 e) (below a b (2 ^ 1022) (2 ^ e) v u q high)) in
     let n = a * 2 ^ 1074 in

@@ -8,14 +8,15 @@ use native.Mathlib.Omega.{arith}
 use lib.Dec.{ltb, eqb}
 use lib.Pow.{pow-pos}
 use borrow.Author.Tests.{le-leb, lt-leb, eq-eqb, ne-eqb, lt-ltb, le-ltb}
-use Rattle.division.specs.declared.binary64.Mode.{Mode}
-use Rattle.division.specs.declared.binary64.Mode.the-variants.{Nearest, Toward, Away}
+use Rattle.division.specs.declared.rounding.Mode.{Mode}
+use Rattle.division.specs.declared.rounding.Mode.the-variants.{Nearest, Toward, Away}
 use Rattle.division.specs.declared.binary64.Binary64Result.{Binary64Result}
-use Rattle.division.specs.Rounding.{roundedTo, restOf, packed, modeOf, signBit, overflowOf, flagsOf}
-use Rattle.division.specs.Binary64.{exponent, finiteQuotient, magnitude, negative, field, IsExponent}
+use Rattle.division.specs.Rounding.{modeOf, signBit}
+use Rattle.division.specs.Binary64.{magnitude, negative, field, IsExponent}
+use Rattle.division.specs.Computed.{roundedTo, restOf, overflowOf, flagsOf, packed, exponent, finiteQuotient}
 use Rattle.division.specs.Ieee.{overflowValue, flagsOfResult, RoundedQuotient}
 use Rattle.laws.proofs.Division.{either, quotient}
-use Rattle.division.proofs.Rounding.{rounded-near, overflows, cond-in, packed-fits}
+use Rattle.division.proofs.Packing.{rounded-near, overflows, cond-in, packed-fits}
 use Rattle.division.proofs.Meaning.{exponent-meets, stands-for, unsigned}
 use Rattle.division.proofs.Units.{At, at, units-low}
 

@@ -4,9 +4,10 @@ use Prim.Native.Nat.{ℕ, min, _*_, _/_, _%_, _^_, _≤_, _<_}
 use native.Mathlib.Nat.{mul-pos, div-lt-iff-lt-mul, le-div-iff-mul-le, pow-suc}
 use native.Mathlib.Omega.{arith}
 use lib.Pow.{pow-pos}
-use Rattle.division.specs.declared.binary64.Mode.{Mode}
-use Rattle.division.specs.Rounding.{roundedTo, restOf, Rounds}
+use Rattle.division.specs.declared.rounding.Mode.{Mode}
+use Rattle.division.specs.Rounding.{Rounds}
 use Rattle.division.specs.Binary64.{IsExponent}
+use Rattle.division.specs.Computed.{roundedTo, restOf}
 use Rattle.laws.proofs.Division.{either}
 use Rattle.division.proofs.Nearest.{quotient-rounds}
 

@@ -1,6 +1,7 @@
 pub mod Whole
 pub mod Rounding
 pub mod Binary64
+pub mod Computed
 pub mod Through
 pub mod Working
 pub mod Ieee

@@ -11,8 +11,9 @@ use Rattle.selection.specs.declared.Admission.{Admission}
 use Rattle.selection.specs.declared.Admission.the-variants as A
 use Rattle.recurrence.specs.Recurrence.{resultOf}
 use Rattle.division.specs.Whole.{shiftTo}
-use Rattle.division.specs.Rounding.{modeOf, packed}
-use Rattle.division.specs.Binary64.{field, fraction, signOf, byClass, orQuotient}
+use Rattle.division.specs.Rounding.{modeOf}
+use Rattle.division.specs.Binary64.{field, fraction, signOf}
+use Rattle.division.specs.Computed.{packed, byClass, orQuotient}
 use Rattle.division.specs.declared.binary64.Scaled.{Scaled}
 use Rattle.division.specs.declared.binary64.Aligned.{Aligned}
 use Rattle.division.specs.declared.binary64.Binary64Result.{Binary64Result}

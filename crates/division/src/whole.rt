@@ -2,7 +2,6 @@
 ghost use mathlib.Core.Path.{_≡_};
 ghost use mathlib.Core.List.{List};
 ghost use Prim.Native.Nat.{ℕ, _+_, _-_, _*_, _/_, _%_, _^_, _≤_, _<_};
-ghost use lib.ListN.{length};
 ghost use Rattle.selection.specs.Cell as Cell;
 ghost use Rattle.selection.specs.Computed.{madeTable};
 ghost use Rattle.selection.specs.Table.{Passes, rowBytes};
@@ -29,28 +28,19 @@ fn shift_of(b: u64) -> u32
     u64::leading_zeros(b) - 3
 }
 
-// The quotient of a by a divisor moved up by s bits to d, through its row in a table that passes; the run's digits go to a buffer of 31 bytes.
-fn shifted_into(row: &[u8], a: u64, d: u64, s: u32, digits: &mut [u8]) -> WholeResult
-    requires { ⌜ (Row d (now row)) × (a < 2 ^ 60) × (2 ^ 60 ≤ d) × (d < 2 ^ 61) × (s ≤ 60) × (length (now digits) ≡ 31) ⌝ }
-    ensures { λ r. ⌜ ((t : List ℕ) → Passes t → now (row .entry) ≡ rowBytes t (Cell.row d) → r ≡ shiftedThrough t a d s) ⌝ }
-{
-    let n = a << (s % 2);
-    let count = (s / 2 + 1) as usize;
-    let ran = recurrence::run_row(row, n, d, &mut digits[0..count]);
-    let q = ran.quotient;
-    let r = ran.remainder;
-    WholeResult {
-        quotient: q,
-        remainder: r >> s,
-    }
-}
-
+// The quotient of a by a divisor moved up by s bits to d, through its row in a table that passes.
 fn shifted(row: &[u8], a: u64, d: u64, s: u32) -> WholeResult
     requires { ⌜ (Row d (now row)) × (a < 2 ^ 60) × (2 ^ 60 ≤ d) × (d < 2 ^ 61) × (s ≤ 60) ⌝ }
     ensures { λ r. ⌜ ((t : List ℕ) → Passes t → now (row .entry) ≡ rowBytes t (Cell.row d) → r ≡ shiftedThrough t a d s) ⌝ }
 {
+    let n = a << (s % 2);
+    let count = (s / 2 + 1) as usize;
     let mut digits = [2u8; 31];
-    shifted_into(row, a, d, s, &mut digits)
+    let ran = recurrence::run_row(row, n, d, &mut digits[0..count]);
+    WholeResult {
+        quotient: ran.quotient,
+        remainder: ran.remainder >> s,
+    }
 }
 
 // a / b through a table that passes.
@@ -79,17 +69,15 @@ fn divide_kept(a: u64, b: u64) -> WholeResult
 fn refusal_of(a: u64, b: u64) -> Admission
     ensures { λ r. ⌜ r ≡ wholeRefusal a b ⌝ }
 {
+    let outside = Admission::Refused(Refusal {
+        number: 4,
+        place: 0,
+    });
     if 0x1000_0000_0000_0000 <= a {
-        return Admission::Refused(Refusal {
-            number: 4,
-            place: 0,
-        });
+        return outside;
     }
     if 0x1000_0000_0000_0000 <= b {
-        return Admission::Refused(Refusal {
-            number: 4,
-            place: 0,
-        });
+        return outside;
     }
     if b == 0 {
         return Admission::Refused(Refusal {

@@ -1,0 +1,130 @@
+-- Computed definitions: what the functions return, tied to the meaning in Ieee by the law `ieee`. The last, `divided`, is the answer through every table that passes
+-- (`binary64-through`), and the others are its parts. None need be believed; `ieee-one` shows that no other answer has that meaning.
+use mathlib.Core.Bool.{Bool, true, false, _&&_, _||_, cond}
+use Prim.Native.Nat.{ℕ, zero, suc, _+_, _*_, _/_, _%_, _^_}
+use lib.Dec.{leb, ltb, eqb}
+use Rattle.division.specs.declared.rounding.Mode.{Mode}
+use Rattle.division.specs.declared.rounding.Mode.the-variants.{Nearest, Toward, Away}
+use Rattle.division.specs.declared.binary64.Binary64Result.{Binary64Result}
+use Rattle.division.specs.declared.binary64.Class.{Class}
+use Rattle.division.specs.declared.binary64.Class.the-variants.{Zero, Subnormal, Normal, Infinite, Nan}
+use Rattle.division.specs.declared.binary64.Case.{Case}
+use Rattle.division.specs.declared.binary64.Case.the-variants.{Quiet, Invalid, ToInfinity, ByZero, ToZero, Finite}
+use Rattle.division.specs.declared.binary64.ByClass.{ByClass}
+use Rattle.division.specs.declared.binary64.ByClass.the-variants.{Decided, Quotient}
+use Rattle.division.specs.Rounding.{modeOf, signBit}
+use Rattle.division.specs.Binary64.{magnitude, classOf, signOf}
+
+-- ---- rounding, once for every operation that rounds
+
+-- An exact magnitude x ≥ 0 in some unit is given by k, the whole units in it, and by its rest:
+-- 0 nothing is left, 1 less than half a unit, 2 half a unit, 3 more than half a unit.
+
+-- nearest, ties to even
+abbrev pub nearest : ℕ → ℕ → ℕ
+nearest k rest = cond (ltb rest 2) k (cond (eqb rest 2) (k + k % 2) (k + 1))
+
+abbrev pub roundedTo : Mode → ℕ → ℕ → ℕ
+roundedTo Nearest k rest = nearest k rest
+roundedTo Toward k rest = k
+roundedTo Away k rest = cond (eqb rest 0) k (k + 1)
+
+-- the rest of r over u: r is what a division by u leaves
+abbrev pub restOf : ℕ → ℕ → ℕ
+restOf r u = cond (eqb r 0) 0 (cond (ltb (2 * r) u) 1 (cond (eqb (2 * r) u) 2 3))
+
+-- what overflow gives: the largest finite number where the direction points toward zero, else infinity
+abbrev pub overflowOf : Mode → ℕ
+overflowOf Nearest = 0x7FF0_0000_0000_0000
+overflowOf Toward = 0x7FEF_FFFF_FFFF_FFFF
+overflowOf Away = 0x7FF0_0000_0000_0000
+
+-- the flags of a result that does not overflow: 1 inexact; 2 underflow, if the exact magnitude is below 2^-1022 too
+abbrev pub flagsOf : ℕ → ℕ → ℕ → ℕ
+flagsOf e k rest = cond (eqb rest 0) 0 (cond (eqb e 0 && ltb k (2 ^ 52)) 3 1)
+
+-- K units of 2^(e - 1074), assembled: the pattern of K * 2^(e - 1074), or overflow from 2^1024 on
+abbrev pub assembled : Mode → Bool → ℕ → ℕ → ℕ → ℕ → Binary64Result
+assembled mode s e k rest K =
+    cond (leb (2 ^ 2098) (K * 2 ^ e))
+    (record { pattern = signBit s + overflowOf mode; flags = 1 + 4 })
+    (record { pattern = signBit s + (e * 2 ^ 52 + K); flags = flagsOf e k rest })
+
+-- the answer for the magnitude of k units of 2^(e - 1074) and a rest
+abbrev pub packed : Mode → Bool → ℕ → ℕ → ℕ → Binary64Result
+packed mode s e k rest = assembled mode s e k rest (roundedTo mode k rest)
+
+-- ---- the quotient of two magnitudes
+
+-- E + 1022, for E the largest whole number with 2^E ≤ a/b, raised to -1022 if lower. 2^E ≤ a/b is b * 2^(E + 1022) ≤ a * 2^1022.
+-- It is looked for from d down.
+unfoldable pub largest : ℕ → ℕ → ℕ → ℕ
+largest zero a b = 0
+largest (suc d) a b = elim (leb (b * 2 ^ suc d) (a * 2 ^ 1022)) [ true ↦ suc d | false ↦ largest d a b ]
+
+-- a magnitude is below 2^2098 units, so a/b is below 2^2098 and E + 1022 at most 3119
+unfoldable pub exponent : ℕ → ℕ → ℕ
+unfolding largest
+exponent a b = largest 3119 a b
+
+-- a * 2^1074 is the quotient a/b's dividend in units of 2^-1074, and b * 2^e the unit's divisor
+unfoldable pub finiteQuotient : ℕ → Bool → ℕ → ℕ → Binary64Result
+unfolding exponent
+finiteQuotient direction s a b =
+    let e = exponent a b in
+    let u = b * 2 ^ e in
+    packed (modeOf direction s) s e (a * 2 ^ 1074 / u) (restOf (a * 2 ^ 1074 % u) u)
+
+-- ---- the classes
+
+abbrev pub isNan : Class → Bool
+isNan Zero = false
+isNan Subnormal = false
+isNan Normal = false
+isNan Infinite = false
+isNan Nan = true
+
+abbrev pub isInfinite : Class → Bool
+isInfinite Zero = false
+isInfinite Subnormal = false
+isInfinite Normal = false
+isInfinite Infinite = true
+isInfinite Nan = false
+
+abbrev pub isZero : Class → Bool
+isZero Zero = true
+isZero Subnormal = false
+isZero Normal = false
+isZero Infinite = false
+isZero Nan = false
+
+-- the document's cases, in its order
+abbrev pub caseOf : Class → Class → Case
+caseOf x y =
+    cond (isNan x || isNan y) Quiet
+    (cond ((isZero x && isZero y) || (isInfinite x && isInfinite y)) Invalid
+    (cond (isInfinite x) ToInfinity
+    (cond (isZero y) ByZero
+    (cond (isZero x || isInfinite y) ToZero
+    Finite))))
+
+-- the answer to each case that the classes alone decide
+abbrev pub decided : Bool → Case → ByClass
+decided s Quiet = Decided (record { pattern = 0x7FF8_0000_0000_0000; flags = 0 })
+decided s Invalid = Decided (record { pattern = 0x7FF8_0000_0000_0000; flags = 16 })
+decided s ToInfinity = Decided (record { pattern = signBit s + 0x7FF0_0000_0000_0000; flags = 0 })
+decided s ByZero = Decided (record { pattern = signBit s + 0x7FF0_0000_0000_0000; flags = 8 })
+decided s ToZero = Decided (record { pattern = signBit s; flags = 0 })
+decided s Finite = Quotient
+
+abbrev pub byClass : ℕ → ℕ → ByClass
+byClass a b = decided (signOf a b) (caseOf (classOf a) (classOf b))
+
+-- else it is x
+abbrev pub orQuotient : Binary64Result → ByClass → Binary64Result
+orQuotient x (Decided y) = y
+orQuotient x Quotient = x
+
+-- a / b, in a direction
+abbrev pub divided : ℕ → ℕ → ℕ → Binary64Result
+divided direction a b = orQuotient (finiteQuotient direction (signOf a b) (magnitude a) (magnitude b)) (byClass a b)
