@@ -66,7 +66,7 @@ pub fn sign_bit(negative: bool) -> u64
 }
 
 // Inexact and underflow.
-fn flags_of(e: u64, k: u64, rest: u64) -> u64
+fn flags_of(e: u64, k: u64, rest: u64) -> u8
     ensures { λ r. ⌜ r ≡ flagsOf e k rest ⌝ }
 {
     if rest == 0 {

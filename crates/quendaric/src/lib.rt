@@ -246,7 +246,7 @@ fn binary64_reply(x: Binary64Answer) -> Binary64Reply
             refusal: 0,
             place: 0,
             pattern: a.pattern,
-            flags: a.flags,
+            flags: a.flags as u64,
         },
         Binary64Answer::Refused(f) => Binary64Reply {
             refusal: f.number,

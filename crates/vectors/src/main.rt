@@ -135,7 +135,7 @@ fn differs(v: Vector) -> bool
             if answer.pattern != v.pattern {
                 return true;
             }
-            answer.flags != v.flags
+            answer.flags as u64 != v.flags
         }
         Binary64Answer::Refused(_) => true,
     }

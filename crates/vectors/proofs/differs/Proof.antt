@@ -22,6 +22,9 @@ enum-known-answer c = search needs
 returns : tie.Need-returns
 returns c = as-told _ (c .before .before .before .before .before .before .divide-binary64-kept .ensures) (c .before .before .before .before .answer .given .1) (simp (ne-eqb _ _ (c .if1 .taken)))
 
+cast-result : tie.Need-cast-result
+cast-result c = search needs
+
 enum-told : tie.Need-enum-told
 enum-told c = search needs
 
@@ -38,6 +41,7 @@ differs-spec =
     divide-binary64-kept-requires
     enum-known-answer
     returns
+    cast-result
     enum-told
     returns-2
     returns-3)
