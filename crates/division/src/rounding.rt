@@ -6,21 +6,21 @@ ghost use Rattle.division.specs.Computed.{roundedTo, overflowOf, flagsOf
 use crate::binary64::Binary64Result;
 
 // The weight of a significand's leading one, which a normal pattern leaves out: below it stands the fraction field, from it on the exponent field.
-pub const HIDDEN_BIT: u64 = 0x10_0000_0000_0000;
+pub(crate) const HIDDEN_BIT: u64 = 0x10_0000_0000_0000;
 
-pub const SIGN_BIT: u64 = 0x8000_0000_0000_0000;
+pub(crate) const SIGN_BIT: u64 = 0x8000_0000_0000_0000;
 
-pub const INFINITY: u64 = 0x7FF0_0000_0000_0000;
+pub(crate) const INFINITY: u64 = 0x7FF0_0000_0000_0000;
 
 // What a direction means for a magnitude.
-pub enum Mode {
+pub(crate) enum Mode {
     Nearest,
     Toward,
     Away,
 }
 
 // A direction, for a sign.
-pub fn mode_of(direction: u64, negative: bool) -> Mode
+pub(crate) fn mode_of(direction: u64, negative: bool) -> Mode
     requires { ⌜ direction ≤ 3 ⌝ }
     ensures { λ r. ⌜ r ≡ modeOf direction negative ⌝ }
 {
@@ -59,7 +59,7 @@ fn overflow(mode: Mode) -> u64
     }
 }
 
-pub fn sign_bit(negative: bool) -> u64
+pub(crate) fn sign_bit(negative: bool) -> u64
     ensures { λ r. ⌜ r ≡ signBit negative ⌝ }
 {
     if negative { SIGN_BIT } else { 0 }
@@ -82,7 +82,7 @@ fn flags_of(e: u64, k: u64, rest: u64) -> u8
 
 // The answer for k units of 2^(e - 1074) and a rest. Where e is not 0, k has 53 bits. A magnitude is below 2^2098 units of 2^-1074, so a quotient of two
 // is below 2^2098, and its e = E + 1022 at most 3119.
-pub fn pack(mode: Mode, negative: bool, e: u64, k: u64, rest: u64) -> Binary64Result
+pub(crate) fn pack(mode: Mode, negative: bool, e: u64, k: u64, rest: u64) -> Binary64Result
     requires { ⌜ (e ≤ 3119) × (k < 2 ^ 53) × (2 ^ 52 * min 1 e ≤ k) × (rest < 4) ⌝ }
     ensures { λ r. ⌜ r ≡ packed mode negative e k rest ⌝ }
 {

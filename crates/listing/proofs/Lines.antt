@@ -16,7 +16,7 @@ use Rattle.selection.specs.declared.Witness.{Witness}
 use Rattle.selection.proofs.Bridge.{cell-checked}
 use Rattle.selection.proofs.Tables.{cell-at}
 use Rattle.selection.proofs.UniqueCell.{cell-checked-one}
-use Rattle.report.proofs.Verdicts.{never-refused}
+use Rattle.selection.proofs.Verdicts.{never-refused}
 use Rattle.listing.specs.Listing.{Listed, Lines, none, more, lineFrom, lineOf, lineText, linesUpto}
 use Rattle.listing.specs.declared.Line.{Line}
 use Rattle.listing.specs.declared.Line.the-variants.{Nothing, BadCell}

@@ -2,9 +2,8 @@
 -- Assumes nothing.
 use mathlib.Core.Path.{_≡_, refl, sym, ap, _∙_}
 use mathlib.Core.List.{List, _++_}
-use mathlib.Core.Logic.{⊎-elim}
 use Prim.Native.Nat.{ℕ, _≤_}
-use native.Mathlib.Nat.{add-zero, not-le-of-lt}
+use native.Mathlib.Nat.{add-zero}
 use native.Mathlib.Omega.{arith}
 use lib.ListN.{length, take, drop}
 use Rattle.selection.specs.Table.{Table, NoTable, ReportMeaning}
@@ -13,8 +12,9 @@ use Rattle.selection.specs.declared.Refusal.{Refusal}
 use Rattle.selection.specs.declared.table.Outcome.{Outcome}
 use Rattle.selection.specs.declared.table.Outcome.the-variants as O
 use Rattle.selection.specs.declared.table.Report.{Report}
+use Rattle.selection.proofs.Tables.{no-table}
 use Rattle.selection.proofs.Reports.{report-checked}
-use Rattle.selection.proofs.UniqueReport.{checked-one}
+use Rattle.selection.proofs.UniqueReport.{refusal-one}
 use Rattle.report.specs.Text.{Appended, lineEnd, refusalText}
 use Rattle.report.proofs.Texts.{appended-size, appended-take, appended-drop}
 use Rattle.listing.specs.Listing.{Lists, names, linesUpto, tableText, textFor, listingOf}
@@ -22,23 +22,13 @@ use Rattle.listing.proofs.Lines.{lines-right, lines-one}
 
 -- by the check's answer, the text is the listing in document 01's words
 module _ (t : List ℕ) where
-  table-not-refused : {n p : ℕ} {X : Type 0} → Table t → NoTable t n p → X
-  table-not-refused h f = absurd (⊎-elim (λ l. l .0 (h .size)) (λ r. not-le-of-lt (r .2 .here) (h .digits _)) (f .why))
-
-  one-refusal : (f g : Refusal) → NoTable t (f .number) (f .place) → NoTable t (g .number) (g .place) → f ≡ g
-  one-refusal f g u v =
-      let a : Report = record { count = 0; outcome = O.Refused f } in
-      let b : Report = record { count = 0; outcome = O.Refused g } in
-      let e : O.Refused f ≡ O.Refused g = ap (λ (x : Report). x .outcome) (checked-one {t = t} a b (record { means = (u, refl) }) (record { means = (v, refl) })) in
-      cc
-
   table-lists : Table t → Lists t (tableText t)
-  table-lists h = record { table = λ _. (linesUpto t 2048, lines-right h 2048 (omega arith), refl); refused = λ f g. table-not-refused h g }
+  table-lists h = record { table = λ _. (linesUpto t 2048, lines-right h 2048 (omega arith), refl); refused = λ f g. no-table h g }
 
   answer-lists : (n : ℕ) (o : Outcome) → ReportMeaning t n o → Lists t (textFor t o)
   answer-lists n O.Passed w = table-lists (w .0 .table)
   answer-lists n (O.Bad b) w = table-lists (w .0)
-  answer-lists n (O.Refused f) w = record { table = λ h. table-not-refused h (w .0); refused = λ g v. ap refusalText (one-refusal f g (w .0) v) }
+  answer-lists n (O.Refused f) w = record { table = λ h. no-table h (w .0); refused = λ g v. ap refusalText (refusal-one f g (w .0) v) }
 
   pub lists : Lists t (listingOf t)
   unfolding listingOf

@@ -6,6 +6,7 @@ ghost use Rattle.selection.specs.Table.{Table};
 ghost use Rattle.plot.specs.Plot.{AllowedIs, PointIs, Shaded, OneShade};
 use libc::STDIN_FILENO;
 use selection::CellVerdict;
+use selection::Refusal;
 use selection::table::Outcome;
 
 // A stretch of columns of one shade, up to before the column `end`.
@@ -137,6 +138,13 @@ fn draw_table(table: &[u8], count: u64)
     picture::print_legend();
 }
 
+// The two lines of a refusal, as the listing program prints them.
+fn print_refusal(refusal: Refusal) {
+    let mut out = [0u8; 56];
+    let end = report::text::append_refusal(&mut out, 0, refusal);
+    report::print_text(&out[..end]);
+}
+
 // The check tells a table, passed or bad, from what gets the two lines of a refusal.
 fn draw(bytes: &[u8]) {
     let report = selection::table::check_table(bytes);
@@ -152,7 +160,7 @@ fn draw(bytes: &[u8]) {
             picture::print_bad(report.count, cell.row, cell.column);
             draw_table(bytes, report.count);
         }
-        Outcome::Refused(refusal) => report::print_refusal(refusal),
+        Outcome::Refused(refusal) => print_refusal(refusal),
     }
 }
 

@@ -14,7 +14,7 @@ fn print_outline(row: u64, from: u64, end: u64)
 }
 
 // Cells of one shade; a bad cell's colour is its digit's, and its mark comes above it.
-pub fn print_cells(row: u64, from: u64, end: u64, shade: u64)
+pub(crate) fn print_cells(row: u64, from: u64, end: u64, shade: u64)
     requires { ⌜ (row ≤ 15) × (from < end) × (end ≤ 128) ⌝ }
 {
     print_text(b"<path class='s");
@@ -23,7 +23,7 @@ pub fn print_cells(row: u64, from: u64, end: u64, shade: u64)
 }
 
 // The mark of bad cells.
-pub fn print_mark(row: u64, from: u64, end: u64)
+pub(crate) fn print_mark(row: u64, from: u64, end: u64)
     requires { ⌜ (row ≤ 15) × (from < end) × (end ≤ 128) ⌝ }
 {
     print_text(b"<path class='bad' ");
@@ -31,7 +31,7 @@ pub fn print_mark(row: u64, from: u64, end: u64)
 }
 
 // A ring round the mark, so that a single bad cell is seen.
-pub fn print_ring(row: u64, from: u64, end: u64)
+pub(crate) fn print_ring(row: u64, from: u64, end: u64)
     requires { ⌜ (row ≤ 15) × (from < end) × (end ≤ 128) ⌝ }
 {
     print_text(b"<ellipse class='ring' cx='");
@@ -40,7 +40,7 @@ pub fn print_ring(row: u64, from: u64, end: u64)
     print_number(10 + 5 * (end - from) / 2, b"'/>\n");
 }
 
-pub fn print_start() {
+pub(crate) fn print_start() {
     print_text(
         b"<svg xmlns='http://www.w3.org/2000/svg' viewBox='0 0 900 820' width='900' height='820' ",
     );
@@ -75,14 +75,14 @@ fn print_style() {
     print_text(b"</style>\n");
 }
 
-pub fn print_passed() {
+pub(crate) fn print_passed() {
     print_text(
         b"<text x='86' y='56' font-size='15'>The table passes the check: no bad cell.</text>\n<g class='cells'>\n",
     );
 }
 
 // The number of bad cells, and the first of them.
-pub fn print_bad(count: u64, row: u64, column: u64) {
+pub(crate) fn print_bad(count: u64, row: u64, column: u64) {
     print_text(b"<text x='86' y='56' font-size='15' font-weight='bold' fill='#b0006a'>Bad cells: ");
     print_number(count, b"; the first is row ");
     print_number(row, b", column ");
@@ -101,7 +101,7 @@ fn print_label(class: &[u8], x: u64, y: u64, text: &[u8]) {
 }
 
 // The frame with its ticks, the rows' grid, the line P = 0 and the bounds of the range, P = 8/3 D and P = -8/3 D.
-pub fn print_frame() {
+pub(crate) fn print_frame() {
     print_text(
         b"</g>\n<path class='grid' d='M124 80v640M162 80v640M200 80v640M238 80v640M276 80v640M314 80v640M352 80v640M390 80v640",
     );
@@ -153,7 +153,7 @@ fn print_divisors() {
     print_label(b"m", 694, 757, b"2");
 }
 
-pub fn print_axes() {
+pub(crate) fn print_axes() {
     print_row_names();
     print_column_names();
     print_remainders();
@@ -180,7 +180,7 @@ fn print_key(shade: u64, y: u64, name: &[u8])
     print_label(b"", 790, y + 15, name);
 }
 
-pub fn print_legend() {
+pub(crate) fn print_legend() {
     print_text(b"<text x='746' y='96' font-weight='bold'>digit</text>\n");
     print_key(4, 106, b"2");
     print_key(3, 132, b"1");

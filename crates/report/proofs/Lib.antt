@@ -1,4 +1,3 @@
 pub mod Decimals
 pub mod Signs
 pub mod Texts
-pub mod Verdicts

@@ -1,12 +1,11 @@
-// How the programs print on standard output: texts, numbers and the two lines of a refusal.
-// No contract can say which bytes a call of the C library's writes; what decides them is stated here and in the libraries below.
+// Text in a lent buffer, and how the programs print on standard output.
+// No contract can say which bytes a call of the C library's writes; what is printed is decided by functions that have contracts.
 pub mod text;
 
 ghost use mathlib.Core.Path.{_≡_};
 ghost use lib.IntN.{natAbs};
 ghost use Rattle.selection.specs.Cell.{digit};
 use libc::STDOUT_FILENO;
-use selection::Refusal;
 
 pub fn print_text(text: &[u8]) {
     io::write_all(STDOUT_FILENO, text);
@@ -33,11 +32,4 @@ pub fn digit_of(byte: u8) -> i64
     ensures { λ r. ⌜ r ≡ digit byte ⌝ }
 {
     byte as i64 - 2
-}
-
-// Document 01's two lines for a refusal: its number and its place.
-pub fn print_refusal(refusal: Refusal) {
-    let mut out = [0u8; 56];
-    let end = text::append_refusal(&mut out, 0, refusal);
-    print_text(&out[..end]);
 }

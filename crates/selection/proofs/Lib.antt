@@ -17,3 +17,4 @@ pub mod Reports
 pub mod MadeTables
 pub mod Exact
 pub mod CellCases
+pub mod Verdicts

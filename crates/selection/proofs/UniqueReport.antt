@@ -33,7 +33,7 @@ first-le {P} {i} {j} x y = elim (decLe i j) [ yes h ↦ h | no n ↦ absurd (x .
 first-one : {P : ℕ → Type 0} {i j : ℕ} → First P i → First P j → i ≡ j
 first-one x y = le-antisymm (first-le x y) (first-le y x)
 
-refusal-one : {t : List ℕ} (f g : Refusal) → NoTable t (f .number) (f .place) → NoTable t (g .number) (g .place) → f ≡ g
+pub refusal-one : {t : List ℕ} (f g : Refusal) → NoTable t (f .number) (f .place) → NoTable t (g .number) (g .place) → f ≡ g
 refusal-one {t} f g u v = ap₂ mk
     (⊎-elim (λ l. ⊎-elim (λ m. l .1 ∙ sym (m .1)) (λ m. absurd (l .0 (m .0))) (v .why)) (λ l. ⊎-elim (λ m. absurd (m .0 (l .0))) (λ m. l .1 ∙ sym (m .1)) (v .why)) (u .why))
     (⊎-elim (λ l. ⊎-elim (λ m. l .2 ∙ sym (m .2)) (λ m. absurd (l .0 (m .0))) (v .why)) (λ l. ⊎-elim (λ m. absurd (m .0 (l .0))) (λ m. first-one (l .2) (m .2)) (v .why)) (u .why))

@@ -39,7 +39,7 @@ fn bounds_of(u: u64, w: u64, byte: u8) -> Bounds
 
 // Only this crate calls it, for a cell and a byte that are in range. In units of 2^56 the row's divisors lie from u to w, and 3P of the
 // column from v - 384 to v - 372; the first two tests find the cells that have no point.
-pub fn allowed(row: u64, column: u64, byte: u8) -> bool
+pub(crate) fn allowed(row: u64, column: u64, byte: u8) -> bool
     requires { ⌜ (row ≤ 15) × (column ≤ 127) × (byte ≤ 4) ⌝ }
     ensures { λ r. ⌜ r ≡ allowsOf row column byte ⌝ }
 {

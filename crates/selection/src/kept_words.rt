@@ -313,7 +313,7 @@ const ROW15: [u64; 16] = [
 ];
 
 // The words of the row n % 16. Only this crate calls it.
-pub fn row_words(n: u64) -> [u64; 16]
+pub(crate) fn row_words(n: u64) -> [u64; 16]
     ensures { λ r. ⌜ (length r ≡ 16) × (unpacked r ≡ rowBytes madeTable (n % 16)) ⌝ }
 {
     match n % 16 {

@@ -3,7 +3,7 @@ use mathlib.Core.Path.{_∙_}
 use mir.Syntax.{w64}
 use mir.Facts.{toZ-ofZ}
 use native.Mathlib.Omega.{arith}
-use Rattle.report.proofs.Verdicts.{never-refused}
+use Rattle.selection.proofs.Verdicts.{never-refused}
 use Rattle.listing.proofs.Lines.{line-is, allowed-line, disallowed-line}
 use borrow.Author.Needs.{needs}
 use Rattle.listing.proofs.line_of.Statement.{statement}

@@ -1,6 +1,6 @@
 -- `plot::allowed` meets its contract: it is what the check of the single cell says.
 use native.Mathlib.Omega.{arith}
-use Rattle.report.proofs.Verdicts.{verdict-says, never-refused}
+use Rattle.selection.proofs.Verdicts.{verdict-says, never-refused}
 use Rattle.plot.proofs.Points.{allowed-yes, allowed-no}
 use borrow.Author.Needs.{needs}
 use Rattle.plot.proofs.allowed.Statement.{statement}

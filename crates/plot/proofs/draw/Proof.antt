@@ -1,5 +1,5 @@
 -- `plot::draw` is safe and ends: what the check passes or calls bad is a table.
-use Rattle.report.proofs.Verdicts.{passed-table, bad-table}
+use Rattle.selection.proofs.Verdicts.{passed-table, bad-table}
 use borrow.Author.Needs.{needs}
 use Rattle.plot.proofs.draw.Statement.{statement}
 use Rattle.plot.proofs.draw.Tie as tie

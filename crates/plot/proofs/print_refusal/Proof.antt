@@ -1,9 +1,9 @@
--- `report::print_refusal` is safe and ends: the two lines fit the buffer.
+-- `plot::print_refusal` is safe and ends: the two lines fit the buffer.
 use mathlib.Core.Path.{sym}
 use lib.Seq.{length-take-le}
 use borrow.Author.Needs.{needs}
-use Rattle.report.proofs.print_refusal.Statement.{statement}
-use Rattle.report.proofs.print_refusal.Tie as tie
+use Rattle.plot.proofs.print_refusal.Statement.{statement}
+use Rattle.plot.proofs.print_refusal.Tie as tie
 
 slice-aggregate-append-refusal : tie.Need-slice-aggregate-append-refusal
 slice-aggregate-append-refusal c = search needs

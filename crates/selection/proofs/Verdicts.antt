@@ -1,19 +1,18 @@
--- What the checks of a table and of its cells tell a program that prints them.
+-- What the answers to a table and to a cell tell a caller, by their cases.
 -- Assumes nothing.
 use mathlib.Core.Path.{_≡_, subst}
 use mathlib.Core.List.{List}
-use mathlib.Core.Logic.{⊎-elim}
 use Prim.Native.Nat.{ℕ, _≤_}
-use native.Mathlib.Omega.{arith}
 use Rattle.selection.specs.Cell.{CellChecked, CellMeaning}
 use Rattle.selection.specs.Table.{Table, Checked, ReportMeaning}
 use Rattle.selection.specs.declared.Refusal.{Refusal}
 use Rattle.selection.specs.declared.CellVerdict.{CellVerdict}
 use Rattle.selection.specs.declared.CellVerdict.the-variants as C
 use Rattle.selection.specs.declared.table.BadCell.{BadCell}
 use Rattle.selection.specs.declared.table.Outcome.{Outcome}
 use Rattle.selection.specs.declared.table.Outcome.the-variants as O
 use Rattle.selection.specs.declared.table.Report.{Report}
+use Rattle.selection.proofs.Bridge.{known-not-refused}
 
 -- the check's answer, by its case
 outcome-says : {t : List ℕ} {a : Report} {o : Outcome} → Checked t a → a .outcome ≡ o → ReportMeaning t (a .count) o
@@ -31,4 +30,4 @@ verdict-says {r} {c} {b} j e = subst (CellMeaning r c b) e (j .means)
 
 -- no cell and digit are refused
 pub never-refused : {r c b : ℕ} {v : CellVerdict} {f : Refusal} {X : Type 0} → r ≤ 15 → c ≤ 127 → b ≤ 4 → CellChecked r c b v → v ≡ C.Refused f → X
-never-refused hr hc hb j e = absurd (⊎-elim (λ l. ⊎-elim (λ x. omega arith) (λ x. omega arith) (l .0)) (λ l. omega arith) (verdict-says j e .why))
+never-refused hr hc hb j e = known-not-refused (record { row = hr; column = hc; byte = hb }) (verdict-says j e)
