@@ -7,7 +7,7 @@ use Prim.Native.Nat.{ℕ, _+_, _*_, _<_}
 use native.Mathlib.Omega.{arith}
 use lib.Dec.{ltb}
 use lib.ListN.{length, getD, drop}
-use Rattle.selection.specs.Answer.{refusal, admissionOf, cellNumbers, outcomeNumbers, reportNumbers, makeNumbers}
+use Rattle.selection.specs.Answer.{refusal, answerBy, admissionOf, cellNumbers, outcomeNumbers, reportNumbers}
 use Rattle.selection.specs.Cell.{CellMeaning, LeastWitness, digit}
 use Rattle.selection.specs.Table.{ReportMeaning}
 use Rattle.selection.specs.Computed.{cellOf, limitsOf, rowLimitsOf, makeOf, madeBuffer, madeTable, reportOf}
@@ -18,14 +18,14 @@ use Rattle.selection.specs.declared.CellVerdict.{CellVerdict}
 use Rattle.selection.specs.declared.CellVerdict.the-variants as C
 use Rattle.selection.specs.declared.table.Outcome.{Outcome}
 use Rattle.selection.specs.declared.table.Outcome.the-variants as O
-use Rattle.selection.specs.declared.maker.MakeAnswer.the-variants as M
 use Rattle.selection.proofs.Bridge.{cell-checked}
 use Rattle.selection.proofs.Reports.{report-checked}
-use Rattle.recurrence.specs.Run.{runRefusal, answerAt, bufferAt, runNumbers}
-use Rattle.division.specs.Whole.{wholeAt, wholeNumbers}
-use Rattle.division.specs.Through.{binary64At, binary64Numbers}
+use Rattle.recurrence.specs.Recurrence.{digits, resultOf}
+use Rattle.recurrence.specs.Run.{runRefusal, written, runZeros, runValues}
+use Rattle.division.specs.Whole.{wholeThrough, wholeZeros, wholeValues}
+use Rattle.division.specs.Through.{binary64Through, binary64Zeros, binary64Values}
 use Rattle.division.specs.Refusals.{tableWrong, cellWrong, limitsWrong, makeWrong, FirstRefusal, RefusedBy}
-use Rattle.division.specs.Demand1.{Refuses, cellZeros, limitsZeros, reportZeros, runZeros, wholeZeros, binary64Zeros, Carries, CheckRefuses, RunRefuses, Demand1}
+use Rattle.division.specs.Demand1.{Refuses, cellZeros, limitsZeros, reportZeros, Carries, CheckRefuses, RunRefuses, Demand1}
 use Rattle.division.proofs.Refused.{Meets, Numbered, Ladder, numbered-at, numbered-or, rung, refusalOf, first-is, refused-by, refuses, refuses-at}
 use Rattle.division.proofs.Ladders.{tests-lt, run-ladder, whole-ladder, binary64-ladder, table-ladder, lent, kept}
 
@@ -76,10 +76,10 @@ module _ (s : List ℕ) where
   make-ladder : Ladder (makeWrong (length s)) 7 7 (cond (ltb (length s) 2048) (Refused (refusal 7 0)) Admitted)
   make-ladder = rung 7 0 (ltb (length s) 2048) (tests-lt (length s) 2048)
 
-  make-refuses : RefusedBy (makeWrong (length s)) (makeNumbers (makeOf s))
+  make-refuses : RefusedBy (makeWrong (length s)) (makeOf s)
   make-refuses = subst (RefusedBy (makeWrong (length s))) (sym (same (ltb (length s) 2048))) (refused-by make-ladder (omega arith))
     where
-      same : (b : Bool) → makeNumbers (cond b (M.Refused (refusal 7 0)) M.Done) ≡ refusalOf (cond b (Refused (refusal 7 0)) Admitted)
+      same : (b : Bool) → cond b (refusal 7 0) (refusal 0 0) ≡ refusalOf (cond b (Refused (refusal 7 0)) Admitted)
       same true = refl
       same false = refl
 
@@ -122,15 +122,15 @@ module _ (t : List ℕ) where
 module _ {C : ℕ → ℕ → Type 0} {i j : ℕ} (h : 0 < i) (t : List ℕ) where
   run-refuses : (N D n : ℕ) (b : List ℕ) (place : ℕ) → Ladder C i j (runRefusal t N D n (length b) place) → RunRefuses C t N D n b place
   run-refuses N D n b place c = record {
-    answer = refuses-at c h (λ x. x .refused) runZeros (λ v. runNumbers (answerAt t N D n v)) refl (λ f. (refl, refl));
-    buffer = λ k p x. ap (bufferAt t N D n b place) (first-is c k p x);
+    answer = refuses-at c h (λ x. x .refusal) runZeros (answerBy runZeros (runValues (resultOf t N D n))) refl (λ f. (refl, refl));
+    buffer = λ k p x. ap (answerBy (λ f. b) (written b place (digits t N D n) n)) (first-is c k p x);
   }
 
-  whole-refuses : (a b : ℕ) {v : Admission} → Ladder C i j v → Refuses C (λ x. x .refused) wholeZeros (wholeNumbers (wholeAt t a b v))
-  whole-refuses a b c = refuses-at c h (λ x. x .refused) wholeZeros (λ v. wholeNumbers (wholeAt t a b v)) refl (λ f. (refl, refl))
+  whole-refuses : (a b : ℕ) {v : Admission} → Ladder C i j v → Refuses C (λ x. x .refusal) wholeZeros (answerBy wholeZeros (wholeValues (wholeThrough t a b)) v)
+  whole-refuses a b c = refuses-at c h (λ x. x .refusal) wholeZeros (answerBy wholeZeros (wholeValues (wholeThrough t a b))) refl (λ f. (refl, refl))
 
-  binary64-refuses : (direction a b : ℕ) {v : Admission} → Ladder C i j v → Refuses C (λ x. x .refused) binary64Zeros (binary64Numbers (binary64At t direction a b v))
-  binary64-refuses direction a b c = refuses-at c h (λ x. x .refused) binary64Zeros (λ v. binary64Numbers (binary64At t direction a b v)) refl (λ f. (refl, refl))
+  binary64-refuses : (direction a b : ℕ) {v : Admission} → Ladder C i j v → Refuses C (λ x. x .refusal) binary64Zeros (answerBy binary64Zeros (binary64Values (binary64Through t direction a b)) v)
+  binary64-refuses direction a b c = refuses-at c h (λ x. x .refusal) binary64Zeros (answerBy binary64Zeros (binary64Values (binary64Through t direction a b))) refl (λ f. (refl, refl))
 
 pub demand-1 : Demand1
 demand-1 =

@@ -1,5 +1,5 @@
 -- Demand 2. Assumes nothing.
-use mathlib.Core.Path.{sym, ap, ap₂}
+use mathlib.Core.Path.{refl, sym}
 use mathlib.Core.List.{List}
 use Prim.Native.Nat.{ℕ, _/_, _%_, _^_, _≤_, _<_}
 use native.Mathlib.Nat.{div-add-mod', mod-lt}
@@ -10,10 +10,8 @@ use Rattle.selection.specs.Table.{Passes}
 use Rattle.selection.proofs.Reports.{passes-admitted}
 use Rattle.selection.proofs.MadeTables.{kept-passes}
 use Rattle.division.specs.Whole.{wholeOf}
-use Rattle.division.specs.Through.{binary64Of, binary64Through}
+use Rattle.division.specs.Through.{binary64Of}
 use Rattle.division.specs.Demand2.{Divides, DividesBinary64, RightThrough, Demand2}
-use Rattle.division.specs.declared.whole.WholeResult.{WholeResult}
-use Rattle.division.specs.declared.whole.WholeAnswer.the-variants as W
 use Rattle.division.proofs.WholeThrough.{whole-divides}
 use Rattle.division.proofs.IeeeLaws.{ieee-through}
 use Rattle.division.proofs.IeeeOne.{ieee-one}
@@ -21,25 +19,13 @@ use Rattle.division.proofs.IeeeOne.{ieee-one}
 module _ (t : List ℕ) (p : Passes t) where
   whole : (a b : ℕ) → a < 2 ^ 60 → 0 < b → b < 2 ^ 60 → Divides a b (wholeOf t a b)
   whole a b ha pb hb =
-      record {
-        result = record { quotient = a / b; remainder = a % b };
-        done = rw (passes-admitted p, lt-leb (2 ^ 60) a ha, lt-leb (2 ^ 60) b hb, ne-eqb b 0 (omega arith)) (ap W.Done (whole-divides t a b p ha pb hb));
-        equation = sym (div-add-mod' a b);
-        below = mod-lt a pb;
-        only = λ x e l. let k = quotient (sym e) l in ap₂ result (sym (k .0)) (sym (k .1));
-      }
-    where
-      result : ℕ → ℕ → WholeResult
-      result q r = record { quotient = q; remainder = r }
+      rw (passes-admitted p, lt-leb (2 ^ 60) a ha, lt-leb (2 ^ 60) b hb, ne-eqb b 0 (omega arith), whole-divides t a b p ha pb hb)
+      (record { done = refl; equation = sym (div-add-mod' a b); below = mod-lt a pb; only = λ Q R e l. let k = quotient (sym e) l in (sym (k .0), sym (k .1)) })
 
   binary64 : (direction a b : ℕ) → direction ≤ 3 → DividesBinary64 direction a b (binary64Of t direction a b)
   binary64 direction a b h =
-      record {
-        result = binary64Through t direction a b;
-        done = rw (passes-admitted p, le-ltb 3 direction h);
-        meaning = ieee-through t p direction a b;
-        only = λ x i. ieee-one direction a b i (ieee-through t p direction a b);
-      }
+      rw (passes-admitted p, le-ltb 3 direction h)
+      (record { done = refl; meaning = ieee-through t p direction a b; only = λ x i. ieee-one direction a b i (ieee-through t p direction a b) })
 
   right : RightThrough t
   right = record { whole = whole; binary64 = binary64 }

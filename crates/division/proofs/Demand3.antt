@@ -4,7 +4,7 @@ use mathlib.Core.Path.{_≡_, refl, sym, ap, subst, _∙_}
 use mathlib.Core.List.{List}
 use mathlib.Core.Logic.{_↔_}
 use Prim.Native.Nat.{ℕ}
-use Rattle.selection.specs.Answer.{inOrder}
+use Rattle.selection.specs.Answer.{answerBy}
 use Rattle.selection.specs.Computed.{reportOf, madeTable}
 use Rattle.selection.specs.Table.{Passes, ReportMeaning, Checked}
 use Rattle.selection.specs.declared.Admission.{Admission}
@@ -12,34 +12,30 @@ use Rattle.selection.specs.declared.Admission.the-variants.{Admitted, Refused}
 use Rattle.selection.specs.declared.table.Outcome.the-variants.{Passed}
 use Rattle.selection.specs.declared.table.Report.{Report}
 use Rattle.selection.proofs.UniqueReport.{checked-one}
-use Rattle.selection.proofs.Reports.{report-checked, passes-admitted}
+use Rattle.selection.proofs.Reports.{report-checked}
+use Rattle.selection.proofs.Orders.{passed-last}
 use Rattle.selection.proofs.MadeTables.{kept-passes}
 use Rattle.selection.proofs.Exact.{refused-exactly}
 use Rattle.recurrence.proofs.RunDemand.{run-claim, run-same}
-use Rattle.division.specs.Whole.{wholeRefusal, wholeAt, wholeOf}
-use Rattle.division.specs.Through.{binary64Refusal, binary64At, binary64Of}
+use Rattle.division.specs.Whole.{wholeRefusal, wholeThrough, wholeZeros, wholeValues, wholeOf}
+use Rattle.division.specs.Through.{binary64Refusal, binary64Of}
 use Rattle.division.specs.Demand3.{Demand3}
-use Rattle.division.specs.declared.whole.WholeAnswer.the-variants as W
-use Rattle.division.specs.declared.binary64.Binary64Answer.the-variants as B
 use Rattle.division.proofs.WholeThrough.{whole-divides}
 use Rattle.division.proofs.Binary64Through.{binary64-through}
 use Rattle.division.proofs.Calls.{whole-spans}
 
 whole-same : (t u : List ℕ) → Passes t → Passes u → (a b : ℕ) → wholeOf t a b ≡ wholeOf u a b
-whole-same t u p q a b = rw (passes-admitted p, passes-admitted q) (go (wholeRefusal a b) refl)
+whole-same t u p q a b = rw (passed-last p (wholeRefusal a b), passed-last q (wholeRefusal a b)) (go (wholeRefusal a b) refl)
   where
-    go : (r : Admission) → wholeRefusal a b ≡ r → wholeAt t a b (inOrder r Admitted) ≡ wholeAt u a b (inOrder r Admitted)
+    go : (r : Admission) → wholeRefusal a b ≡ r → answerBy wholeZeros (wholeValues (wholeThrough t a b)) r ≡ answerBy wholeZeros (wholeValues (wholeThrough u a b)) r
     go Admitted e =
         let s = whole-spans a b e in
-        ap W.Done (whole-divides t a b p (s .0) (s .1) (s .2) ∙ sym (whole-divides u a b q (s .0) (s .1) (s .2)))
+        ap wholeValues (whole-divides t a b p (s .0) (s .1) (s .2) ∙ sym (whole-divides u a b q (s .0) (s .1) (s .2)))
     go (Refused f) e = refl
 
 binary64-same : (t u : List ℕ) → Passes t → Passes u → (direction a b : ℕ) → binary64Of t direction a b ≡ binary64Of u direction a b
-binary64-same t u p q direction a b = rw (passes-admitted p, passes-admitted q) (go (binary64Refusal direction))
-  where
-    go : (r : Admission) → binary64At t direction a b (inOrder r Admitted) ≡ binary64At u direction a b (inOrder r Admitted)
-    go Admitted = ap B.Done (binary64-through t direction a b p ∙ sym (binary64-through u direction a b q))
-    go (Refused f) = refl
+binary64-same t u p q direction a b =
+    rw (passed-last p (binary64Refusal direction), passed-last q (binary64Refusal direction), binary64-through t direction a b p, binary64-through u direction a b q) refl
 
 -- the answer "passed" is that of a table that passes
 passed : (t : List ℕ) (a : Report) → Checked t a → (a .outcome ≡ Passed) ↔ Passes t

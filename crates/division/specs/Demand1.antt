@@ -5,15 +5,15 @@ use mathlib.Core.List.{List, [], _∷_}
 use Prim.Native.Nat.{ℕ, _+_, _*_, _<_}
 use lib.IntN.{pos}
 use lib.ListN.{length, getD}
-use Rattle.selection.specs.Answer.{refusal, CellNumbers, cellNumbers, ReportNumbers, reportNumbers, makeNumbers}
+use Rattle.selection.specs.Answer.{refusal, CellNumbers, cellNumbers, ReportNumbers, reportNumbers}
 use Rattle.selection.specs.Cell.{LeastWitness, digit}
 use Rattle.selection.specs.Table.{BadAt, Tally}
 use Rattle.selection.specs.Computed.{cellOf, rowLimitsOf, makeOf, madeBuffer, madeTable, reportOf}
 use Rattle.selection.specs.declared.Refusal.{Refusal}
 use Rattle.selection.specs.declared.maker.RowLimits.{RowLimits}
-use Rattle.recurrence.specs.Run.{runOf, bufferOf, RunNumbers, runNumbers}
-use Rattle.division.specs.Whole.{wholeOf, WholeNumbers, wholeNumbers}
-use Rattle.division.specs.Through.{binary64Of, Binary64Numbers, binary64Numbers}
+use Rattle.recurrence.specs.Run.{runZeros, runOf, bufferOf}
+use Rattle.division.specs.Whole.{wholeZeros, wholeOf}
+use Rattle.division.specs.Through.{binary64Zeros, binary64Of}
 use Rattle.division.specs.Refusals.{_∪_, tableWrong, cellWrong, limitsWrong, makeWrong, runWrong, wholeWrong, binary64Wrong, FirstRefusal, RefusedBy}
 
 -- x is an answer's paper numbers, `refused x` the refusal in them, and `zeros f` the refusal f with zeros besides
@@ -30,15 +30,6 @@ limitsZeros f = record { refusal = f; limits = 0 ∷ 0 ∷ 0 ∷ 0 ∷ 0 ∷ 0 �
 abbrev pub reportZeros : Refusal → ReportNumbers
 reportZeros f = record { refused = f; count = 0; row = 0; column = 0; divisor = 0; remainder = pos 0 }
 
-abbrev pub runZeros : Refusal → RunNumbers
-runZeros f = record { refused = f; quotient = 0; remainder = 0; count = 0 }
-
-abbrev pub wholeZeros : Refusal → WholeNumbers
-wholeZeros f = record { refused = f; quotient = 0; remainder = 0 }
-
-abbrev pub binary64Zeros : Refusal → Binary64Numbers
-binary64Zeros f = record { refused = f; pattern = 0; flags = 0 }
-
 -- what the check's refusal 10 at the place p carries: the number of bad cells, the first of them, its witness
 pub record Carries (t : List ℕ) (p : ℕ) (x : ReportNumbers) : Type 0 where
   pub count : Tally (BadAt t) 2048 (x .count)
@@ -53,19 +44,19 @@ pub record CheckRefuses (t : List ℕ) (x : ReportNumbers) : Type 0 where
 
 -- a run that refuses by C, and its buffer
 pub record RunRefuses (C : ℕ → ℕ → Type 0) (t : List ℕ) (N D n : ℕ) (b : List ℕ) (place : ℕ) : Type 0 where
-  pub answer : Refuses C (λ x. x .refused) runZeros (runNumbers (runOf t N D n b place))
+  pub answer : Refuses C (λ x. x .refusal) runZeros (runOf t N D n b place)
   pub buffer : (k p : ℕ) → FirstRefusal C k p → bufferOf t N D n b place ≡ b
 
 pub record Demand1 : Type 0 where
   pub check-cell : (r c b : ℕ) → Refuses (cellWrong r c b) (λ x. x .refused) cellZeros (cellNumbers (cellOf r c b))
   pub row-limits : (r : ℕ) → Refuses (limitsWrong r) (λ x. x .refusal) limitsZeros (rowLimitsOf r)
-  pub make-table : (s : List ℕ) → RefusedBy (makeWrong (length s)) (makeNumbers (makeOf s))
+  pub make-table : (s : List ℕ) → RefusedBy (makeWrong (length s)) (makeOf s)
   pub make-buffer : (s : List ℕ) (n p : ℕ) → FirstRefusal (makeWrong (length s)) n p → madeBuffer s ≡ s
   pub check-table : (t : List ℕ) → CheckRefuses t (reportNumbers (reportOf t))
   pub run : (t : List ℕ) (N D n : ℕ) (b : List ℕ) (place : ℕ) → RunRefuses (runWrong N D n (length b) place ∪ tableWrong t) t N D n b place
-  pub whole : (t : List ℕ) (a b : ℕ) → Refuses (wholeWrong a b ∪ tableWrong t) (λ x. x .refused) wholeZeros (wholeNumbers (wholeOf t a b))
-  pub binary64 : (t : List ℕ) (direction a b : ℕ) → Refuses (binary64Wrong direction ∪ tableWrong t) (λ x. x .refused) binary64Zeros (binary64Numbers (binary64Of t direction a b))
+  pub whole : (t : List ℕ) (a b : ℕ) → Refuses (wholeWrong a b ∪ tableWrong t) (λ x. x .refusal) wholeZeros (wholeOf t a b)
+  pub binary64 : (t : List ℕ) (direction a b : ℕ) → Refuses (binary64Wrong direction ∪ tableWrong t) (λ x. x .refusal) binary64Zeros (binary64Of t direction a b)
   -- over the kept table no table is refused
   pub run-kept : (N D n : ℕ) (b : List ℕ) (place : ℕ) → RunRefuses (runWrong N D n (length b) place) madeTable N D n b place
-  pub whole-kept : (a b : ℕ) → Refuses (wholeWrong a b) (λ x. x .refused) wholeZeros (wholeNumbers (wholeOf madeTable a b))
-  pub binary64-kept : (direction a b : ℕ) → Refuses (binary64Wrong direction) (λ x. x .refused) binary64Zeros (binary64Numbers (binary64Of madeTable direction a b))
+  pub whole-kept : (a b : ℕ) → Refuses (wholeWrong a b) (λ x. x .refusal) wholeZeros (wholeOf madeTable a b)
+  pub binary64-kept : (direction a b : ℕ) → Refuses (binary64Wrong direction) (λ x. x .refusal) binary64Zeros (binary64Of madeTable direction a b)

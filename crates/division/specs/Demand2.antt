@@ -2,32 +2,28 @@
 use mathlib.Core.Path.{_≡_}
 use mathlib.Core.List.{List}
 use Prim.Native.Nat.{ℕ, _+_, _*_, _^_, _≤_, _<_}
+use Rattle.selection.specs.Answer.{refusal}
 use Rattle.selection.specs.Table.{Passes}
 use Rattle.selection.specs.Computed.{madeTable}
 use Rattle.division.specs.Whole.{wholeOf}
 use Rattle.division.specs.Through.{binary64Of}
 use Rattle.division.specs.Ieee.{Ieee}
-use Rattle.division.specs.declared.whole.WholeResult.{WholeResult}
 use Rattle.division.specs.declared.whole.WholeAnswer.{WholeAnswer}
-use Rattle.division.specs.declared.whole.WholeAnswer.the-variants as W
 use Rattle.division.specs.declared.binary64.Binary64Result.{Binary64Result}
 use Rattle.division.specs.declared.binary64.Binary64Answer.{Binary64Answer}
-use Rattle.division.specs.declared.binary64.Binary64Answer.the-variants as B
 
--- the answer holds quotient Q and remainder R with a = Q·b + R and R below b, and there are no others
-pub record Divides (a b : ℕ) (answer : WholeAnswer) : Type 0 where
-  pub result : WholeResult
-  pub done : answer ≡ W.Done result
-  pub equation : a ≡ result .quotient * b + result .remainder
-  pub below : result .remainder < b
-  pub only : (x : WholeResult) → a ≡ x .quotient * b + x .remainder → x .remainder < b → x ≡ result
+-- the answer is no refusal; a = Q·b + R with R below b for its quotient Q and its remainder R, and for no others
+pub record Divides (a b : ℕ) (x : WholeAnswer) : Type 0 where
+  pub done : x .refusal ≡ refusal 0 0
+  pub equation : a ≡ x .quotient * b + x .remainder
+  pub below : x .remainder < b
+  pub only : (Q R : ℕ) → a ≡ Q * b + R → R < b → (Q ≡ x .quotient) × (R ≡ x .remainder)
 
--- the answer holds pattern and flags that are a / b, and there are no others
-pub record DividesBinary64 (direction a b : ℕ) (answer : Binary64Answer) : Type 0 where
-  pub result : Binary64Result
-  pub done : answer ≡ B.Done result
-  pub meaning : Ieee direction a b result
-  pub only : (x : Binary64Result) → Ieee direction a b x → x ≡ result
+-- the answer is no refusal; its pattern and flags are a / b, and there are no others
+pub record DividesBinary64 (direction a b : ℕ) (x : Binary64Answer) : Type 0 where
+  pub done : x .refusal ≡ refusal 0 0
+  pub meaning : Ieee direction a b (record { pattern = x .pattern; flags = x .flags })
+  pub only : (y : Binary64Result) → Ieee direction a b y → y ≡ record { pattern = x .pattern; flags = x .flags }
 
 -- through the table t, for all operands that no refusal names: 4, 5; 6
 pub record RightThrough (t : List ℕ) : Type 0 where

@@ -4,7 +4,7 @@ use mathlib.Core.Bool.{Bool, cond}
 use mathlib.Core.List.{List}
 use Prim.Native.Nat.{ℕ, min, _+_, _-_, _*_, _/_, _%_, _^_}
 use lib.Dec.{leb, ltb, eqb}
-use Rattle.selection.specs.Answer.{refusal, admission, inOrder}
+use Rattle.selection.specs.Answer.{refusal, admission, inOrder, answerBy}
 use Rattle.selection.specs.Computed.{reportOf}
 use Rattle.selection.specs.declared.Refusal.{Refusal}
 use Rattle.selection.specs.declared.Admission.{Admission}
@@ -18,7 +18,6 @@ use Rattle.division.specs.declared.binary64.Scaled.{Scaled}
 use Rattle.division.specs.declared.binary64.Aligned.{Aligned}
 use Rattle.division.specs.declared.binary64.Binary64Result.{Binary64Result}
 use Rattle.division.specs.declared.binary64.Binary64Answer.{Binary64Answer}
-use Rattle.division.specs.declared.binary64.Binary64Answer.the-variants as B
 
 -- a quotient with its sticky bit: twice the whole part, and 1 more where something is left
 abbrev pub sticky : ℕ → ℕ → ℕ
@@ -60,20 +59,14 @@ binary64Through t direction a b = orQuotient (scaledThrough t direction (signOf 
 abbrev pub binary64Refusal : ℕ → Admission
 binary64Refusal direction = cond (ltb 3 direction) (A.Refused (refusal 6 0)) A.Admitted
 
-abbrev pub binary64At : List ℕ → ℕ → ℕ → ℕ → Admission → Binary64Answer
-binary64At t direction a b A.Admitted = B.Done (binary64Through t direction a b)
-binary64At t direction a b (A.Refused f) = B.Refused f
+-- number and place of a refusal, and zeros
+abbrev pub binary64Zeros : Refusal → Binary64Answer
+binary64Zeros f = record { refusal = f; pattern = 0; flags = 0 }
+
+-- pattern and flags, and no refusal
+abbrev pub binary64Values : Binary64Result → Binary64Answer
+binary64Values x = record { refusal = refusal 0 0; pattern = x .pattern; flags = x .flags }
 
 -- the answer: then 8, 9, 10, the table's, for every pair of operands
 abbrev pub binary64Of : List ℕ → ℕ → ℕ → ℕ → Binary64Answer
-binary64Of t direction a b = binary64At t direction a b (inOrder (binary64Refusal direction) (admission (reportOf t)))
-
--- its paper numbers: the refusal (0: none), the pattern and the sum of flags, zeros where it refuses
-pub record Binary64Numbers : Type 0 where
-  pub refused : Refusal
-  pub pattern : ℕ
-  pub flags : ℕ
-
-abbrev pub binary64Numbers : Binary64Answer → Binary64Numbers
-binary64Numbers (B.Done r) = record { refused = refusal 0 0; pattern = r .pattern; flags = r .flags }
-binary64Numbers (B.Refused f) = record { refused = f; pattern = 0; flags = 0 }
+binary64Of t direction a b = answerBy binary64Zeros (binary64Values (binary64Through t direction a b)) (inOrder (binary64Refusal direction) (admission (reportOf t)))

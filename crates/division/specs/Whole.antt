@@ -5,7 +5,7 @@ use mathlib.Core.List.{List}
 use Prim.Native.Nat.{ℕ, _+_, _-_, _*_, _/_, _%_, _^_}
 use lib.Count.{leadingZeros}
 use lib.Dec.{leb, eqb}
-use Rattle.selection.specs.Answer.{refusal, admission, inOrder}
+use Rattle.selection.specs.Answer.{refusal, admission, inOrder, answerBy}
 use Rattle.selection.specs.Computed.{reportOf}
 use Rattle.selection.specs.declared.Refusal.{Refusal}
 use Rattle.selection.specs.declared.Admission.{Admission}
@@ -13,7 +13,6 @@ use Rattle.selection.specs.declared.Admission.the-variants as A
 use Rattle.recurrence.specs.Recurrence.{resultOf}
 use Rattle.division.specs.declared.whole.WholeResult.{WholeResult}
 use Rattle.division.specs.declared.whole.WholeAnswer.{WholeAnswer}
-use Rattle.division.specs.declared.whole.WholeAnswer.the-variants as W
 
 -- how far a 64-bit number is moved up for its leading one to stand at bit k
 abbrev pub shiftTo : ℕ → ℕ → ℕ
@@ -38,20 +37,14 @@ wholeRefusal a b =
     (cond (eqb b 0) (A.Refused (refusal 5 0))
     A.Admitted))
 
-abbrev pub wholeAt : List ℕ → ℕ → ℕ → Admission → WholeAnswer
-wholeAt t a b A.Admitted = W.Done (wholeThrough t a b)
-wholeAt t a b (A.Refused f) = W.Refused f
+-- number and place of a refusal, and zeros
+abbrev pub wholeZeros : Refusal → WholeAnswer
+wholeZeros f = record { refusal = f; quotient = 0; remainder = 0 }
+
+-- quotient and remainder, and no refusal
+abbrev pub wholeValues : WholeResult → WholeAnswer
+wholeValues x = record { refusal = refusal 0 0; quotient = x .quotient; remainder = x .remainder }
 
 -- the answer: then 8, 9, 10, the table's
 abbrev pub wholeOf : List ℕ → ℕ → ℕ → WholeAnswer
-wholeOf t a b = wholeAt t a b (inOrder (wholeRefusal a b) (admission (reportOf t)))
-
--- its paper numbers: the refusal (0: none), quotient and remainder, zeros where it refuses
-pub record WholeNumbers : Type 0 where
-  pub refused : Refusal
-  pub quotient : ℕ
-  pub remainder : ℕ
-
-abbrev pub wholeNumbers : WholeAnswer → WholeNumbers
-wholeNumbers (W.Done r) = record { refused = refusal 0 0; quotient = r .quotient; remainder = r .remainder }
-wholeNumbers (W.Refused f) = record { refused = f; quotient = 0; remainder = 0 }
+wholeOf t a b = answerBy wholeZeros (wholeValues (wholeThrough t a b)) (inOrder (wholeRefusal a b) (admission (reportOf t)))

@@ -6,7 +6,7 @@ ghost use Rattle.selection.specs.Cell as Cell;
 ghost use Rattle.selection.specs.Computed.{madeTable};
 ghost use Rattle.selection.specs.Table.{Passes, rowBytes};
 ghost use Rattle.recurrence.specs.Row.{Row};
-ghost use Rattle.division.specs.Whole.{shiftTo, shiftedThrough, wholeThrough, wholeRefusal, wholeOf};
+ghost use Rattle.division.specs.Whole.{shiftTo, shiftedThrough, wholeThrough, wholeRefusal, wholeZeros, wholeValues, wholeOf};
 use selection::Admission;
 use selection::Refusal;
 
@@ -15,9 +15,12 @@ pub struct WholeResult {
     pub remainder: u64,
 }
 
-pub enum WholeAnswer {
-    Done(WholeResult),
-    Refused(Refusal),
+// The answer, as C sees it: the refusal (0: none) and its place, quotient and remainder, zeros where the call refuses.
+#[repr(C)]
+pub struct WholeAnswer {
+    pub refusal: Refusal,
+    pub quotient: u64,
+    pub remainder: u64,
 }
 
 // How far the divisor is moved up, for its leading one to stand at bit 60.
@@ -88,20 +91,39 @@ fn refusal_of(a: u64, b: u64) -> Admission
     Admission::Admitted
 }
 
+// A refused answer.
+fn zeros(f: Refusal) -> WholeAnswer
+    ensures { λ r. ⌜ r ≡ wholeZeros f ⌝ }
+{
+    WholeAnswer {
+        refusal: f,
+        quotient: 0,
+        remainder: 0,
+    }
+}
+
+// An answer that is not refused.
+fn values(x: WholeResult) -> WholeAnswer
+    ensures { λ r. ⌜ r ≡ wholeValues x ⌝ }
+{
+    WholeAnswer {
+        refusal: Refusal {
+            number: 0,
+            place: 0,
+        },
+        quotient: x.quotient,
+        remainder: x.remainder,
+    }
+}
+
 // Quotient and remainder of a by b through a table.
 pub fn divide_whole(table: &[u8], a: u64, b: u64) -> WholeAnswer
     ensures { λ r. ⌜ r ≡ wholeOf (now (table .entry)) a b ⌝ }
 {
-    let refused = refusal_of(a, b);
-    match refused {
-        Admission::Refused(f) => WholeAnswer::Refused(f),
-        Admission::Admitted => {
-            let admitted = selection::table::admit_table(table);
-            match admitted {
-                Admission::Refused(f) => WholeAnswer::Refused(f),
-                Admission::Admitted => WholeAnswer::Done(divide(table, a, b)),
-            }
-        }
+    let admission = selection::table::admit_after(refusal_of(a, b), table);
+    match admission {
+        Admission::Refused(f) => zeros(f),
+        Admission::Admitted => values(divide(table, a, b)),
     }
 }
 
@@ -109,9 +131,9 @@ pub fn divide_whole(table: &[u8], a: u64, b: u64) -> WholeAnswer
 pub fn divide_whole_kept(a: u64, b: u64) -> WholeAnswer
     ensures { λ r. ⌜ r ≡ wholeOf madeTable a b ⌝ }
 {
-    let refused = refusal_of(a, b);
-    match refused {
-        Admission::Refused(f) => WholeAnswer::Refused(f),
-        Admission::Admitted => { WholeAnswer::Done(divide_kept(a, b)) }
+    let admission = refusal_of(a, b);
+    match admission {
+        Admission::Refused(f) => zeros(f),
+        Admission::Admitted => values(divide_kept(a, b)),
     }
 }

@@ -1,19 +1,20 @@
-// The C interface: thin exports of the three layers. A slice is a pointer and a length; an answer comes back as its paper numbers.
+// The C interface: thin exports of the three layers. A slice is a pointer and a length; an answer comes back as the layer's own struct, or,
+// where that holds an enum, as its paper numbers.
 ghost use mathlib.Core.Path.{_≡_};
-ghost use Rattle.selection.specs.Answer.{cellNumbers, reportNumbers, makeNumbers};
+ghost use Rattle.selection.specs.Answer.{cellNumbers, reportNumbers};
 ghost use Rattle.selection.specs.Computed.{cellOf, reportOf, rowLimitsOf, makeOf, madeBuffer, madeTable};
 ghost use Rattle.selection.specs.declared.CellVerdict.the-variants as C;
-ghost use Rattle.recurrence.specs.Run.{runNumbers, runOf, bufferOf};
-ghost use Rattle.division.specs.Whole.{wholeNumbers, wholeOf};
-ghost use Rattle.division.specs.Through.{binary64Numbers, binary64Of};
-ghost use Rattle.quendaric.specs.Reply.{cellReply, tableReply, limitsReply, makeReply, runReply, wholeReply, binary64Reply};
+ghost use Rattle.recurrence.specs.Run.{runOf, bufferOf};
+ghost use Rattle.division.specs.Whole.{wholeOf};
+ghost use Rattle.division.specs.Through.{binary64Of};
+ghost use Rattle.quendaric.specs.Reply.{cellReply, tableReply};
 ghost use Rattle.quendaric.specs.Working.{CellOfReport, badReply};
 use division::binary64::Binary64Answer;
 use division::whole::WholeAnswer;
 use recurrence::RunAnswer;
 use selection::CellVerdict;
+use selection::Refusal;
 use selection::Witness;
-use selection::maker::MakeAnswer;
 use selection::maker::RowLimits;
 use selection::table::Outcome;
 use selection::table::Report;
@@ -37,44 +38,6 @@ pub struct TableReply {
     pub column: u64,
     pub divisor: u64,
     pub remainder: i64,
-}
-
-#[repr(C)]
-pub struct LimitsReply {
-    pub refusal: u64,
-    pub place: u64,
-    pub limits: [u8; 6],
-}
-
-#[repr(C)]
-pub struct MakeReply {
-    pub refusal: u64,
-    pub place: u64,
-}
-
-#[repr(C)]
-pub struct RunReply {
-    pub refusal: u64,
-    pub place: u64,
-    pub quotient: u64,
-    pub remainder: u64,
-    pub digits: u64,
-}
-
-#[repr(C)]
-pub struct WholeReply {
-    pub refusal: u64,
-    pub place: u64,
-    pub quotient: u64,
-    pub remainder: u64,
-}
-
-#[repr(C)]
-pub struct Binary64Reply {
-    pub refusal: u64,
-    pub place: u64,
-    pub pattern: u64,
-    pub flags: u64,
 }
 
 // The reply to a digit that is not allowed. The witness is a parameter, since a parameter's i64 is known to fit its field.
@@ -166,97 +129,6 @@ fn table_reply(x: Report) -> TableReply
     }
 }
 
-// A row's limits as its reply.
-fn limits_reply(x: RowLimits) -> LimitsReply
-    ensures { λ r. ⌜ r ≡ limitsReply x ⌝ }
-{
-    let refused = x.refusal;
-    let limits = x.limits;
-    LimitsReply {
-        refusal: refused.number,
-        place: refused.place,
-        limits,
-    }
-}
-
-// The maker's answer as its reply.
-fn make_reply(x: MakeAnswer) -> MakeReply
-    ensures { λ r. ⌜ r ≡ makeReply (makeNumbers x) ⌝ }
-{
-    match x {
-        MakeAnswer::Done => MakeReply {
-            refusal: 0,
-            place: 0,
-        },
-        MakeAnswer::Refused(f) => MakeReply {
-            refusal: f.number,
-            place: f.place,
-        },
-    }
-}
-
-// A run's answer as its reply.
-fn run_reply(x: RunAnswer) -> RunReply
-    ensures { λ r. ⌜ r ≡ runReply (runNumbers x) ⌝ }
-{
-    match x {
-        RunAnswer::Done(a) => RunReply {
-            refusal: 0,
-            place: 0,
-            quotient: a.quotient,
-            remainder: a.remainder,
-            digits: a.count as u64,
-        },
-        RunAnswer::Refused(f) => RunReply {
-            refusal: f.number,
-            place: f.place,
-            quotient: 0,
-            remainder: 0,
-            digits: 0,
-        },
-    }
-}
-
-// A whole-number answer as its reply.
-fn whole_reply(x: WholeAnswer) -> WholeReply
-    ensures { λ r. ⌜ r ≡ wholeReply (wholeNumbers x) ⌝ }
-{
-    match x {
-        WholeAnswer::Done(a) => WholeReply {
-            refusal: 0,
-            place: 0,
-            quotient: a.quotient,
-            remainder: a.remainder,
-        },
-        WholeAnswer::Refused(f) => WholeReply {
-            refusal: f.number,
-            place: f.place,
-            quotient: 0,
-            remainder: 0,
-        },
-    }
-}
-
-// A binary64 answer as its reply.
-fn binary64_reply(x: Binary64Answer) -> Binary64Reply
-    ensures { λ r. ⌜ r ≡ binary64Reply (binary64Numbers x) ⌝ }
-{
-    match x {
-        Binary64Answer::Done(a) => Binary64Reply {
-            refusal: 0,
-            place: 0,
-            pattern: a.pattern,
-            flags: a.flags as u64,
-        },
-        Binary64Answer::Refused(f) => Binary64Reply {
-            refusal: f.number,
-            place: f.place,
-            pattern: 0,
-            flags: 0,
-        },
-    }
-}
-
 // A single cell: is the digit of this byte allowed?
 #[no_mangle]
 pub extern "C" fn quendaric_check_cell(row: u64, column: u64, byte: u8) -> CellReply
@@ -275,18 +147,18 @@ pub extern "C" fn quendaric_check_table(table: &[u8]) -> TableReply
 
 // The columns at which the digits of a made row change.
 #[no_mangle]
-pub extern "C" fn quendaric_row_limits(row: u64) -> LimitsReply
-    ensures { λ r. ⌜ r ≡ limitsReply (rowLimitsOf row) ⌝ }
+pub extern "C" fn quendaric_row_limits(row: u64) -> RowLimits
+    ensures { λ r. ⌜ r ≡ rowLimitsOf row ⌝ }
 {
-    limits_reply(selection::maker::row_limits(row))
+    selection::maker::row_limits(row)
 }
 
 // The made table, to the first 2,048 bytes of the buffer.
 #[no_mangle]
-pub extern "C" fn quendaric_make_table(buffer: &mut [u8]) -> MakeReply
-    ensures { λ r. ⌜ (r ≡ makeReply (makeNumbers (makeOf (now (buffer .entry))))) × (now (buffer .exit) ≡ madeBuffer (now (buffer .entry))) ⌝ }
+pub extern "C" fn quendaric_make_table(buffer: &mut [u8]) -> Refusal
+    ensures { λ r. ⌜ (r ≡ makeOf (now (buffer .entry))) × (now (buffer .exit) ≡ madeBuffer (now (buffer .entry))) ⌝ }
 {
-    make_reply(selection::maker::make_table(buffer))
+    selection::maker::make_table(buffer)
 }
 
 // A run through a lent table, its digits into the buffer from a place on.
@@ -298,10 +170,10 @@ pub extern "C" fn quendaric_run(
     digits: usize,
     buffer: &mut [u8],
     place: usize,
-) -> RunReply
-    ensures { λ r. ⌜ (r ≡ runReply (runNumbers (runOf (now (table .entry)) dividend divisor digits (now (buffer .entry)) place))) × (now (buffer .exit) ≡ bufferOf (now (table .entry)) dividend divisor digits (now (buffer .entry)) place) ⌝ }
+) -> RunAnswer
+    ensures { λ r. ⌜ (r ≡ runOf (now (table .entry)) dividend divisor digits (now (buffer .entry)) place) × (now (buffer .exit) ≡ bufferOf (now (table .entry)) dividend divisor digits (now (buffer .entry)) place) ⌝ }
 {
-    run_reply(recurrence::run(table, dividend, divisor, digits, buffer, place))
+    recurrence::run(table, dividend, divisor, digits, buffer, place)
 }
 
 // The same through the kept table.
@@ -312,26 +184,26 @@ pub extern "C" fn quendaric_run_kept(
     digits: usize,
     buffer: &mut [u8],
     place: usize,
-) -> RunReply
-    ensures { λ r. ⌜ (r ≡ runReply (runNumbers (runOf madeTable dividend divisor digits (now (buffer .entry)) place))) × (now (buffer .exit) ≡ bufferOf madeTable dividend divisor digits (now (buffer .entry)) place) ⌝ }
+) -> RunAnswer
+    ensures { λ r. ⌜ (r ≡ runOf madeTable dividend divisor digits (now (buffer .entry)) place) × (now (buffer .exit) ≡ bufferOf madeTable dividend divisor digits (now (buffer .entry)) place) ⌝ }
 {
-    run_reply(recurrence::run_kept(dividend, divisor, digits, buffer, place))
+    recurrence::run_kept(dividend, divisor, digits, buffer, place)
 }
 
 // Whole numbers through a lent table.
 #[no_mangle]
-pub extern "C" fn quendaric_divide_whole(table: &[u8], a: u64, b: u64) -> WholeReply
-    ensures { λ r. ⌜ r ≡ wholeReply (wholeNumbers (wholeOf (now (table .entry)) a b)) ⌝ }
+pub extern "C" fn quendaric_divide_whole(table: &[u8], a: u64, b: u64) -> WholeAnswer
+    ensures { λ r. ⌜ r ≡ wholeOf (now (table .entry)) a b ⌝ }
 {
-    whole_reply(division::whole::divide_whole(table, a, b))
+    division::whole::divide_whole(table, a, b)
 }
 
 // The same through the kept table.
 #[no_mangle]
-pub extern "C" fn quendaric_divide_whole_kept(a: u64, b: u64) -> WholeReply
-    ensures { λ r. ⌜ r ≡ wholeReply (wholeNumbers (wholeOf madeTable a b)) ⌝ }
+pub extern "C" fn quendaric_divide_whole_kept(a: u64, b: u64) -> WholeAnswer
+    ensures { λ r. ⌜ r ≡ wholeOf madeTable a b ⌝ }
 {
-    whole_reply(division::whole::divide_whole_kept(a, b))
+    division::whole::divide_whole_kept(a, b)
 }
 
 // Binary64 patterns through a lent table.
@@ -341,16 +213,16 @@ pub extern "C" fn quendaric_divide_binary64(
     a: u64,
     b: u64,
     direction: u64,
-) -> Binary64Reply
-    ensures { λ r. ⌜ r ≡ binary64Reply (binary64Numbers (binary64Of (now (table .entry)) direction a b)) ⌝ }
+) -> Binary64Answer
+    ensures { λ r. ⌜ r ≡ binary64Of (now (table .entry)) direction a b ⌝ }
 {
-    binary64_reply(division::binary64::divide_binary64(table, a, b, direction))
+    division::binary64::divide_binary64(table, a, b, direction)
 }
 
 // The same through the kept table.
 #[no_mangle]
-pub extern "C" fn quendaric_divide_binary64_kept(a: u64, b: u64, direction: u64) -> Binary64Reply
-    ensures { λ r. ⌜ r ≡ binary64Reply (binary64Numbers (binary64Of madeTable direction a b)) ⌝ }
+pub extern "C" fn quendaric_divide_binary64_kept(a: u64, b: u64, direction: u64) -> Binary64Answer
+    ensures { λ r. ⌜ r ≡ binary64Of madeTable direction a b ⌝ }
 {
-    binary64_reply(division::binary64::divide_binary64_kept(a, b, direction))
+    division::binary64::divide_binary64_kept(a, b, direction)
 }

@@ -8,14 +8,12 @@ use lib.Dec.{T, ltb, nltb→le}
 use lib.ListN.{length}
 use borrow.Author.Tests.{le-ltb}
 use Rattle.recurrence.specs.Recurrence.{Operands, digits, resultOf}
-use Rattle.recurrence.specs.Run.{argumentRefusal, runRefusal, written, answerAt, bufferAt, runOf, bufferOf}
-use Rattle.selection.specs.Answer.{refusal, admission, inOrder}
-use Rattle.selection.specs.Computed.{reportOf}
+use Rattle.recurrence.specs.Run.{argumentRefusal, runRefusal, written, runZeros, runValues, runOf, bufferOf}
+use Rattle.selection.specs.Answer.{refusal, answerBy}
 use Rattle.selection.specs.declared.Refusal.{Refusal}
 use Rattle.selection.specs.declared.Admission.{Admission}
 use Rattle.selection.specs.declared.Admission.the-variants as A
-use Rattle.recurrence.specs.declared.RunResult.{RunResult}
-use Rattle.recurrence.specs.declared.RunAnswer.the-variants as R
+use Rattle.recurrence.specs.declared.RunAnswer.{RunAnswer}
 
 past : (b : Bool) (f : Refusal) (v : Admission) → cond b (A.Refused f) v ≡ A.Admitted → (T (not b)) × (v ≡ A.Admitted)
 past true f v e = absurd (let z : _≡_ {A = ℕ} 0 1 = cc in omega arith)
@@ -42,16 +40,7 @@ no-refusal N D n len place o h l r =
     let c = o .most in
     simp (le-ltb n 1 h, le-ltb 31 n l, le-ltb D (2 ^ 60) b, le-ltb (2 ^ 61 - 1) D (omega arith), le-ltb (2 ^ 61 - 1) N (omega arith), le-ltb len (place + n) r)
 
--- what the two calls answer, by the first refusal
-module _ (t : List ℕ) (N D n : ℕ) (b : List ℕ) (place : ℕ) where
-  pub arguments-first : (f : Refusal) → argumentRefusal N D n (length b) place ≡ A.Refused f → runRefusal t N D n (length b) place ≡ A.Refused f
-  arguments-first f e = ap (λ (v : Admission). inOrder v (admission (reportOf t))) e
-
-  pub then-table : (v : Admission) → argumentRefusal N D n (length b) place ≡ A.Admitted → admission (reportOf t) ≡ v → runRefusal t N D n (length b) place ≡ v
-  then-table v e f = ap (λ (v : Admission). inOrder v (admission (reportOf t))) e ∙ f
-
-  pub run-refused : (f : Refusal) → runRefusal t N D n (length b) place ≡ A.Refused f → (R.Refused f ≡ runOf t N D n b place) × (b ≡ bufferOf t N D n b place)
-  run-refused f g = (sym (ap (answerAt t N D n) g), sym (ap (bufferAt t N D n b place) g))
-
-  pub run-done : {x : RunResult} {c : List ℕ} → runRefusal t N D n (length b) place ≡ A.Admitted → (c ≡ written b place (digits t N D n) n) × (x ≡ resultOf t N D n) → (R.Done x ≡ runOf t N D n b place) × (c ≡ bufferOf t N D n b place)
-  run-done g e = (ap R.Done (e .1) ∙ sym (ap (answerAt t N D n) g), e .0 ∙ sym (ap (bufferAt t N D n b place) g))
+-- the answer and the buffer, by the first refusal
+pub run-answered : (t : List ℕ) (N D n : ℕ) (b : List ℕ) (place : ℕ) {v : Admission} {x : RunAnswer} {c : List ℕ} → runRefusal t N D n (length b) place ≡ v
+    → (x ≡ answerBy runZeros (runValues (resultOf t N D n)) v) × (c ≡ answerBy (λ f. b) (written b place (digits t N D n) n) v) → (x ≡ runOf t N D n b place) × (c ≡ bufferOf t N D n b place)
+run-answered t N D n b place g e = (e .0 ∙ sym (ap (answerBy runZeros (runValues (resultOf t N D n))) g), e .1 ∙ sym (ap (answerBy (λ f. b) (written b place (digits t N D n) n)) g))

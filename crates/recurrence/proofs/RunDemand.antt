@@ -1,29 +1,29 @@
 -- Demand 3 of the run: the claim about all its steps, and the same answer through every table that passes, refusals included.
 -- Assumes nothing.
-use mathlib.Core.Path.{_≡_, refl, sym, ap, _∙_}
+use mathlib.Core.Path.{_≡_, refl, sym, ap, subst, _∙_}
 use mathlib.Core.List.{List}
 use Prim.Native.Nat.{ℕ, suc, _+_, _-_, _*_, _^_, _≤_, _<_}
 use native.Mathlib.Omega.{arith}
 use lib.ListN.{length, getD}
 use lib.IntN.{pos, _-ℤ_, _*ℤ_}
 use Rattle.laws.proofs.Diff.{diffs}
-use Rattle.selection.specs.Answer.{inOrder}
+use Rattle.selection.specs.Answer.{answerBy}
 use Rattle.selection.specs.Cell.{row, column, digit}
 use Rattle.selection.specs.Table.{Passes}
 use Rattle.selection.specs.Word.{Within}
 use Rattle.selection.specs.declared.Admission.{Admission}
 use Rattle.selection.specs.declared.Admission.the-variants.{Admitted, Refused}
-use Rattle.selection.proofs.Reports.{passes-admitted}
+use Rattle.selection.proofs.Orders.{passed-last}
 use Rattle.recurrence.specs.Recurrence.{Operands, residue, cellAt, nextOf, after, digits, value, endRemainder, correctedQuotient, correctedRemainder, resultOf}
-use Rattle.recurrence.specs.Run.{argumentRefusal, answerAt, bufferAt, runOf}
-use Rattle.recurrence.specs.Demand.{RunClaim}
-use Rattle.recurrence.specs.declared.RunAnswer.the-variants as R
+use Rattle.recurrence.specs.Run.{argumentRefusal, written, runZeros, runValues, runOf}
+use Rattle.recurrence.specs.Demand.{RunAnswered, RunClaim}
+use Rattle.recurrence.specs.declared.RunAnswer.{RunAnswer}
 use Rattle.recurrence.specs.declared.RunResult.{RunResult}
 use Rattle.recurrence.proofs.Steps.{residue-biased, range-of, table-digit-allowed, step-residue}
 use Rattle.recurrence.proofs.Digits.{length-digits, digit-at}
 use Rattle.recurrence.proofs.Invariant.{Invariant, invariant-after, quarter}
 use Rattle.recurrence.proofs.Correction.{divided, corrected-run, end-remainder, result-from-word, result-divided}
-use Rattle.recurrence.proofs.Refusals.{spans, no-refusal, then-table}
+use Rattle.recurrence.proofs.Refusals.{spans, no-refusal}
 
 -- ---- after i steps
 
@@ -76,31 +76,31 @@ result-divides t N D n p o h = result-divided t N D n _ (invariant-after t N D p
 pub run-claim : (t : List ℕ) → Passes t → (N D n : ℕ) (b : List ℕ) (place : ℕ) → Operands N D → 1 ≤ n → n ≤ 31 → place + n ≤ length b → RunClaim t N D n b place
 unfolding resultOf
 run-claim t p N D n b place o h l r =
-    let g = then-table t N D n b place Admitted (no-refusal N D n (length b) place o h l r) (passes-admitted p) in
+    let g = passed-last p (argumentRefusal N D n (length b) place) ∙ no-refusal N D n (length b) place o h l r in
     let S = invariant-after t N D p o n .0 in
     let k = invariant-after t N D p o n .1 in
     let e = result-parts t N D n S k h in
     record {
-      written = ap (bufferAt t N D n b place) g;
+      written = ap (answerBy (λ f. b) (written b place (digits t N D n) n)) g;
       many = length-digits t N D n;
       selected = λ i m. digit-at t N D n i m ∙ ap (λ (x : ℕ). getD t (128 * row x + column (after t N D i .sum) (after t N D i .carry)) 0) (invariant-after t N D p o i .1 .divisor);
       step = λ i m. step t N D i _ (invariant-after t N D p o i .1) p ∙ ap (λ (d : ℕ). pos 4 *ℤ (residue (after t N D i) -ℤ digit d *ℤ pos D)) (sym (digit-at t N D n i m));
       exact = λ i m. exact t N D i _ (invariant-after t N D p o i .1);
       range = λ i m. range t N D i _ (invariant-after t N D p o i .1);
       close = close t N D n S k h;
-      answer = ap (answerAt t N D n) g;
-      quotient = quotient-formed t N D n S k h;
-      remainder = remainder-formed t N D n S k h;
-      divides = e .0;
-      below = e .1;
+      answer = subst (RunAnswered t N D n) (sym (ap (answerBy runZeros (runValues (resultOf t N D n))) g))
+          (record { done = refl; count = refl; quotient = quotient-formed t N D n S k h; remainder = remainder-formed t N D n S k h; divides = e .0; below = e .1 });
     }
 
 -- the same answer through every table that passes, whatever the arguments
 pub run-same : (t u : List ℕ) → Passes t → Passes u → (N D n : ℕ) (b : List ℕ) (place : ℕ) → runOf t N D n b place ≡ runOf u N D n b place
 run-same t u p q N D n b place =
     let v = argumentRefusal N D n (length b) place in
-    ap (λ (a : Admission). answerAt t N D n (inOrder v a)) (passes-admitted p) ∙ go v refl ∙ sym (ap (λ (a : Admission). answerAt u N D n (inOrder v a)) (passes-admitted q))
+    ap (answer t) (passed-last p v) ∙ go v refl ∙ sym (ap (answer u) (passed-last q v))
   where
-    go : (v : Admission) → argumentRefusal N D n (length b) place ≡ v → answerAt t N D n (inOrder v Admitted) ≡ answerAt u N D n (inOrder v Admitted)
-    go Admitted e = let a = spans N D n (length b) place e in ap R.Done (result-divides t N D n p (a .0) (a .1) ∙ sym (result-divides u N D n q (a .0) (a .1)))
+    answer : List ℕ → Admission → RunAnswer
+    answer t = answerBy runZeros (runValues (resultOf t N D n))
+
+    go : (v : Admission) → argumentRefusal N D n (length b) place ≡ v → answer t v ≡ answer u v
+    go Admitted e = let a = spans N D n (length b) place e in ap runValues (result-divides t N D n p (a .0) (a .1) ∙ sym (result-divides u N D n q (a .0) (a .1)))
     go (Refused f) e = refl

@@ -4,11 +4,21 @@ use mathlib.Core.List.{List, _++_}
 use Prim.Native.Nat.{ℕ, suc, _+_, _-_, _*_, _^_, _≤_, _<_}
 use lib.IntN.{pos, _-ℤ_, _*ℤ_}
 use lib.ListN.{length, getD, take, drop}
+use Rattle.selection.specs.Answer.{refusal}
 use Rattle.selection.specs.Word.{Within}
 use Rattle.selection.specs.Cell.{row, column, digit}
-use Rattle.recurrence.specs.Recurrence.{residue, after, digits, value, endRemainder, correctedQuotient, correctedRemainder, formed, resultOf}
+use Rattle.recurrence.specs.Recurrence.{residue, after, digits, value, endRemainder, correctedQuotient, correctedRemainder}
 use Rattle.recurrence.specs.Run.{runOf, bufferOf}
-use Rattle.recurrence.specs.declared.RunAnswer.the-variants.{Done}
+use Rattle.recurrence.specs.declared.RunAnswer.{RunAnswer}
+
+-- the answer x is no refusal; quotient and remainder are formed from S and the end remainder, neither is negative, and they are those of N·4^(n−1) by D
+pub record RunAnswered (t : List ℕ) (N D n : ℕ) (x : RunAnswer) : Type 0 where
+  pub done : x .refusal ≡ refusal 0 0
+  pub count : x .digits ≡ n
+  pub quotient : pos (x .quotient) ≡ correctedQuotient (value (digits t N D n)) (endRemainder t N D n)
+  pub remainder : pos (x .remainder) ≡ correctedRemainder (endRemainder t N D n) D
+  pub divides : x .quotient * D + x .remainder ≡ N * 4 ^ (n - 1)
+  pub below : x .remainder < D
 
 pub record RunClaim (t : List ℕ) (N D n : ℕ) (b : List ℕ) (place : ℕ) : Type 0 where
   -- the n digits stand in the buffer from the place on, and the other bytes are as they were
@@ -23,9 +33,4 @@ pub record RunClaim (t : List ℕ) (N D n : ℕ) (b : List ℕ) (place : ℕ) : 
   pub range : (i : ℕ) → i ≤ n → Within 8 D (pos 3 *ℤ residue (after t N D i))
   -- 3·|N·4^(n−1) − S·D| ≤ 2D
   pub close : Within 2 D (pos 3 *ℤ endRemainder t N D n)
-  -- quotient and remainder are formed from S and the end remainder, neither is negative, and they are those of N·4^(n−1) by D
-  pub answer : runOf t N D n b place ≡ Done (formed (value (digits t N D n)) (endRemainder t N D n) D n)
-  pub quotient : pos (resultOf t N D n .quotient) ≡ correctedQuotient (value (digits t N D n)) (endRemainder t N D n)
-  pub remainder : pos (resultOf t N D n .remainder) ≡ correctedRemainder (endRemainder t N D n) D
-  pub divides : resultOf t N D n .quotient * D + resultOf t N D n .remainder ≡ N * 4 ^ (n - 1)
-  pub below : resultOf t N D n .remainder < D
+  pub answer : RunAnswered t N D n (runOf t N D n b place)

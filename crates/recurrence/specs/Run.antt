@@ -4,14 +4,14 @@ use mathlib.Core.List.{List, _++_}
 use Prim.Native.Nat.{ℕ, _+_, _-_, _^_}
 use lib.Dec.{ltb}
 use lib.ListN.{length, take, drop}
-use Rattle.selection.specs.Answer.{refusal, admission, inOrder}
+use Rattle.selection.specs.Answer.{refusal, admission, inOrder, answerBy}
 use Rattle.selection.specs.Computed.{reportOf}
 use Rattle.selection.specs.declared.Refusal.{Refusal}
 use Rattle.selection.specs.declared.Admission.{Admission}
 use Rattle.selection.specs.declared.Admission.the-variants as A
 use Rattle.recurrence.specs.Recurrence.{digits, resultOf}
 use Rattle.recurrence.specs.declared.RunAnswer.{RunAnswer}
-use Rattle.recurrence.specs.declared.RunAnswer.the-variants as R
+use Rattle.recurrence.specs.declared.RunResult.{RunResult}
 
 -- a refusal with place 0
 abbrev pub refusedWith : ℕ → Admission
@@ -36,28 +36,17 @@ runRefusal t N D n len place = inOrder (argumentRefusal N D n len place) (admiss
 abbrev pub written : List ℕ → ℕ → List ℕ → ℕ → List ℕ
 written b place ds n = take place b ++ (ds ++ drop (place + n) b)
 
-abbrev pub answerAt : List ℕ → ℕ → ℕ → ℕ → Admission → RunAnswer
-answerAt t N D n A.Admitted = R.Done (resultOf t N D n)
-answerAt t N D n (A.Refused f) = R.Refused f
+-- number and place of a refusal, and zeros
+abbrev pub runZeros : Refusal → RunAnswer
+runZeros f = record { refusal = f; quotient = 0; remainder = 0; digits = 0 }
 
-abbrev pub bufferAt : List ℕ → ℕ → ℕ → ℕ → List ℕ → ℕ → Admission → List ℕ
-bufferAt t N D n b place A.Admitted = written b place (digits t N D n) n
-bufferAt t N D n b place (A.Refused f) = b
+-- quotient, remainder and n, and no refusal
+abbrev pub runValues : RunResult → RunAnswer
+runValues x = record { refusal = refusal 0 0; quotient = x .quotient; remainder = x .remainder; digits = x .count }
 
 -- the answer, and the buffer that held b
 abbrev pub runOf : List ℕ → ℕ → ℕ → ℕ → List ℕ → ℕ → RunAnswer
-runOf t N D n b place = answerAt t N D n (runRefusal t N D n (length b) place)
+runOf t N D n b place = answerBy runZeros (runValues (resultOf t N D n)) (runRefusal t N D n (length b) place)
 
 abbrev pub bufferOf : List ℕ → ℕ → ℕ → ℕ → List ℕ → ℕ → List ℕ
-bufferOf t N D n b place = bufferAt t N D n b place (runRefusal t N D n (length b) place)
-
--- the answer's paper numbers: the refusal (0: none), quotient, remainder and n, zeros where it refuses
-pub record RunNumbers : Type 0 where
-  pub refused : Refusal
-  pub quotient : ℕ
-  pub remainder : ℕ
-  pub count : ℕ
-
-abbrev pub runNumbers : RunAnswer → RunNumbers
-runNumbers (R.Done a) = record { refused = refusal 0 0; quotient = a .quotient; remainder = a .remainder; count = a .count }
-runNumbers (R.Refused f) = record { refused = f; quotient = 0; remainder = 0; count = 0 }
+bufferOf t N D n b place = answerBy (λ f. b) (written b place (digits t N D n) n) (runRefusal t N D n (length b) place)

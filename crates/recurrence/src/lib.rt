@@ -13,7 +13,7 @@ ghost use Rattle.selection.specs.Computed.{madeTable};
 ghost use Rattle.recurrence.specs.CarrySave.{lowestCarry};
 ghost use Rattle.recurrence.specs.Recurrence.{Operands, nextOf, startOf, digits, resultOf};
 ghost use Rattle.recurrence.specs.Row.{Row};
-ghost use Rattle.recurrence.specs.Run.{refusedWith, argumentRefusal, written, runOf, bufferOf};
+ghost use Rattle.recurrence.specs.Run.{refusedWith, argumentRefusal, written, runZeros, runValues, runOf, bufferOf};
 ghost use Rattle.recurrence.specs.Working.{withColumn, stateOf, multiplesOf, laneOf, lanesOf, DigitBytes, StepReady, resultFromWord, CorrectionReady};
 
 // The next column needs the bits 61 to 54 of a word: what is left of it by 2^62, without the bits below 2^54.
@@ -30,9 +30,13 @@ struct RunState {
     digit: u8,
 }
 
-pub enum RunAnswer {
-    Done(RunResult),
-    Refused(Refusal),
+// The answer, as C sees it: the refusal (0: none) and its place, quotient, remainder and number of digits, zeros where the run is refused.
+#[repr(C)]
+pub struct RunAnswer {
+    pub refusal: Refusal,
+    pub quotient: u64,
+    pub remainder: u64,
+    pub digits: u64,
 }
 
 // The count stands between the other two, so that a copy of both never loads as one piece what was just stored as two.
@@ -237,6 +241,33 @@ fn argument_refusal(dividend: u64, divisor: u64, n: usize, len: usize, place: us
     Admission::Admitted
 }
 
+// A refused answer.
+fn zeros(f: Refusal) -> RunAnswer
+    ensures { λ r. ⌜ r ≡ runZeros f ⌝ }
+{
+    RunAnswer {
+        refusal: f,
+        quotient: 0,
+        remainder: 0,
+        digits: 0,
+    }
+}
+
+// An answer that is not refused.
+fn values(x: RunResult) -> RunAnswer
+    ensures { λ r. ⌜ r ≡ runValues x ⌝ }
+{
+    RunAnswer {
+        refusal: Refusal {
+            number: 0,
+            place: 0,
+        },
+        quotient: x.quotient,
+        remainder: x.remainder,
+        digits: x.count as u64,
+    }
+}
+
 // Digits of dividend / divisor through a table, into the buffer from a place on.
 pub fn run(
     table: &[u8],
@@ -248,23 +279,18 @@ pub fn run(
 ) -> RunAnswer
     ensures { λ r. ⌜ (r ≡ runOf (now (table .entry)) dividend divisor digits (now (buffer .entry)) place) × (now (buffer .exit) ≡ bufferOf (now (table .entry)) dividend divisor digits (now (buffer .entry)) place) ⌝ }
 {
-    let refused = argument_refusal(dividend, divisor, digits, buffer.len(), place);
-    match refused {
-        Admission::Refused(f) => RunAnswer::Refused(f),
-        Admission::Admitted => {
-            let admitted = selection::table::admit_table(table);
-            match admitted {
-                Admission::Refused(f) => RunAnswer::Refused(f),
-                Admission::Admitted => RunAnswer::Done(run_admitted(
-                    table,
-                    dividend,
-                    divisor,
-                    digits,
-                    buffer,
-                    place,
-                )),
-            }
-        }
+    let arguments = argument_refusal(dividend, divisor, digits, buffer.len(), place);
+    let admission = selection::table::admit_after(arguments, table);
+    match admission {
+        Admission::Refused(f) => zeros(f),
+        Admission::Admitted => values(run_admitted(
+            table,
+            dividend,
+            divisor,
+            digits,
+            buffer,
+            place,
+        )),
     }
 }
 
@@ -278,12 +304,12 @@ pub fn run_kept(
 ) -> RunAnswer
     ensures { λ r. ⌜ (r ≡ runOf madeTable dividend divisor digits (now (buffer .entry)) place) × (now (buffer .exit) ≡ bufferOf madeTable dividend divisor digits (now (buffer .entry)) place) ⌝ }
 {
-    let refused = argument_refusal(dividend, divisor, digits, buffer.len(), place);
-    match refused {
-        Admission::Refused(f) => RunAnswer::Refused(f),
+    let admission = argument_refusal(dividend, divisor, digits, buffer.len(), place);
+    match admission {
+        Admission::Refused(f) => zeros(f),
         Admission::Admitted => {
             let row = selection::kept::kept_row(divisor >> 56);
-            RunAnswer::Done(run_part(&row, dividend, divisor, digits, buffer, place))
+            values(run_part(&row, dividend, divisor, digits, buffer, place))
         }
     }
 }

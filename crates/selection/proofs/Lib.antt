@@ -18,3 +18,4 @@ pub mod MadeTables
 pub mod Exact
 pub mod CellCases
 pub mod Verdicts
+pub mod Orders

@@ -2,6 +2,7 @@
 -- Assumes nothing.
 use mathlib.Core.Path.{_≡_, refl, sym, ap, subst, _∙_}
 use mathlib.Core.List.{List, [], _∷_, _++_}
+use mathlib.Core.Logic.{inl, inr}
 use Prim.Native.Nat.{ℕ, zero, suc, _+_, _/_, _%_, _≤_, _<_}
 use native.Mathlib.Nat.{add-zero, add-suc, suc-add, zero-add, not-suc-le-zero, le-of-suc-le-suc}
 use native.Mathlib.Numerals.{add-one}
@@ -11,7 +12,6 @@ use borrow.Author.Tests.{lt-ltb, le-ltb}
 use Rattle.laws.proofs.Lists.{store}
 use Rattle.selection.specs.Selection.{Made, MadeTable, Makes}
 use Rattle.selection.specs.Computed.{madeAt, listFrom, madeTable, madeBuffer, makeOf}
-use Rattle.selection.specs.declared.maker.MakeAnswer.the-variants as M
 use Rattle.selection.specs.Table.{Passes}
 use Rattle.selection.proofs.Making.{made-right}
 use Rattle.selection.proofs.KeptLaws.{made-passes}
@@ -60,11 +60,11 @@ fill-more s b k v h e l m =
     let x : v ≡ madeAt k = byte-one m (made-right (k / 128) (k % 128) (omega arith) (omega arith)) in
     rw (e, x, add-one, list-snoc madeAt 0 k, zero-add k) (store (listFrom madeAt 0 k) s k (madeAt k) (list-length madeAt 0 k) h)
 
-pub make-done : (s t : List ℕ) (k : ℕ) → (2048 ≤ length s) × (t ≡ listFrom madeAt 0 k ++ drop k s) → k ≡ 2048 → (M.Done ≡ makeOf s) × (t ≡ madeBuffer s) × Makes s t M.Done
+pub make-done : (s t : List ℕ) (k : ℕ) → (2048 ≤ length s) × (t ≡ listFrom madeAt 0 k ++ drop k s) → k ≡ 2048 → (record { number = 0; place = 0 } ≡ makeOf s) × (t ≡ madeBuffer s) × Makes s t (record { number = 0; place = 0 })
 unfolding madeTable
 make-done s t k h d =
     let e : t ≡ listFrom madeAt 0 2048 ++ drop 2048 s = subst (λ (k : ℕ). t ≡ listFrom madeAt 0 k ++ drop k s) d (h .1) in
-    (rw (le-ltb (length s) 2048 (h .0)) refl, rw (le-ltb (length s) 2048 (h .0)) e, record { means = (h .0, (madeTable, made-table-is, e)) })
+    (rw (le-ltb (length s) 2048 (h .0)) refl, rw (le-ltb (length s) 2048 (h .0)) e, record { means = inr (h .0, refl, (madeTable, made-table-is, e)) })
 
-pub make-refused : (s : List ℕ) → length s < 2048 → (M.Refused (record { number = 7; place = 0 }) ≡ makeOf s) × (s ≡ madeBuffer s) × Makes s s (M.Refused (record { number = 7; place = 0 }))
-make-refused s h = (rw (lt-ltb (length s) 2048 h) refl, rw (lt-ltb (length s) 2048 h) refl, record { means = (h, refl, refl) })
+pub make-refused : (s : List ℕ) → length s < 2048 → (record { number = 7; place = 0 } ≡ makeOf s) × (s ≡ madeBuffer s) × Makes s s (record { number = 7; place = 0 })
+make-refused s h = (rw (lt-ltb (length s) 2048 h) refl, rw (lt-ltb (length s) 2048 h) refl, record { means = inl (h, refl, refl) })

@@ -16,8 +16,6 @@ use Rattle.laws.proofs.Tests.{upto-at, five}
 use Rattle.selection.specs.Selection.{Made, MadeTable, stepAt, Limits, Limited, Makes}
 use Rattle.selection.specs.declared.Refusal.{Refusal}
 use Rattle.selection.specs.declared.maker.RowLimits.{RowLimits}
-use Rattle.selection.specs.declared.maker.MakeAnswer.{MakeAnswer}
-use Rattle.selection.specs.declared.maker.MakeAnswer.the-variants.{Done, Refused}
 
 pub byte-one : {r c a b : ℕ} → Made r c a → Made r c b → a ≡ b
 byte-one {a = a} {b = b} m n =
@@ -114,8 +112,9 @@ limited-one a b x y =
 
 -- ---- the maker
 
-pub makes-one : {s t u : List ℕ} (v w : MakeAnswer) → Makes s t v → Makes s u w → (t ≡ u) × (v ≡ w)
-makes-one {s} Done Done x y = (x .means .1 .2 ∙ ap (λ (m : List ℕ). m ++ drop 2048 s) (made-one (x .means .1 .1) (y .means .1 .1)) ∙ sym (y .means .1 .2), refl)
-makes-one Done (Refused f) x y = absurd (omega (arith, x .means .0, y .means .0))
-makes-one (Refused f) Done x y = absurd (omega (arith, x .means .0, y .means .0))
-makes-one (Refused f) (Refused g) x y = (x .means .2 ∙ sym (y .means .2), ap Refused (x .means .1 ∙ sym (y .means .1)))
+pub makes-one : {s t u : List ℕ} (f g : Refusal) → Makes s t f → Makes s u g → (t ≡ u) × (f ≡ g)
+makes-one {s} f g x y =
+    ⊎-elim
+    (λ l. ⊎-elim (λ m. (l .2 ∙ sym (m .2), l .1 ∙ sym (m .1))) (λ m. absurd (omega (arith, l .0, m .0))) (y .means))
+    (λ l. ⊎-elim (λ m. absurd (omega (arith, l .0, m .0))) (λ m. (l .2 .2 ∙ ap (λ (m : List ℕ). m ++ drop 2048 s) (made-one (l .2 .1) (m .2 .1)) ∙ sym (m .2 .2), l .1 ∙ sym (m .1))) (y .means))
+    (x .means)

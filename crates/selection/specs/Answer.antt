@@ -9,8 +9,6 @@ use Rattle.selection.specs.declared.CellVerdict.the-variants as C
 use Rattle.selection.specs.declared.table.Outcome.{Outcome}
 use Rattle.selection.specs.declared.table.Outcome.the-variants as O
 use Rattle.selection.specs.declared.table.Report.{Report}
-use Rattle.selection.specs.declared.maker.MakeAnswer.{MakeAnswer}
-use Rattle.selection.specs.declared.maker.MakeAnswer.the-variants as M
 
 abbrev pub refusal : ℕ → ℕ → Refusal
 refusal n p = record { number = n; place = p }
@@ -44,10 +42,6 @@ outcomeNumbers n (O.Refused f) = record { refused = f; count = 0; row = 0; colum
 abbrev pub reportNumbers : Report → ReportNumbers
 reportNumbers a = outcomeNumbers (a .count) (a .outcome)
 
-abbrev pub makeNumbers : MakeAnswer → Refusal
-makeNumbers M.Done = refusal 0 0
-makeNumbers (M.Refused f) = f
-
 -- what every other call makes of a report: number and place alone
 abbrev pub admissionOf : Outcome → Admission
 admissionOf O.Passed = A.Admitted
@@ -61,3 +55,8 @@ admission a = admissionOf (a .outcome)
 abbrev pub inOrder : Admission → Admission → Admission
 inOrder A.Admitted v = v
 inOrder (A.Refused f) v = A.Refused f
+
+-- an answer by the first refusal: what is done, or the number, the place and zeros
+abbrev pub answerBy : {X : Type 0} → (Refusal → X) → X → Admission → X
+answerBy zeros done A.Admitted = done
+answerBy zeros done (A.Refused f) = zeros f

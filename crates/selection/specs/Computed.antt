@@ -7,12 +7,11 @@ use Prim.Native.Nat.{ℕ, zero, suc, _+_, _*_, _-_, _/_, _%_}
 use lib.Dec.{ltb, leb, eqb}
 use lib.ListN.{length, getD, drop}
 use Rattle.selection.specs.Search.{searchOf, cellVerdictOf}
+use Rattle.selection.specs.declared.Refusal.{Refusal}
 use Rattle.selection.specs.declared.CellVerdict.{CellVerdict}
 use Rattle.selection.specs.declared.CellVerdict.the-variants.{Allowed, Disallowed, Refused}
 use Rattle.selection.specs.declared.table.Outcome.the-variants as O
 use Rattle.selection.specs.declared.table.Report.{Report}
-use Rattle.selection.specs.declared.maker.MakeAnswer.{MakeAnswer}
-use Rattle.selection.specs.declared.maker.MakeAnswer.the-variants as M
 use Rattle.selection.specs.declared.maker.RowLimits.{RowLimits}
 
 abbrev pub cellOf : ℕ → ℕ → ℕ → CellVerdict
@@ -59,8 +58,8 @@ madeTable = listFrom madeAt 0 2048
 abbrev pub madeBuffer : List ℕ → List ℕ
 madeBuffer s = cond (ltb (length s) 2048) s (madeTable ++ drop 2048 s)
 
-abbrev pub makeOf : List ℕ → MakeAnswer
-makeOf s = cond (ltb (length s) 2048) (M.Refused (record { number = 7; place = 0 })) M.Done
+abbrev pub makeOf : List ℕ → Refusal
+makeOf s = cond (ltb (length s) 2048) (record { number = 7; place = 0 }) (record { number = 0; place = 0 })
 
 -- of n numbers from i on, the first that passes the test f; else the number past them
 unfoldable pub firstFrom : (ℕ → Bool) → ℕ → ℕ → ℕ

@@ -7,9 +7,8 @@ use Prim.Native.Nat.{ℕ, _+_, _-_, _/_, _%_, _≤_, _<_}
 use lib.Dec.{ltb}
 use lib.ListN.{length, getD, drop}
 use Rattle.selection.specs.Cell.{Allows, digit}
+use Rattle.selection.specs.declared.Refusal.{Refusal}
 use Rattle.selection.specs.declared.maker.RowLimits.{RowLimits}
-use Rattle.selection.specs.declared.maker.MakeAnswer.{MakeAnswer}
-use Rattle.selection.specs.declared.maker.MakeAnswer.the-variants.{Done, Refused}
 
 -- how far the digit of a byte is from zero
 abbrev pub distance : ℕ → ℕ
@@ -47,10 +46,7 @@ pub record MadeTable (t : List ℕ) : Type 0 where
   pub size : length t ≡ 2048
   pub made : (k : ℕ) → k < 2048 → Made (k / 128) (k % 128) (getD t k 0)
 
--- the maker's answer w, where the buffer held s and then holds t. Refusal 7: the buffer ends before the last byte to write
-abbrev pub MakeMeaning : List ℕ → List ℕ → MakeAnswer → Type 0
-MakeMeaning s t Done = (2048 ≤ length s) × ((m : List ℕ) × MadeTable m × (t ≡ m ++ drop 2048 s))
-MakeMeaning s t (Refused f) = (length s < 2048) × (f ≡ record { number = 7; place = 0 }) × (t ≡ s)
-
-pub record Makes (s t : List ℕ) (w : MakeAnswer) : Type 0 where
-  pub means : MakeMeaning s t w
+-- f is the maker's answer, where the buffer held s and then holds t: refusal 7 if it ends before the last byte to write, or none and the made table
+pub record Makes (s t : List ℕ) (f : Refusal) : Type 0 where
+  pub means : ((length s < 2048) × (f ≡ record { number = 7; place = 0 }) × (t ≡ s))
+      ⊎ ((2048 ≤ length s) × (f ≡ record { number = 0; place = 0 }) × ((m : List ℕ) × MadeTable m × (t ≡ m ++ drop 2048 s)))

@@ -19,6 +19,7 @@ pub struct Witness {
 }
 
 // A refusal: its number (0: none) and its place.
+#[repr(C)]
 pub struct Refusal {
     pub number: u64,
     pub place: u64,

@@ -7,11 +7,6 @@ ghost use Rattle.selection.specs.Computed.{madeOf, beginsOf, limitsOf, r
 ghost use Rattle.selection.specs.Selection.{Limits, Limited, stepAt, Makes};
 use crate::Refusal;
 
-pub enum MakeAnswer {
-    Done,
-    Refused(Refusal),
-}
-
 // The byte of the allowed digit nearest zero.
 fn made(row: u64, column: u64) -> u8
     requires { ⌜ (row ≤ 15) × (column ≤ 127) ⌝ }
@@ -62,6 +57,7 @@ fn limits_of(row: u64) -> [u8; 6]
 }
 
 // A row's limits, or refusal 1 and zeros.
+#[repr(C)]
 pub struct RowLimits {
     pub refusal: Refusal,
     pub limits: [u8; 6],
@@ -131,14 +127,14 @@ fn all_limits() -> [[u8; 6]; 16]
 }
 
 // The made table, in the first 2,048 bytes of the buffer.
-pub fn make_table(buffer: &mut [u8]) -> MakeAnswer
+pub fn make_table(buffer: &mut [u8]) -> Refusal
     ensures { λ r. ⌜ (r ≡ makeOf (now (buffer .entry))) × (now (buffer .exit) ≡ madeBuffer (now (buffer .entry))) × (Makes (now (buffer .entry)) (now (buffer .exit)) r) ⌝ }
 {
     if buffer.len() < 2048 {
-        return MakeAnswer::Refused(Refusal {
+        return Refusal {
             number: 7,
             place: 0,
-        });
+        };
     }
     let all = all_limits();
     let mut k: usize = 0;
@@ -148,5 +144,8 @@ pub fn make_table(buffer: &mut [u8]) -> MakeAnswer
         buffer[k] = digit_at(l, (k % 128) as u8);
         k += 1;
     }
-    MakeAnswer::Done
+    Refusal {
+        number: 0,
+        place: 0,
+    }
 }

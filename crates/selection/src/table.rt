@@ -2,7 +2,7 @@
 ghost use mathlib.Core.Path.{_≡_};
 ghost use Prim.Native.Nat.{_+_, _*_, _/_, _%_, _≤_, _<_};
 ghost use lib.ListN.{length, getD};
-ghost use Rattle.selection.specs.Answer.{admission};
+ghost use Rattle.selection.specs.Answer.{admission, inOrder};
 ghost use Rattle.selection.specs.Computed.{cellOf, firstFrom, countBelow, aboveFour, isBad, refusedReport, badReport, reportOf};
 ghost use Rattle.selection.specs.Table.{Table, Checked};
 use crate::Admission;
@@ -149,7 +149,7 @@ fn place_of(cell: BadCell) -> u64
 }
 
 // What every other call makes of a table: it takes it, or it gives the check's number and place alone.
-pub fn admit_table(table: &[u8]) -> Admission
+fn admit_table(table: &[u8]) -> Admission
     ensures { λ r. ⌜ r ≡ admission (reportOf (now (table .entry))) ⌝ }
 {
     let report = check_table(table);
@@ -161,5 +161,15 @@ pub fn admit_table(table: &[u8]) -> Admission
             place: place_of(cell),
         }),
         Outcome::Refused(f) => Admission::Refused(f),
+    }
+}
+
+// The refusal of a call that is lent a table: that of its other arguments, or else the table's.
+pub fn admit_after(arguments: Admission, table: &[u8]) -> Admission
+    ensures { λ r. ⌜ r ≡ inOrder arguments (admission (reportOf (now (table .entry)))) ⌝ }
+{
+    match arguments {
+        Admission::Refused(f) => Admission::Refused(f),
+        Admission::Admitted => admit_table(table),
     }
 }

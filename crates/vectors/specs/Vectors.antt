@@ -5,7 +5,6 @@ use Prim.Native.Nat.{ℕ, zero, suc, _+_, _*_, _-_}
 use lib.Dec.{ltb, eqb}
 use lib.ListN.{getD}
 use Rattle.division.specs.declared.binary64.Binary64Answer.{Binary64Answer}
-use Rattle.division.specs.declared.binary64.Binary64Answer.the-variants.{Done, Refused}
 use Rattle.selection.specs.Computed.{madeTable}
 use Rattle.division.specs.Through.{binary64Of}
 use Rattle.vectors.specs.declared.Vector.{Vector}
@@ -51,10 +50,9 @@ unfoldable pub formedUpto : List ℕ → ℕ → Bool
 formedUpto s zero = true
 formedUpto s (suc n) = cond (formedUpto s n) (fitsAt n (getD s n 0)) false
 
--- an answer differs from a case: in the pattern, or in the flags, or it is a refusal
+-- an answer differs from a case: it is a refusal, or in the pattern, or in the flags
 abbrev pub differsFrom : Vector → Binary64Answer → Bool
-differsFrom v (Done r) = cond (eqb (r .pattern) (v .pattern)) (not (eqb (r .flags) (v .flags))) true
-differsFrom v (Refused f) = true
+differsFrom v x = cond (eqb (x .refusal .number) 0) (cond (eqb (x .pattern) (v .pattern)) (not (eqb (x .flags) (v .flags))) true) true
 
 -- the unit's answer, through the kept table, differs from a case
 abbrev pub differsIn : Vector → Bool

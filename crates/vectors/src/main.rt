@@ -2,7 +2,6 @@
 ghost use mathlib.Core.Path.{_≡_};
 ghost use Prim.Native.Nat.{_+_, _^_, _≤_, _<_};
 ghost use Rattle.vectors.specs.Vectors.{nibbleOf, hexOf, vectorOf, isDecimal, isHex, fitsAt, formedUpto, differsIn, verdictOf, countedIn};
-use division::binary64::Binary64Answer;
 use report::print_number;
 use report::print_text;
 
@@ -130,15 +129,14 @@ fn parse(line: &[u8; 56]) -> Vector
 fn differs(v: Vector) -> bool
     ensures { λ r. ⌜ r ≡ differsIn v ⌝ }
 {
-    match division::binary64::divide_binary64_kept(v.a, v.b, v.direction) {
-        Binary64Answer::Done(answer) => {
-            if answer.pattern != v.pattern {
-                return true;
-            }
-            answer.flags as u64 != v.flags
-        }
-        Binary64Answer::Refused(_) => true,
+    let answer = division::binary64::divide_binary64_kept(v.a, v.b, v.direction);
+    if answer.refusal.number != 0 {
+        return true;
     }
+    if answer.pattern != v.pattern {
+        return true;
+    }
+    answer.flags != v.flags
 }
 
 // Of the bytes read for a line, the first `length` are the file's. A line that is cut short or not in the form differs.

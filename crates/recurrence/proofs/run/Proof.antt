@@ -1,8 +1,9 @@
-use mathlib.Core.Path.{sym, _∙_}
+-- `run` meets its contract: the arguments' refusal, then the table's, else the run through the table.
+use mathlib.Core.Path.{refl, sym, ap, _∙_}
 use denote.Ref.{now}
-use Rattle.selection.specs.declared.Admission.the-variants as A
-use Rattle.selection.proofs.Reports.{admitted-passes}
-use Rattle.recurrence.proofs.Refusals.{spans, arguments-first, then-table, run-refused, run-done}
+use Rattle.selection.proofs.Orders.{admitted-both, first-lent}
+use Rattle.recurrence.specs.Run.{runValues}
+use Rattle.recurrence.proofs.Refusals.{spans, run-answered}
 use borrow.Author.Needs.{needs}
 use Rattle.recurrence.proofs.run.Statement.{statement}
 use Rattle.recurrence.proofs.run.Tie as tie
@@ -10,65 +11,56 @@ use Rattle.recurrence.proofs.run.Tie as tie
 argument-refusal-requires : tie.Need-argument-refusal-requires
 argument-refusal-requires c κs = search needs
 
-enum-known-refused : tie.Need-enum-known-refused
-enum-known-refused c = search needs
+admit-after-requires : tie.Need-admit-after-requires
+admit-after-requires c κs = search needs
+
+enum-known-admission : tie.Need-enum-known-admission
+enum-known-admission c = search needs
+
+zeros-requires : tie.Need-zeros-requires
+zeros-requires c κs = search needs
 
 enum-told : tie.Need-enum-told
 enum-told c = search needs
 
-admit-table-requires : tie.Need-admit-table-requires
-admit-table-requires c κs = search needs
-
-enum-known-admitted : tie.Need-enum-known-admitted
-enum-known-admitted c = search needs
-
-enum-told-2 : tie.Need-enum-told-2
-enum-told-2 c = search needs
-
 run-admitted-requires : tie.Need-run-admitted-requires
 run-admitted-requires c κs =
-    let s = spans _ _ _ _ _ (sym (c .before .before .before .before .before .before .argument-refusal .ensures) ∙ c .before .before .before .before .enum-told .given .1) in
-    (admitted-passes (sym (c .before .before .before .admit-table .ensures) ∙ c .before .enum-told2 .given .1), s .0, s .1, s .2, s .3)
+    let k = admitted-both (c .before .before .before .admit-after .ensures) (c .before .enum-told .given .1) in
+    let s = spans _ _ _ _ _ (sym (c .before .before .before .before .argument-refusal .ensures) ∙ k .0) in
+    (k .1, s .0, s .1, s .2, s .3)
+
+values-requires : tie.Need-values-requires
+values-requires c κs = search needs
 
 returns : tie.Need-returns
 returns c =
-    let a = c .before .before .before .before .before .before .args in
-    run-refused (now (a .table)) (a .dividend) (a .divisor) (a .digits) (now (a .buffer)) (a .place) _
-    (arguments-first (now (a .table)) (a .dividend) (a .divisor) (a .digits) (now (a .buffer)) (a .place) _
-    (sym (c .before .before .before .argument-refusal .ensures) ∙ c .before .refused .given .1))
-
-returns-2 : tie.Need-returns-2
-returns-2 c =
-    let a = c .before .before .before .before .before .before .before .before .before .args in
-    run-refused (now (a .table)) (a .dividend) (a .divisor) (a .digits) (now (a .buffer)) (a .place) _
-    (then-table (now (a .table)) (a .dividend) (a .divisor) (a .digits) (now (a .buffer)) (a .place) _
-    (sym (c .before .before .before .before .before .before .argument-refusal .ensures) ∙ c .before .before .before .before .enum-told .given .1)
-    (sym (c .before .before .before .admit-table .ensures) ∙ c .before .admitted .given .1))
+    let a = c .before .before .before .before .before .before .before .before .args in
+    run-answered (now (a .table)) (a .dividend) (a .divisor) (a .digits) (now (a .buffer)) (a .place)
+    (first-lent _ (c .before .before .before .before .admit-after .ensures) (c .before .before .before .before .before .argument-refusal .ensures) (c .before .before .admission .given .1))
+    (c .zeros .ensures, refl)
 
 same-length : tie.Need-same-length
 same-length c = search needs
 
-returns-3 : tie.Need-returns-3
-returns-3 c =
-    let a = c .before .before .before .before .before .before .before .before .before .before .before .before .args in
-    run-done (now (a .table)) (a .dividend) (a .divisor) (a .digits) (now (a .buffer)) (a .place)
-    (then-table (now (a .table)) (a .dividend) (a .divisor) (a .digits) (now (a .buffer)) (a .place) A.Admitted
-    (sym (c .before .before .before .before .before .before .before .before .before .argument-refusal .ensures) ∙ c .before .before .before .before .before .before .before .enum-told .given .1)
-    (sym (c .before .before .before .before .before .before .admit-table .ensures) ∙ c .before .before .before .before .enum-told2 .given .1))
-    (c .before .before .run-admitted .ensures)
+returns-2 : tie.Need-returns-2
+returns-2 c =
+    let a = c .before .before .before .before .before .before .before .before .before .before .before .args in
+    let r = c .before .before .before .run-admitted .ensures in
+    run-answered (now (a .table)) (a .dividend) (a .divisor) (a .digits) (now (a .buffer)) (a .place)
+    (first-lent _ (c .before .before .before .before .before .before .before .admit-after .ensures) (c .before .before .before .before .before .before .before .before .argument-refusal .ensures) (c .before .before .before .before .before .enum-told .given .1))
+    (c .values .ensures ∙ ap runValues (r .1), r .0)
 
 pub run-spec : {M : Type 1} → statement M
 run-spec =
     tie.close
     (tie.spec
     argument-refusal-requires
-    enum-known-refused
+    admit-after-requires
+    enum-known-admission
+    zeros-requires
     enum-told
-    admit-table-requires
-    enum-known-admitted
-    enum-told-2
     run-admitted-requires
+    values-requires
     returns
-    returns-2
     same-length
-    returns-3)
+    returns-2)
