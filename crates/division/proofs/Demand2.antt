@@ -1,17 +1,16 @@
 -- Demand 2. Assumes nothing.
 use mathlib.Core.Path.{refl, sym}
 use mathlib.Core.List.{List}
-use Prim.Native.Nat.{ℕ, _/_, _%_, _^_, _≤_, _<_}
+use Prim.Native.Nat.{ℕ, _^_, _≤_, _<_}
 use native.Mathlib.Nat.{div-add-mod', mod-lt}
-use native.Mathlib.Omega.{arith}
-use borrow.Author.Tests.{lt-leb, le-ltb, ne-eqb}
 use Rattle.laws.proofs.Division.{quotient}
 use Rattle.selection.specs.Table.{Passes}
-use Rattle.selection.proofs.Reports.{passes-admitted}
+use Rattle.selection.proofs.Orders.{passed-last}
 use Rattle.selection.proofs.MadeTables.{kept-passes}
-use Rattle.division.specs.Whole.{wholeOf}
-use Rattle.division.specs.Through.{binary64Of}
+use Rattle.division.specs.Whole.{wholeRungs, wholeOf}
+use Rattle.division.specs.Through.{binary64Rungs, binary64Of}
 use Rattle.division.specs.Demand2.{Divides, DividesBinary64, RightThrough, Demand2}
+use Rattle.division.proofs.Calls.{whole-clear, direction-clear}
 use Rattle.division.proofs.WholeThrough.{whole-divides}
 use Rattle.division.proofs.IeeeLaws.{ieee-through}
 use Rattle.division.proofs.IeeeOne.{ieee-one}
@@ -19,12 +18,12 @@ use Rattle.division.proofs.IeeeOne.{ieee-one}
 module _ (t : List ℕ) (p : Passes t) where
   whole : (a b : ℕ) → a < 2 ^ 60 → 0 < b → b < 2 ^ 60 → Divides a b (wholeOf t a b)
   whole a b ha pb hb =
-      rw (passes-admitted p, lt-leb (2 ^ 60) a ha, lt-leb (2 ^ 60) b hb, ne-eqb b 0 (omega arith), whole-divides t a b p ha pb hb)
+      rw (passed-last p (wholeRungs a b), whole-clear a b ha pb hb, whole-divides t a b p ha pb hb)
       (record { done = refl; equation = sym (div-add-mod' a b); below = mod-lt a pb; only = λ Q R e l. let k = quotient (sym e) l in (sym (k .0), sym (k .1)) })
 
   binary64 : (direction a b : ℕ) → direction ≤ 3 → DividesBinary64 direction a b (binary64Of t direction a b)
   binary64 direction a b h =
-      rw (passes-admitted p, le-ltb 3 direction h)
+      rw (passed-last p (binary64Rungs direction), direction-clear direction h)
       (record { done = refl; meaning = ieee-through t p direction a b; only = λ x i. ieee-one direction a b i (ieee-through t p direction a b) })
 
   right : RightThrough t

@@ -5,6 +5,7 @@ use mathlib.Core.List.{List}
 use mathlib.Core.Logic.{_↔_}
 use Prim.Native.Nat.{ℕ}
 use Rattle.selection.specs.Answer.{answerBy}
+use Rattle.selection.specs.Refusals.{ladder}
 use Rattle.selection.specs.Computed.{reportOf, madeTable}
 use Rattle.selection.specs.Table.{Passes, ReportMeaning, Checked}
 use Rattle.selection.specs.declared.Admission.{Admission}
@@ -17,17 +18,17 @@ use Rattle.selection.proofs.Orders.{passed-last}
 use Rattle.selection.proofs.MadeTables.{kept-passes}
 use Rattle.selection.proofs.Exact.{refused-exactly}
 use Rattle.recurrence.proofs.RunDemand.{run-claim, run-same}
-use Rattle.division.specs.Whole.{wholeRefusal, wholeThrough, wholeZeros, wholeValues, wholeOf}
-use Rattle.division.specs.Through.{binary64Refusal, binary64Of}
+use Rattle.division.specs.Whole.{wholeRungs, wholeThrough, wholeZeros, wholeValues, wholeOf}
+use Rattle.division.specs.Through.{binary64Rungs, binary64Of}
 use Rattle.division.specs.Demand3.{Demand3}
 use Rattle.division.proofs.WholeThrough.{whole-divides}
 use Rattle.division.proofs.Binary64Through.{binary64-through}
 use Rattle.division.proofs.Calls.{whole-spans}
 
 whole-same : (t u : List ℕ) → Passes t → Passes u → (a b : ℕ) → wholeOf t a b ≡ wholeOf u a b
-whole-same t u p q a b = rw (passed-last p (wholeRefusal a b), passed-last q (wholeRefusal a b)) (go (wholeRefusal a b) refl)
+whole-same t u p q a b = rw (passed-last p (wholeRungs a b), passed-last q (wholeRungs a b)) (go (ladder (wholeRungs a b)) refl)
   where
-    go : (r : Admission) → wholeRefusal a b ≡ r → answerBy wholeZeros (wholeValues (wholeThrough t a b)) r ≡ answerBy wholeZeros (wholeValues (wholeThrough u a b)) r
+    go : (r : Admission) → ladder (wholeRungs a b) ≡ r → answerBy wholeZeros (wholeValues (wholeThrough t a b)) r ≡ answerBy wholeZeros (wholeValues (wholeThrough u a b)) r
     go Admitted e =
         let s = whole-spans a b e in
         ap wholeValues (whole-divides t a b p (s .0) (s .1) (s .2) ∙ sym (whole-divides u a b q (s .0) (s .1) (s .2)))
@@ -35,7 +36,7 @@ whole-same t u p q a b = rw (passed-last p (wholeRefusal a b), passed-last q (wh
 
 binary64-same : (t u : List ℕ) → Passes t → Passes u → (direction a b : ℕ) → binary64Of t direction a b ≡ binary64Of u direction a b
 binary64-same t u p q direction a b =
-    rw (passed-last p (binary64Refusal direction), passed-last q (binary64Refusal direction), binary64-through t direction a b p, binary64-through u direction a b q) refl
+    rw (passed-last p (binary64Rungs direction), passed-last q (binary64Rungs direction), binary64-through t direction a b p, binary64-through u direction a b q) refl
 
 -- the answer "passed" is that of a table that passes
 passed : (t : List ℕ) (a : Report) → Checked t a → (a .outcome ≡ Passed) ↔ Passes t

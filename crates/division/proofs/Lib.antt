@@ -8,8 +8,6 @@ pub mod Units
 pub mod WholeThrough
 pub mod Binary64Through
 pub mod Calls
-pub mod Refused
-pub mod Ladders
 pub mod Demand1
 pub mod Demand3
 pub mod BenchCases

@@ -5,7 +5,6 @@ pub mod Computed
 pub mod Through
 pub mod Working
 pub mod Ieee
-pub mod Refusals
 pub mod Demand1
 pub mod Demand2
 pub mod Demand3

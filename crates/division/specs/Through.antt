@@ -1,14 +1,13 @@
 -- Binary64 division through a table, as a caller sees it: document 01, "Binary64" and "Who sends bad input". The significands' quotient is the run's, its digits the table's.
 -- The steps between need not be believed: `binary64-through` shows that through every table that passes they give `divided`, and `ieee` what that means.
 use mathlib.Core.Bool.{Bool, cond}
-use mathlib.Core.List.{List}
+use mathlib.Core.List.{List, [], _∷_, _++_}
 use Prim.Native.Nat.{ℕ, min, _+_, _-_, _*_, _/_, _%_, _^_}
-use lib.Dec.{leb, ltb, eqb}
-use Rattle.selection.specs.Answer.{refusal, admission, inOrder, answerBy}
-use Rattle.selection.specs.Computed.{reportOf}
+use lib.Dec.{leb, eqb}
+use Rattle.selection.specs.Answer.{refusal, answerBy}
+use Rattle.selection.specs.Computed.{tableRungs}
+use Rattle.selection.specs.Refusals.{Rung, below, number, ladder}
 use Rattle.selection.specs.declared.Refusal.{Refusal}
-use Rattle.selection.specs.declared.Admission.{Admission}
-use Rattle.selection.specs.declared.Admission.the-variants as A
 use Rattle.recurrence.specs.Recurrence.{resultOf}
 use Rattle.division.specs.Whole.{shiftTo}
 use Rattle.division.specs.Rounding.{modeOf}
@@ -55,9 +54,9 @@ scaledThrough t direction s x y = roundedQuotient direction s (ratioThrough t (x
 abbrev pub binary64Through : List ℕ → ℕ → ℕ → ℕ → Binary64Result
 binary64Through t direction a b = orQuotient (scaledThrough t direction (signOf a b) (significandOf a) (significandOf b)) (byClass a b)
 
--- 6: direction above 3
-abbrev pub binary64Refusal : ℕ → Admission
-binary64Refusal direction = cond (ltb 3 direction) (A.Refused (refusal 6 0)) A.Admitted
+-- what is refused of the arguments. 6: direction above 3
+unfoldable pub binary64Rungs : ℕ → List Rung
+binary64Rungs direction = number 6 (below 3 direction) ∷ []
 
 -- number and place of a refusal, and zeros
 abbrev pub binary64Zeros : Refusal → Binary64Answer
@@ -69,4 +68,4 @@ binary64Values x = record { refusal = refusal 0 0; pattern = x .pattern; flags =
 
 -- the answer: then 8, 9, 10, the table's, for every pair of operands
 abbrev pub binary64Of : List ℕ → ℕ → ℕ → ℕ → Binary64Answer
-binary64Of t direction a b = answerBy binary64Zeros (binary64Values (binary64Through t direction a b)) (inOrder (binary64Refusal direction) (admission (reportOf t)))
+binary64Of t direction a b = answerBy binary64Zeros (binary64Values (binary64Through t direction a b)) (ladder (binary64Rungs direction ++ tableRungs t))

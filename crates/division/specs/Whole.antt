@@ -1,15 +1,12 @@
 -- Whole-number division through a table, as a caller sees it: document 01, "The run" and "Who sends bad input".
 -- The steps between need not be believed: `whole-through` and `whole-divides` show that through every table that passes they give a / b and a % b.
-use mathlib.Core.Bool.{cond}
-use mathlib.Core.List.{List}
+use mathlib.Core.List.{List, [], _∷_, _++_}
 use Prim.Native.Nat.{ℕ, _+_, _-_, _*_, _/_, _%_, _^_}
 use lib.Count.{leadingZeros}
-use lib.Dec.{leb, eqb}
-use Rattle.selection.specs.Answer.{refusal, admission, inOrder, answerBy}
-use Rattle.selection.specs.Computed.{reportOf}
+use Rattle.selection.specs.Answer.{refusal, answerBy}
+use Rattle.selection.specs.Computed.{tableRungs}
+use Rattle.selection.specs.Refusals.{Rung, atMost, same, eitherOf, number, ladder}
 use Rattle.selection.specs.declared.Refusal.{Refusal}
-use Rattle.selection.specs.declared.Admission.{Admission}
-use Rattle.selection.specs.declared.Admission.the-variants as A
 use Rattle.recurrence.specs.Recurrence.{resultOf}
 use Rattle.division.specs.declared.whole.WholeResult.{WholeResult}
 use Rattle.division.specs.declared.whole.WholeAnswer.{WholeAnswer}
@@ -29,13 +26,9 @@ shiftedThrough t a d s =
 abbrev pub wholeThrough : List ℕ → ℕ → ℕ → WholeResult
 wholeThrough t a b = shiftedThrough t a (b * 2 ^ shiftTo 60 b) (shiftTo 60 b)
 
--- 4: a or b is 2^60 or more. 5: b is 0
-abbrev pub wholeRefusal : ℕ → ℕ → Admission
-wholeRefusal a b =
-    cond (leb (2 ^ 60) a) (A.Refused (refusal 4 0))
-    (cond (leb (2 ^ 60) b) (A.Refused (refusal 4 0))
-    (cond (eqb b 0) (A.Refused (refusal 5 0))
-    A.Admitted))
+-- what is refused of the arguments. 4: a or b is 2^60 or more. 5: b is 0
+unfoldable pub wholeRungs : ℕ → ℕ → List Rung
+wholeRungs a b = number 4 (eitherOf (atMost (2 ^ 60) a) (atMost (2 ^ 60) b)) ∷ number 5 (same b 0) ∷ []
 
 -- number and place of a refusal, and zeros
 abbrev pub wholeZeros : Refusal → WholeAnswer
@@ -47,4 +40,4 @@ wholeValues x = record { refusal = refusal 0 0; quotient = x .quotient; remainde
 
 -- the answer: then 8, 9, 10, the table's
 abbrev pub wholeOf : List ℕ → ℕ → ℕ → WholeAnswer
-wholeOf t a b = answerBy wholeZeros (wholeValues (wholeThrough t a b)) (inOrder (wholeRefusal a b) (admission (reportOf t)))
+wholeOf t a b = answerBy wholeZeros (wholeValues (wholeThrough t a b)) (ladder (wholeRungs a b ++ tableRungs t))

@@ -5,8 +5,9 @@ ghost use Prim.Native.Nat.{ℕ, _+_, _-_, _*_, _/_, _%_, _^_, _≤_, _<_};
 ghost use Rattle.selection.specs.Cell as Cell;
 ghost use Rattle.selection.specs.Computed.{madeTable};
 ghost use Rattle.selection.specs.Table.{Passes, rowBytes};
+ghost use Rattle.selection.specs.Refusals.{ladder};
 ghost use Rattle.recurrence.specs.Row.{Row};
-ghost use Rattle.division.specs.Whole.{shiftTo, shiftedThrough, wholeThrough, wholeRefusal, wholeZeros, wholeValues, wholeOf};
+ghost use Rattle.division.specs.Whole.{shiftTo, shiftedThrough, wholeThrough, wholeRungs, wholeZeros, wholeValues, wholeOf};
 use selection::Admission;
 use selection::Refusal;
 
@@ -70,7 +71,7 @@ fn divide_kept(a: u64, b: u64) -> WholeResult
 
 // The first refusal of the arguments alone.
 fn refusal_of(a: u64, b: u64) -> Admission
-    ensures { λ r. ⌜ r ≡ wholeRefusal a b ⌝ }
+    ensures { λ r. ⌜ r ≡ ladder (wholeRungs a b) ⌝ }
 {
     let outside = Admission::Refused(Refusal {
         number: 4,

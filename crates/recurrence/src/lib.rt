@@ -6,6 +6,9 @@ ghost use mathlib.Core.Path.{_≡_};
 ghost use mathlib.Core.List.{List};
 ghost use Prim.Native.Nat.{ℕ, _+_, _%_, _^_, _≤_, _<_};
 ghost use lib.ListN.{length, getD};
+ghost use Rattle.selection.specs.Answer.{refusal};
+ghost use Rattle.selection.specs.Refusals.{ladder};
+ghost use Rattle.selection.specs.declared.Admission.the-variants as Told;
 ghost use Rattle.selection.specs.Cell.{column};
 ghost use Rattle.selection.specs.Cell as Cell;
 ghost use Rattle.selection.specs.Table.{Passes, rowBytes};
@@ -13,7 +16,7 @@ ghost use Rattle.selection.specs.Computed.{madeTable};
 ghost use Rattle.recurrence.specs.CarrySave.{lowestCarry};
 ghost use Rattle.recurrence.specs.Recurrence.{Operands, nextOf, startOf, digits, resultOf};
 ghost use Rattle.recurrence.specs.Row.{Row};
-ghost use Rattle.recurrence.specs.Run.{refusedWith, argumentRefusal, written, runZeros, runValues, runOf, bufferOf};
+ghost use Rattle.recurrence.specs.Run.{runRungs, written, runZeros, runValues, runOf, bufferOf};
 ghost use Rattle.recurrence.specs.Working.{withColumn, stateOf, multiplesOf, laneOf, lanesOf, DigitBytes, StepReady, resultFromWord, CorrectionReady};
 
 // The next column needs the bits 61 to 54 of a word: what is left of it by 2^62, without the bits below 2^54.
@@ -208,16 +211,16 @@ fn run_admitted(
 
 // A refusal whose place is 0.
 fn refused(number: u64) -> Admission
-    ensures { λ r. ⌜ r ≡ refusedWith number ⌝ }
+    ensures { λ r. ⌜ r ≡ Told.Refused (refusal number 0) ⌝ }
 {
     Admission::Refused(Refusal { number, place: 0 })
 }
 
-// The first refusal of the arguments alone, in the order of their numbers.
+// The first refusal of the arguments alone.
 fn argument_refusal(dividend: u64, divisor: u64, n: usize, len: usize, place: usize) -> Admission
-    ensures { λ r. ⌜ r ≡ argumentRefusal dividend divisor n len place ⌝ }
+    ensures { λ r. ⌜ r ≡ ladder (runRungs dividend divisor n len place) ⌝ }
 {
-    if n < 1 {
+    if n == 0 {
         return refused(2);
     }
     if 31 < n {

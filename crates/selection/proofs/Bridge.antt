@@ -1,24 +1,28 @@
 -- Document 01's points over the integers, and those over natural numbers, are the same: P is W - 2^63.
 -- Assumes nothing.
 use mathlib.Core.Path.{_≡_, refl, sym, subst, ap, _∙_}
-use mathlib.Core.Bool.{Bool, true, false, cond}
 use mathlib.Core.Logic.{_⊎_, inl, inr, ⊎-elim}
 use Prim.Native.Nat.{ℕ, _+_, _*_, _-_, _%_, _^_, _≤_}
 use native.Mathlib.Omega.{arith}
 use lib.Dec.{ltb, ltb→lt, nltb→le}
 use lib.IntN.{ℤ, pos, _-ℤ_, _*ℤ_}
-use borrow.Author.Tests.{ltb-true, ltb-false, le-ltb}
+use borrow.Author.Tests.{le-ltb}
 use Rattle.laws.proofs.Tests.{by-cond}
 use Rattle.laws.proofs.Diff.{diff, diffs, diff-sub, diff-eq}
 use Rattle.laws.proofs.Division.{either}
 use Rattle.selection.specs.Word.{signed, Within}
-use Rattle.selection.specs.Cell.{Point, Keeps, Allows, Against, IsCell, CellRefused, CellChecked, CellMeaning, digit}
+use Rattle.selection.specs.Cell.{Point, Keeps, Allows, Against, IsCell, cellRungs, CellChecked, CellMeaning, digit}
 use Rattle.selection.specs.Search.{cellVerdictOf, searchOf}
+use Rattle.selection.specs.Answer.{answerBy}
+use Rattle.selection.specs.Refusals.{Wrongs, ladder, rank, FirstRefusal}
+use Rattle.selection.specs.declared.Admission.{Admission}
+use Rattle.selection.specs.declared.Admission.the-variants as A
 use Rattle.selection.specs.Computed.{cellOf}
 use Rattle.selection.specs.declared.SearchResult.{SearchResult}
 use Rattle.selection.specs.declared.SearchResult.the-variants.{NoWitness, LeastAt}
 use Rattle.selection.specs.declared.CellVerdict.{CellVerdict}
 use Rattle.selection.specs.declared.CellVerdict.the-variants.{Allowed, Disallowed, Refused}
+use Rattle.selection.proofs.Ladders.{Ladder, Meets, ladder-meets, not-below}
 use Rattle.selection.proofs.Breaking.{BiasedPoint, Low, High, Breaks, IsLeast}
 use Rattle.selection.proofs.Searching.{search-right}
 
@@ -109,17 +113,21 @@ module _ (r c b : ℕ) (known : IsCell r c b) where
         }),
   )
 
+pub cell-ladder : (r c b : ℕ) → Ladder (cellRungs r c b)
+unfolding rank
+cell-ladder r c b = record { sound = (tt, λ _. (tt, λ _. tt)); in-order = tt }
+
+-- what is not refused is a cell and a digit
+pub is-cell : {r c b : ℕ} → ((n p : ℕ) → Wrongs (cellRungs r c b) n p → ⊥) → IsCell r c b
+is-cell a = record { row = not-below (λ h. a 1 0 (inl (refl, (refl, inl h)))); column = not-below (λ h. a 1 0 (inl (refl, (refl, inr h)))); byte = not-below (λ h. a 9 _ (inr (inl (refl, (refl, h))))) }
+
 -- the computed verdict is document 01's
 pub cell-checked : (r c b : ℕ) → CellChecked r c b (cellOf r c b)
-cell-checked r c b = record { means = go (ltb 15 r) refl (ltb 127 c) refl (ltb 4 b) refl }
+cell-checked r c b = record { means = go (ladder (cellRungs r c b)) (ladder-meets (cell-ladder r c b) _ refl) }
   where
-    go : (x : Bool) → ltb 15 r ≡ x → (y : Bool) → ltb 127 c ≡ y → (z : Bool) → ltb 4 b ≡ z → CellMeaning r c b (cond x (Refused (record { number = 1; place = 0 })) (cond y (Refused (record { number = 1; place = 0 })) (cond z (Refused (record { number = 9; place = 128 * r + c })) (cellVerdictOf (searchOf r c b)))))
-    go true e y f z g = record { why = inl (inl (ltb-true 15 r e), refl, refl) }
-    go false e true f z g = record { why = inl (inr (ltb-true 127 c f), refl, refl) }
-    go false e false f true g = record { why = inr (ltb-false 15 r e, ltb-false 127 c f, ltb-true 4 b g, refl, refl) }
-    go false e false f false g =
-        let k : IsCell r c b = record { row = ltb-false 15 r e; column = ltb-false 127 c f; byte = ltb-false 4 b g } in
-        result-means r c b k (searchOf r c b) (search-right r c b (k .row) (k .byte))
+    go : (v : Admission) → Meets (Wrongs (cellRungs r c b)) v → CellMeaning r c b (answerBy Refused (cellVerdictOf (searchOf r c b)) v)
+    go A.Admitted m = let k = is-cell m in result-means r c b k (searchOf r c b) (search-right r c b (k .row) (k .byte))
+    go (A.Refused f) m = m
 
 pub answers : (r c b : ℕ) {v : CellVerdict} → v ≡ cellOf r c b → (v ≡ cellOf r c b) × CellChecked r c b v
 answers r c b e = (e, subst (CellChecked r c b) (sym e) (cell-checked r c b))
@@ -131,8 +139,8 @@ cell-known {r} {c} {b} k = simp (le-ltb 15 r (k .row), le-ltb 127 c (k .column),
 pub verdict-checked : {r c b : ℕ} {h : SearchResult} → IsCell r c b → h ≡ searchOf r c b → (cellVerdictOf h ≡ cellOf r c b) × CellChecked r c b (cellVerdictOf h)
 verdict-checked {r} {c} {b} k e = answers r c b (ap cellVerdictOf e ∙ sym (cell-known k))
 
-pub known-not-refused : {r c b n p : ℕ} {X : Type 0} → IsCell r c b → CellRefused r c b n p → X
-known-not-refused k u = absurd (⊎-elim (λ l. ⊎-elim (λ x. omega arith) (λ x. omega arith) (l .0)) (λ l. omega arith) (u .why))
+pub known-not-refused : {r c b n p : ℕ} {X : Type 0} → IsCell r c b → FirstRefusal (Wrongs (cellRungs r c b)) n p → X
+known-not-refused k u = absurd (⊎-elim (λ l. ⊎-elim (λ x. omega (arith, k .row)) (λ x. omega (arith, k .column)) (l .1 .1)) (⊎-elim (λ l. omega (arith, k .byte, l .1 .1)) (λ z. z)) (u .holds))
 
 pub not-allowed : {r c D : ℕ} {q : ℤ} {P : ℤ} → Against r c q D P → Allows r c q → ⊥
 not-allowed {D = D} {P = P} a h = a .broken (h D P (a .point))

@@ -9,9 +9,10 @@ use native.Mathlib.Omega.{arith}
 use lib.IntN.{ℤ, pos, negsuc}
 use lib.Dec.{T, leb, eqb, leb→le, eqb→eq, eqb-refl, lit≤}
 use Rattle.laws.proofs.Tests.{upto, upto-at, alike, alike-eq}
+use Rattle.selection.specs.Refusals.{firstFrom}
 use Rattle.selection.specs.Cell.{Allows, Listed, AllowedDigits, LeastWitness, IsCell, digit}
 use Rattle.selection.specs.Selection.{Limits}
-use Rattle.selection.specs.Computed.{allowsOf, limitsOf, firstFrom, madeOf}
+use Rattle.selection.specs.Computed.{allowsOf, limitsOf, madeOf}
 use Rattle.selection.proofs.Bridge.{cell-checked}
 use Rattle.selection.proofs.Allowed.{allows-decides}
 use Rattle.selection.proofs.Making.{limits-right}

@@ -10,9 +10,10 @@ use native.Mathlib.Omega.{arith}
 use lib.Dec.{T, ltb}
 use borrow.Author.Tests.{ltb-true, ltb-false}
 use Rattle.laws.proofs.Tests.{by-cond}
-use Rattle.selection.specs.Table.{Tally, First}
+use Rattle.selection.specs.Refusals.{First, firstFrom}
+use Rattle.selection.specs.Table.{Tally}
 use Rattle.selection.specs.Table.Tally.{none, one, other}
-use Rattle.selection.specs.Computed.{firstFrom, countBelow}
+use Rattle.selection.specs.Computed.{countBelow}
 
 -- ---- the loops
 

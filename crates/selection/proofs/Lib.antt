@@ -18,4 +18,5 @@ pub mod MadeTables
 pub mod Exact
 pub mod CellCases
 pub mod Verdicts
+pub mod Ladders
 pub mod Orders

@@ -2,7 +2,7 @@
 -- Assumes nothing.
 use mathlib.Core.Path.{_≡_, refl, sym, ap, subst, _∙_}
 use mathlib.Core.List.{List, [], _∷_, _++_}
-use mathlib.Core.Logic.{inl, inr}
+use mathlib.Core.Logic.{inl}
 use Prim.Native.Nat.{ℕ, zero, suc, _+_, _/_, _%_, _≤_, _<_}
 use native.Mathlib.Nat.{add-zero, add-suc, suc-add, zero-add, not-suc-le-zero, le-of-suc-le-suc}
 use native.Mathlib.Numerals.{add-one}
@@ -10,12 +10,18 @@ use native.Mathlib.Omega.{arith}
 use lib.ListN.{length, getD, drop, set}
 use borrow.Author.Tests.{lt-ltb, le-ltb}
 use Rattle.laws.proofs.Lists.{store}
-use Rattle.selection.specs.Selection.{Made, MadeTable, Makes}
-use Rattle.selection.specs.Computed.{madeAt, listFrom, madeTable, madeBuffer, makeOf}
+use Rattle.selection.specs.Selection.{Made, MadeTable, Limits, limitsRungs, limitsZeros, makeRungs, Limited, Makes}
+use Rattle.selection.specs.Answer.{refusal, answerBy}
+use Rattle.selection.specs.Refusals.{Wrongs, RefusedBy}
+use Rattle.selection.specs.declared.Refusal.{Refusal}
+use Rattle.selection.specs.declared.Admission.{Admission}
+use Rattle.selection.specs.declared.maker.RowLimits.{RowLimits}
+use Rattle.selection.proofs.Ladders.{Ladder, not-below, first-is, admits, refuses}
+use Rattle.selection.specs.Computed.{madeAt, listFrom, limitsOf, rowLimitsOf, madeTable, madeBuffer, makeOf}
 use Rattle.selection.specs.Table.{Passes}
-use Rattle.selection.proofs.Making.{made-right}
+use Rattle.selection.proofs.Making.{made-right, limits-right}
 use Rattle.selection.proofs.KeptLaws.{made-passes}
-use Rattle.selection.proofs.UniqueMade.{byte-one, made-one}
+use Rattle.selection.proofs.UniqueMade.{byte-one, made-one, limits-ladder, make-ladder}
 
 module _ (f : ℕ → ℕ) where
   pub list-length : (i n : ℕ) → length (listFrom f i n) ≡ n
@@ -60,11 +66,41 @@ fill-more s b k v h e l m =
     let x : v ≡ madeAt k = byte-one m (made-right (k / 128) (k % 128) (omega arith) (omega arith)) in
     rw (e, x, add-one, list-snoc madeAt 0 k, zero-add k) (store (listFrom madeAt 0 k) s k (madeAt k) (list-length madeAt 0 k) h)
 
-pub make-done : (s t : List ℕ) (k : ℕ) → (2048 ≤ length s) × (t ≡ listFrom madeAt 0 k ++ drop k s) → k ≡ 2048 → (record { number = 0; place = 0 } ≡ makeOf s) × (t ≡ madeBuffer s) × Makes s t (record { number = 0; place = 0 })
-unfolding madeTable
-make-done s t k h d =
-    let e : t ≡ listFrom madeAt 0 2048 ++ drop 2048 s = subst (λ (k : ℕ). t ≡ listFrom madeAt 0 k ++ drop k s) d (h .1) in
-    (rw (le-ltb (length s) 2048 (h .0)) refl, rw (le-ltb (length s) 2048 (h .0)) e, record { means = inr (h .0, refl, (madeTable, made-table-is, e)) })
+-- what the maker's code asks: t is what it leaves, and that is the answer
+pub make-answer : (s t : List ℕ) (f : Refusal) → f ≡ makeOf s → t ≡ madeBuffer s → (f ≡ makeOf s) × (t ≡ madeBuffer s) × Makes s t f
+make-answer s t f e g =
+    let c = make-ladder (length s) in (
+      e,
+      g,
+      record {
+        refuses = subst (RefusedBy (Wrongs (makeRungs (length s)))) (sym e) (refuses c (λ f. f) (λ f. f) (refusal 0 0) refl (λ f. refl) refl .by);
+        keeps = λ n p x. g ∙ ap (answerBy (λ f. s) (madeTable ++ drop 2048 s)) (first-is c n p x);
+        makes = λ a. (madeTable, made-table-is, g ∙ ap (answerBy (λ f. s) (madeTable ++ drop 2048 s)) (admits c a));
+      },
+    )
 
-pub make-refused : (s : List ℕ) → length s < 2048 → (record { number = 7; place = 0 } ≡ makeOf s) × (s ≡ madeBuffer s) × Makes s s (record { number = 7; place = 0 })
-make-refused s h = (rw (lt-ltb (length s) 2048 h) refl, rw (lt-ltb (length s) 2048 h) refl, record { means = inl (h, refl, refl) })
+filled : (s t : List ℕ) (k : ℕ) → t ≡ listFrom madeAt 0 k ++ drop k s → k ≡ 2048 → t ≡ madeTable ++ drop 2048 s
+unfolding madeTable
+filled s t k e d = subst (λ (k : ℕ). t ≡ listFrom madeAt 0 k ++ drop k s) d e
+
+pub make-done : (s t : List ℕ) (k : ℕ) → (2048 ≤ length s) × (t ≡ listFrom madeAt 0 k ++ drop k s) → k ≡ 2048 → (refusal 0 0 ≡ makeOf s) × (t ≡ madeBuffer s) × Makes s t (refusal 0 0)
+make-done s t k h d = make-answer s t (refusal 0 0) (rw (le-ltb (length s) 2048 (h .0)) refl) (rw (le-ltb (length s) 2048 (h .0)) (filled s t k (h .1) d))
+
+pub make-refused : (s : List ℕ) → length s < 2048 → (refusal 7 0 ≡ makeOf s) × (s ≡ madeBuffer s) × Makes s s (refusal 7 0)
+make-refused s h = make-answer s s (refusal 7 0) (rw (lt-ltb (length s) 2048 h) refl) (rw (lt-ltb (length s) 2048 h) refl)
+
+-- what the code of `row_limits` asks
+pub limits-told : (r : ℕ) {a : RowLimits} → a ≡ rowLimitsOf r → (a ≡ rowLimitsOf r) × Limited r a
+limits-told r e = (
+  e,
+  subst (Limited r) (sym e) (record {
+    refuses = refuses c (λ x. x .refusal) limitsZeros done refl (λ f. refl) refl;
+    limits = λ a. subst (λ (v : Admission). Limits r (answerBy limitsZeros done v .limits)) (sym (admits c a)) (limits-right r (not-below (λ h. a 1 0 (inl (refl, (refl, h))))));
+  }),
+)
+  where
+    c : Ladder (limitsRungs r)
+    c = limits-ladder r
+
+    done : RowLimits
+    done = record { refusal = refusal 0 0; limits = limitsOf r }

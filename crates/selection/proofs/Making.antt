@@ -10,9 +10,10 @@ use lib.Dec.{T, ltb, leb, eqb, eqb→eq, ltb→lt, leb→le}
 use lib.ListN.{length, getD}
 use borrow.Author.Tests.{eqb-true}
 use Rattle.laws.proofs.Tests.{both, both-left, both-right, upto, upto-at, is-true}
+use Rattle.selection.specs.Refusals.{firstFrom}
 use Rattle.selection.specs.Cell.{Allows, IsCell, digit}
 use Rattle.selection.specs.Selection.{Made, Limits, distance, stepAt}
-use Rattle.selection.specs.Computed.{allowsOf, madeOf, firstFrom, limitsOf}
+use Rattle.selection.specs.Computed.{allowsOf, madeOf, limitsOf}
 use Rattle.selection.proofs.Allowed.{allows-decides}
 
 -- ---- the made digit

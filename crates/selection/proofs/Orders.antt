@@ -1,44 +1,47 @@
 -- What a call makes of its arguments' refusal and the table's. Assumes nothing.
 use mathlib.Core.Path.{_≡_, refl, sym, ap, _∙_}
-use mathlib.Core.List.{List}
+use mathlib.Core.List.{List, _++_}
 use Prim.Native.Nat.{ℕ}
 use native.Mathlib.Omega.{arith}
-use Rattle.selection.specs.Answer.{admission, inOrder, answerBy}
-use Rattle.selection.specs.Computed.{madeTable, reportOf}
+use lib.Dec.{T}
+use Rattle.selection.specs.Answer.{inOrder, answerBy}
+use Rattle.selection.specs.Computed.{madeTable, tableRungs}
+use Rattle.selection.specs.Refusals.{Rung, ladder}
 use Rattle.selection.specs.Table.{Passes}
 use Rattle.selection.specs.declared.Refusal.{Refusal}
 use Rattle.selection.specs.declared.Admission.{Admission}
 use Rattle.selection.specs.declared.Admission.the-variants.{Admitted, Refused}
+use Rattle.selection.proofs.Ladders.{Ladder, ranked, ladder-append, sound-append}
 use Rattle.selection.proofs.MadeTables.{kept-passes}
-use Rattle.selection.proofs.Reports.{admitted-passes, passes-admitted}
+use Rattle.selection.proofs.Reports.{admitted-passes, passes-admitted, admission-ladder, table-ladder}
 
--- both are admitted
-pub both-admitted : (v w : Admission) → inOrder v w ≡ Admitted → (v ≡ Admitted) × (w ≡ Admitted)
-both-admitted Admitted w e = (refl, e)
-both-admitted (Refused f) w e = absurd (let z : _≡_ {A = ℕ} 0 1 = cc in omega arith)
+-- the table's rungs after a call's own
+pub lent : (rs : List Rung) (t : List ℕ) → Ladder rs → T (ranked 0 (rs ++ tableRungs t)) → Ladder (rs ++ tableRungs t)
+lent rs t c o = record { sound = sound-append rs (tableRungs t) (c .sound) (table-ladder t .sound); in-order = o }
 
 -- no table that passes is refused
-pub passed-last : {t : List ℕ} → Passes t → (v : Admission) → inOrder v (admission (reportOf t)) ≡ v
-passed-last p v = ap (inOrder v) (passes-admitted p) ∙ last v
+pub passed-last : {t : List ℕ} → Passes t → (rs : List Rung) → ladder (rs ++ tableRungs t) ≡ ladder rs
+passed-last {t} p rs = ladder-append rs (tableRungs t) ∙ ap (inOrder (ladder rs)) (sym (admission-ladder t) ∙ passes-admitted p) ∙ last (ladder rs)
   where
     last : (v : Admission) → inOrder v Admitted ≡ v
     last Admitted = refl
     last (Refused f) = refl
 
-pub kept-last : (v : Admission) → inOrder v (admission (reportOf madeTable)) ≡ v
-kept-last = passed-last kept-passes
-
 -- of a call that has admitted its arguments, of refusal v, and the table t
-pub admitted-both : {v a : Admission} {t : List ℕ} → a ≡ inOrder v (admission (reportOf t)) → a ≡ Admitted → (v ≡ Admitted) × Passes t
-admitted-both {v} e g = let k = both-admitted v _ (sym e ∙ g) in (k .0, admitted-passes (k .1))
+pub admitted-both : (t : List ℕ) {v a : Admission} → a ≡ inOrder v (ladder (tableRungs t)) → a ≡ Admitted → (v ≡ Admitted) × Passes t
+admitted-both t {v} e g = let k = both v (ladder (tableRungs t)) (sym e ∙ g) in (k .0, admitted-passes (admission-ladder t ∙ k .1))
+  where
+    both : (v w : Admission) → inOrder v w ≡ Admitted → (v ≡ Admitted) × (w ≡ Admitted)
+    both Admitted w e = (refl, e)
+    both (Refused f) w e = absurd (let z : _≡_ {A = ℕ} 0 1 = cc in omega arith)
 
 -- an answer by the first refusal
 pub answered : {X : Type 0} (zeros : Refusal → X) (done : X) {v u : Admission} {x : X} → v ≡ u → x ≡ answerBy zeros done u → x ≡ answerBy zeros done v
 answered zeros done e h = h ∙ sym (ap (answerBy zeros done) e)
 
 -- the first refusal of a call with a lent table, and of one over the kept table
-pub first-lent : (t : List ℕ) {a v w u : Admission} → w ≡ inOrder a (admission (reportOf t)) → a ≡ v → w ≡ u → inOrder v (admission (reportOf t)) ≡ u
-first-lent t e f g = sym (ap (λ (v : Admission). inOrder v (admission (reportOf t))) f) ∙ sym e ∙ g
+pub first-lent : (rs : List Rung) (t : List ℕ) {a w u : Admission} → w ≡ inOrder a (ladder (tableRungs t)) → a ≡ ladder rs → w ≡ u → ladder (rs ++ tableRungs t) ≡ u
+first-lent rs t e f g = ladder-append rs (tableRungs t) ∙ sym (ap (λ (v : Admission). inOrder v (ladder (tableRungs t))) f) ∙ sym e ∙ g
 
-pub first-kept : {a v u : Admission} → a ≡ v → a ≡ u → inOrder v (admission (reportOf madeTable)) ≡ u
-first-kept {v = v} e g = kept-last v ∙ sym e ∙ g
+pub first-kept : (rs : List Rung) {a u : Admission} → a ≡ ladder rs → a ≡ u → ladder (rs ++ tableRungs madeTable) ≡ u
+first-kept rs e g = passed-last kept-passes rs ∙ sym e ∙ g

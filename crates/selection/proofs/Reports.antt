@@ -1,19 +1,21 @@
 -- The computed report is the check's answer in document 01's words, and a table is admitted exactly if it passes.
 -- Assumes nothing.
 use mathlib.Core.Path.{_≡_, refl, sym, subst, ap, _∙_}
-use mathlib.Core.List.{List}
+use mathlib.Core.Bool.{Bool, true, false, not}
+use mathlib.Core.List.{List, [], _∷_}
 use mathlib.Core.Logic.{_⊎_, inl, inr, ⊎-elim}
 use Prim.Native.Nat.{ℕ, _+_, _*_, _/_, _%_, _≤_, _<_}
 use native.Mathlib.Nat.{not-le-of-lt}
 use native.Mathlib.Omega.{arith}
-use lib.Dec.{T, T-not, ltb, eqb, ltb→lt, nltb→le, eqb→eq}
+use lib.Dec.{T, ltb, eqb, ltb→lt, nltb→le, eqb→eq}
 use lib.ListN.{length, getD}
-use borrow.Author.Tests.{eq-eqb}
-use Rattle.laws.proofs.Tests.{by-cond}
+use Rattle.laws.proofs.Tests.{by-cond, is-true}
+use Rattle.selection.specs.Refusals.{First, firstFrom, numberFirst, ladder, rank}
 use Rattle.selection.specs.Cell.{Allows, CellChecked, digit}
-use Rattle.selection.specs.Table.{Table, BadAt, Passes, First, Checked, ReportMeaning}
-use Rattle.selection.specs.Computed.{cellOf, firstFrom, countBelow, aboveFour, isBad, badReport, passedReport, reportOf}
-use Rattle.selection.specs.Answer.{admission, admissionOf}
+use Rattle.selection.specs.Table.{Table, BadAt, Passes, formRungs, Checked, ReportMeaning}
+use Rattle.selection.specs.Computed.{cellOf, countBelow, aboveFour, isBad, badReport, passedReport, reportOf, tableRungs}
+use Rattle.selection.specs.Answer.{refusal, admission, admissionOf, inOrder}
+use Rattle.selection.specs.declared.Admission.{Admission}
 use Rattle.selection.specs.declared.Admission.the-variants as A
 use Rattle.selection.specs.declared.CellVerdict.{CellVerdict}
 use Rattle.selection.specs.declared.CellVerdict.the-variants.{Allowed, Disallowed, Refused}
@@ -24,7 +26,8 @@ use Rattle.selection.specs.declared.table.BadCell.{BadCell}
 use Rattle.selection.proofs.Bridge.{not-allowed, known-not-refused, allows-unless, cell-checked}
 use Rattle.selection.proofs.Counts.{less-decides, count-tally, first-below}
 use Rattle.selection.proofs.Allowed.{bad-decides}
-use Rattle.selection.proofs.Tables.{table-of, cell-at, cell-row, cell-column, first-bad-of}
+use Rattle.selection.proofs.Tables.{table-of, no-table, cell-at, cell-row, cell-column, first-bad-of}
+use Rattle.selection.proofs.Ladders.{Ladder, ladder-meets, first-is, admits, ladder-append, equal}
 
 module _ (t : List ℕ) where
   above-first : let f = firstFrom (aboveFour t) 0 2048 in ((f ≡ 2048) × ((k : ℕ) → k < 2048 → 4 < getD t k 0 → ⊥)) ⊎ ((f < 2048) × First (λ k. 4 < getD t k 0) f)
@@ -53,16 +56,24 @@ module _ (t : List ℕ) where
       go k h f (Disallowed w) j = record { means = (a, count-tally (isBad t) 2048 (bad-decides a), first-bad-of h f (j .means .1)) }
       go k h f (Refused r) j = known-not-refused (cell-at a k h) (j .means)
 
+pub form-ladder : (t : List ℕ) → Ladder (formRungs t)
+unfolding rank
+form-ladder t = record { sound = (tt, λ _. ((λ k h. less-decides 4 (getD t k 0)), λ _. tt)); in-order = tt }
+
+is-false : (x : Bool) → T (not x) → x ≡ false
+is-false true t = absurd t
+is-false false t = refl
+
 -- the computed report is the check's answer
 pub report-checked : (t : List ℕ) → Checked t (reportOf t)
 unfolding reportOf
 report-checked t =
     by-cond (Checked t) (eqb (length t) 2048) _ _
     (λ e. by-cond (Checked t) (ltb (firstFrom (aboveFour t) 0 2048) 2048) _ _
-    (λ l. record { means = (record { why = inr (eqb→eq _ _ e, refl, ⊎-elim (λ n. absurd (omega (arith, n .0, ltb→lt))) (λ r. r .1) (above-first t)) }, refl) })
+    (λ l. record { means = (ladder-meets (form-ladder t) (A.Refused (refusal 9 (firstFrom (aboveFour t) 0 2048))) (rw (is-true (eqb (length t) 2048) e, is-true (ltb (firstFrom (aboveFour t) 0 2048) 2048) l) refl), refl) })
     (λ l. let a = is-table t (eqb→eq _ _ e) (nltb→le _ _ l) in
     by-cond (Checked t) (ltb (firstFrom (isBad t) 0 2048) 2048) _ _ (λ h. bad t a (ltb→lt _ _ h)) (λ h. passed t a (nltb→le _ _ h))))
-    (λ e. record { means = (record { why = inl ((λ n. T-not (eqb (length t) 2048) e (subst T (sym (eq-eqb _ _ n)) tt)), refl, refl) }, refl) })
+    (λ e. record { means = (ladder-meets (form-ladder t) (A.Refused (refusal 8 0)) (rw (is-false (eqb (length t) 2048) e) refl), refl) })
 
 -- what the code of `check_table` asks
 pub report-is : {t : List ℕ} {a : Report} → a ≡ reportOf t → (a ≡ reportOf t) × Checked t a
@@ -75,7 +86,7 @@ passes-told {t} {a} c h = go (a .outcome) (c .means)
     go : (o : Outcome) → ReportMeaning t (a .count) o → (a .count ≡ 0) × (o ≡ O.Passed)
     go O.Passed w = (w .1, refl)
     go (O.Bad b) w = let f = w .2 in let hr = f .row in let hc = f .column in let x = f .first .here in absurd (x .against .broken (h .allowed _ (omega arith) _ _ (x .against .point)))
-    go (O.Refused f) w = absurd (⊎-elim (λ l. l .0 (h .table .size)) (λ r. not-le-of-lt (r .2 .here) (h .table .digits _)) (w .0 .why))
+    go (O.Refused f) w = no-table (h .table) (w .0)
 
 -- a table passes exactly if it is admitted
 pub passes-admitted : {t : List ℕ} → Passes t → admission (reportOf t) ≡ A.Admitted
@@ -88,6 +99,31 @@ admitted-passes {t} e = go (reportOf t .outcome) (report-checked t .means) e
     go O.Passed w e = w .0
     go (O.Bad b) w e = absurd (let z : _≡_ {A = ℕ} 0 1 = cc in omega arith)
     go (O.Refused f) w e = absurd (let z : _≡_ {A = ℕ} 0 1 = cc in omega arith)
+
+-- what the check's answer admits is what the rungs of a table give
+pub table-ladder : (t : List ℕ) → Ladder (tableRungs t)
+unfolding tableRungs rank
+table-ladder t = record {
+  sound = (tt, λ a. ((λ k h. less-decides 4 (getD t k 0)), λ b. (bad-decides (form-table a b), λ _. tt)));
+  in-order = tt;
+}
+  where
+    form-table : ((p : ℕ) → (p ≡ 0) × (length t ≡ 2048 → ⊥) → ⊥) → ((p : ℕ) → (p < 2048) × First (λ k. 4 < getD t k 0) p → ⊥) → Table t
+    form-table a b =
+        let e = equal (length t) 2048 (λ n. a 0 (refl, n)) in
+        table-of t e (⊎-elim (λ l. l .1) (λ r. absurd (b _ r)) (above-first t))
+
+pub admission-ladder : (t : List ℕ) → admission (reportOf t) ≡ ladder (tableRungs t)
+unfolding tableRungs
+admission-ladder t = go (reportOf t .outcome) (report-checked t .means)
+  where
+    go : (o : Outcome) → ReportMeaning t (reportOf t .count) o → admissionOf o ≡ ladder (tableRungs t)
+    go O.Passed w = sym (admits (table-ladder t) (λ n p. ⊎-elim (λ x. x .1 .1 (w .0 .table .size)) (⊎-elim (λ x. not-le-of-lt (x .1 .1 .here) (w .0 .table .digits p)) (⊎-elim (λ x. not-allowed (x .1 .1 .here .against) (w .0 .allowed p (x .1 .0))) (λ z. z)))))
+    go (O.Bad b) w = sym (first-is (table-ladder t) _ _ (record {
+      holds = inr (inr (inl (refl, (omega (arith, w .2 .row, w .2 .column), w .2 .first))));
+      before = λ m q l. ⊎-elim (λ x. x .1 .1 (w .0 .size)) (⊎-elim (λ x. not-le-of-lt (x .1 .1 .here) (w .0 .digits q)) (⊎-elim (λ x. omega (arith, ap rank (x .0))) (λ z. z)));
+    }))
+    go (O.Refused f) w = sym (ladder-append (formRungs t) (numberFirst 10 (BadAt t) (isBad t) 2048 ∷ []) ∙ ap (λ (v : Admission). inOrder v (ladder (numberFirst 10 (BadAt t) (isBad t) 2048 ∷ []))) (first-is (form-ladder t) _ _ (w .0)))
 
 -- the digit of a table that passes, at a row and a column
 pub passes-at : {t : List ℕ} → Passes t → (r c : ℕ) → r ≤ 15 → c ≤ 127 → Allows r c (digit (getD t (128 * r + c) 0))

@@ -9,8 +9,9 @@ use native.Mathlib.Decide.{decLt}
 use native.Mathlib.Omega.{arith}
 use lib.IntN.{ℤ}
 use lib.ListN.{length, getD, List·getD-eq-default}
+use Rattle.selection.specs.Refusals.{First}
 use Rattle.selection.specs.Cell.{LeastWitness, IsCell, digit}
-use Rattle.selection.specs.Table.{Table, First, BadAt, FirstBad, NoTable}
+use Rattle.selection.specs.Table.{Table, BadAt, FirstBad, NoTable}
 
 -- 2,048 bytes of which none is above 4 are a table
 pub table-of : (t : List ℕ) → length t ≡ 2048 → ((k : ℕ) → k < 2048 → 4 < getD t k 0 → ⊥) → Table t
@@ -40,7 +41,7 @@ first-bad-of {t} {f} {D} {P} h b w =
 
 -- no table is refused as none
 pub no-table : {t : List ℕ} {n p : ℕ} {X : Type 0} → Table t → NoTable t n p → X
-no-table a w = absurd (⊎-elim (λ l. l .0 (a .size)) (λ r. not-le-of-lt (r .2 .here) (a .digits _)) (w .why))
+no-table a w = absurd (⊎-elim (λ l. l .1 .1 (a .size)) (⊎-elim (λ r. not-le-of-lt (r .1 .1 .here) (a .digits _)) (λ z. z)) (w .holds))
 
 -- a cell's index is below 2,048 and gives back its row and its column
 pub cell-row : (r c : ℕ) → c ≤ 127 → (128 * r + c) / 128 ≡ r

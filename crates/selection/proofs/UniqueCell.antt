@@ -1,19 +1,18 @@
 -- The single-cell call has one answer: the reported witness is one, and so is the refusal.
 -- Assumes nothing.
 use mathlib.Core.Path.{_≡_, refl, sym, subst, ap, ap₂, _∙_}
-use mathlib.Core.Logic.{⊎-elim}
 use Prim.Native.Nat.{ℕ, _^_, _≤_}
 use native.Mathlib.Omega.{arith}
 use native.Mathlib.Nat.{le-antisymm}
 use lib.IntN.{ℤ}
 use lib.Signed.{_≤ℤ_}
 use Rattle.laws.proofs.Diff.{diff, diffs, diff-eq}
-use Rattle.selection.specs.Cell.{LeastWitness, CellRefused, CellChecked}
+use Rattle.selection.specs.Cell.{LeastWitness, CellChecked}
 use Rattle.selection.specs.declared.Witness.{Witness}
-use Rattle.selection.specs.declared.Refusal.{Refusal}
 use Rattle.selection.specs.declared.CellVerdict.{CellVerdict}
 use Rattle.selection.specs.declared.CellVerdict.the-variants as C
-use Rattle.selection.proofs.Bridge.{of-point, known-not-refused, not-allowed}
+use Rattle.selection.proofs.Bridge.{of-point, cell-ladder, known-not-refused, not-allowed}
+use Rattle.selection.proofs.Ladders.{refusal-one}
 
 module _ {r c : ℕ} {q : ℤ} (hr : r ≤ 15) (hc : c ≤ 127) where
   one-divisor : {D D' : ℕ} {P P' : ℤ} → LeastWitness r c q D P → LeastWitness r c q D' P' → D ≡ D'
@@ -36,18 +35,6 @@ module _ {r c : ℕ} {q : ℤ} (hr : r ≤ 15) (hc : c ≤ 127) where
       mk : ℕ → ℤ → Witness
       mk d p = record { divisor = d; remainder = p }
 
-one-refusal : {r c b : ℕ} (f g : Refusal) → CellRefused r c b (f .number) (f .place) → CellRefused r c b (g .number) (g .place) → f ≡ g
-one-refusal f g u v = ap₂ mk number place
-  where
-    mk : ℕ → ℕ → Refusal
-    mk n p = record { number = n; place = p }
-
-    number : f .number ≡ g .number
-    number = ⊎-elim (λ l. ⊎-elim (λ m. omega arith) (λ m. absurd (⊎-elim (λ x. omega arith) (λ x. omega arith) (l .0))) (v .why)) (λ l. ⊎-elim (λ m. absurd (⊎-elim (λ x. omega arith) (λ x. omega arith) (m .0))) (λ m. omega arith) (v .why)) (u .why)
-
-    place : f .place ≡ g .place
-    place = ⊎-elim (λ l. ⊎-elim (λ m. omega arith) (λ m. absurd (⊎-elim (λ x. omega arith) (λ x. omega arith) (l .0))) (v .why)) (λ l. ⊎-elim (λ m. absurd (⊎-elim (λ x. omega arith) (λ x. omega arith) (m .0))) (λ m. omega arith) (v .why)) (u .why)
-
 pub cell-checked-one : {r c b : ℕ} (v w : CellVerdict) → CellChecked r c b v → CellChecked r c b w → v ≡ w
 cell-checked-one C.Allowed C.Allowed j k = refl
 cell-checked-one C.Allowed (C.Disallowed w) j k = absurd (not-allowed (k .means .1 .against) (j .means .1))
@@ -57,4 +44,4 @@ cell-checked-one (C.Disallowed v) (C.Disallowed w) j k = ap C.Disallowed (one-wi
 cell-checked-one (C.Disallowed v) (C.Refused f) j k = known-not-refused (j .means .0) (k .means)
 cell-checked-one (C.Refused f) C.Allowed j k = known-not-refused (k .means .0) (j .means)
 cell-checked-one (C.Refused f) (C.Disallowed w) j k = known-not-refused (k .means .0) (j .means)
-cell-checked-one (C.Refused f) (C.Refused g) j k = ap C.Refused (one-refusal f g (j .means) (k .means))
+cell-checked-one {r} {c} {b} (C.Refused f) (C.Refused g) j k = ap C.Refused (refusal-one (cell-ladder r c b) f g (j .means) (k .means))

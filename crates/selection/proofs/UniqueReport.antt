@@ -2,22 +2,20 @@
 -- Assumes nothing.
 use mathlib.Core.Path.{_≡_, refl, sym, subst, ap, ap₂, _∙_}
 use mathlib.Core.List.{List}
-use mathlib.Core.Logic.{⊎-elim}
-use Prim.Native.Nat.{ℕ, suc, _+_, _*_, _/_, _%_, _≤_}
+use Prim.Native.Nat.{ℕ, suc, _+_, _*_, _/_, _%_}
 use native.Mathlib.Omega.{arith}
-use native.Mathlib.Nat.{le-antisymm, lt-of-not-le}
-use native.Mathlib.Decide.{decLe}
 use lib.ListN.{getD}
 use Rattle.selection.specs.Cell.{LeastWitness, Allows, digit}
-use Rattle.selection.specs.Table.{Tally, First, BadAt, FirstBad, NoTable, Checked, ReportMeaning}
+use Rattle.selection.specs.Table.{Tally, BadAt, FirstBad, Checked, ReportMeaning}
 use Rattle.selection.specs.Table.Tally.{none, one, other}
 use Rattle.selection.specs.declared.table.Outcome.{Outcome}
 use Rattle.selection.specs.declared.table.Outcome.the-variants.{Passed, Bad, Refused}
 use Rattle.selection.specs.declared.table.Report.{Report}
 use Rattle.selection.specs.declared.table.BadCell.{BadCell}
 use Rattle.selection.specs.declared.Witness.{Witness}
-use Rattle.selection.specs.declared.Refusal.{Refusal}
+use Rattle.selection.proofs.Ladders.{first-one, refusal-one}
 use Rattle.selection.proofs.Tables.{no-table}
+use Rattle.selection.proofs.Reports.{form-ladder}
 use Rattle.selection.proofs.UniqueCell.{one-witness}
 
 tally-one : {P : ℕ → Type 0} {m i j : ℕ} → Tally P m i → Tally P m j → i ≡ j
@@ -26,20 +24,6 @@ tally-one (one p x) (one q y) = ap suc (tally-one x y)
 tally-one (one p x) (other q y) = absurd (q p)
 tally-one (other p x) (one q y) = absurd (p q)
 tally-one (other p x) (other q y) = tally-one x y
-
-first-le : {P : ℕ → Type 0} {i j : ℕ} → First P i → First P j → i ≤ j
-first-le {P} {i} {j} x y = elim (decLe i j) [ yes h ↦ h | no n ↦ absurd (x .before j (lt-of-not-le n) (y .here)) ]
-
-first-one : {P : ℕ → Type 0} {i j : ℕ} → First P i → First P j → i ≡ j
-first-one x y = le-antisymm (first-le x y) (first-le y x)
-
-pub refusal-one : {t : List ℕ} (f g : Refusal) → NoTable t (f .number) (f .place) → NoTable t (g .number) (g .place) → f ≡ g
-refusal-one {t} f g u v = ap₂ mk
-    (⊎-elim (λ l. ⊎-elim (λ m. l .1 ∙ sym (m .1)) (λ m. absurd (l .0 (m .0))) (v .why)) (λ l. ⊎-elim (λ m. absurd (m .0 (l .0))) (λ m. l .1 ∙ sym (m .1)) (v .why)) (u .why))
-    (⊎-elim (λ l. ⊎-elim (λ m. l .2 ∙ sym (m .2)) (λ m. absurd (l .0 (m .0))) (v .why)) (λ l. ⊎-elim (λ m. absurd (m .0 (l .0))) (λ m. first-one (l .2) (m .2)) (v .why)) (u .why))
-  where
-    mk : ℕ → ℕ → Refusal
-    mk n p = record { number = n; place = p }
 
 bad-one : {t : List ℕ} (a b : BadCell) → FirstBad t (a .row) (a .column) (a .witness .divisor) (a .witness .remainder)
     → FirstBad t (b .row) (b .column) (b .witness .divisor) (b .witness .remainder) → a ≡ b
@@ -81,7 +65,7 @@ means-one t m n (Bad a) (Bad b) h k = (tally-one (h .1) (k .1), ap Bad (bad-one 
 means-one t m n (Bad b) (Refused f) h k = no-table (h .0) (k .0)
 means-one t m n (Refused f) Passed h k = no-table (k .0 .table) (h .0)
 means-one t m n (Refused f) (Bad b) h k = no-table (k .0) (h .0)
-means-one t m n (Refused f) (Refused g) h k = (h .1 ∙ sym (k .1), ap Refused (refusal-one f g (h .0) (k .0)))
+means-one t m n (Refused f) (Refused g) h k = (h .1 ∙ sym (k .1), ap Refused (refusal-one (form-ladder t) f g (h .0) (k .0)))
 
 -- no two answers to one table
 pub checked-one : {t : List ℕ} (a b : Report) → Checked t a → Checked t b → a ≡ b

@@ -1,18 +1,27 @@
 -- What the answers to a table and to a cell tell a caller, by their cases.
 -- Assumes nothing.
-use mathlib.Core.Path.{_≡_, subst}
+use mathlib.Core.Path.{_≡_, refl, sym, subst}
 use mathlib.Core.List.{List}
 use Prim.Native.Nat.{ℕ, _≤_}
-use Rattle.selection.specs.Cell.{CellChecked, CellMeaning}
+use Rattle.selection.specs.Answer.{refusal, answerBy, cellNumbers, cellZeros}
+use Rattle.selection.specs.Refusals.{Wrongs, ladder, Refuses}
+use Rattle.selection.specs.Cell.{cellRungs, CellChecked, CellMeaning}
+use Rattle.selection.specs.Search.{searchOf, cellVerdictOf}
+use Rattle.selection.specs.Computed.{cellOf}
 use Rattle.selection.specs.Table.{Table, Checked, ReportMeaning}
 use Rattle.selection.specs.declared.Refusal.{Refusal}
+use Rattle.selection.specs.declared.Admission.{Admission}
+use Rattle.selection.specs.declared.Admission.the-variants as A
+use Rattle.selection.specs.declared.SearchResult.{SearchResult}
+use Rattle.selection.specs.declared.SearchResult.the-variants.{NoWitness, LeastAt}
 use Rattle.selection.specs.declared.CellVerdict.{CellVerdict}
 use Rattle.selection.specs.declared.CellVerdict.the-variants as C
 use Rattle.selection.specs.declared.table.BadCell.{BadCell}
 use Rattle.selection.specs.declared.table.Outcome.{Outcome}
 use Rattle.selection.specs.declared.table.Outcome.the-variants as O
 use Rattle.selection.specs.declared.table.Report.{Report}
-use Rattle.selection.proofs.Bridge.{known-not-refused}
+use Rattle.selection.proofs.Bridge.{cell-ladder, known-not-refused}
+use Rattle.selection.proofs.Ladders.{refuses}
 
 -- the check's answer, by its case
 outcome-says : {t : List ℕ} {a : Report} {o : Outcome} → Checked t a → a .outcome ≡ o → ReportMeaning t (a .count) o
@@ -31,3 +40,17 @@ verdict-says {r} {c} {b} j e = subst (CellMeaning r c b) e (j .means)
 -- no cell and digit are refused
 pub never-refused : {r c b : ℕ} {v : CellVerdict} {f : Refusal} {X : Type 0} → r ≤ 15 → c ≤ 127 → b ≤ 4 → CellChecked r c b v → v ≡ C.Refused f → X
 never-refused hr hc hb j e = known-not-refused (record { row = hr; column = hc; byte = hb }) (verdict-says j e)
+
+-- a single cell refuses by its rungs, with zeros besides
+module _ (r c b : ℕ) where
+  pub cell-refuses : Refuses (Wrongs (cellRungs r c b)) (λ x. x .refused) cellZeros (cellNumbers (cellOf r c b))
+  cell-refuses = subst (Refuses (Wrongs (cellRungs r c b)) (λ x. x .refused) cellZeros) (sym (numbers (ladder (cellRungs r c b))))
+      (refuses (cell-ladder r c b) (λ x. x .refused) cellZeros (cellNumbers (cellVerdictOf (searchOf r c b))) (none (searchOf r c b)) (λ f. refl) refl)
+    where
+      numbers : (v : Admission) → cellNumbers (answerBy C.Refused (cellVerdictOf (searchOf r c b)) v) ≡ answerBy cellZeros (cellNumbers (cellVerdictOf (searchOf r c b))) v
+      numbers A.Admitted = refl
+      numbers (A.Refused f) = refl
+
+      none : (h : SearchResult) → cellNumbers (cellVerdictOf h) .refused ≡ refusal 0 0
+      none NoWitness = refl
+      none (LeastAt d w) = refl

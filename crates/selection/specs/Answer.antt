@@ -20,10 +20,13 @@ pub record CellNumbers : Type 0 where
   pub divisor : ℕ
   pub remainder : ℤ
 
+abbrev pub cellZeros : Refusal → CellNumbers
+cellZeros f = record { refused = f; allowed = 0; divisor = 0; remainder = pos 0 }
+
 abbrev pub cellNumbers : CellVerdict → CellNumbers
 cellNumbers C.Allowed = record { refused = refusal 0 0; allowed = 1; divisor = 0; remainder = pos 0 }
 cellNumbers (C.Disallowed w) = record { refused = refusal 0 0; allowed = 0; divisor = w .divisor; remainder = w .remainder }
-cellNumbers (C.Refused f) = record { refused = f; allowed = 0; divisor = 0; remainder = pos 0 }
+cellNumbers (C.Refused f) = cellZeros f
 
 -- the check's answer: refusal 10 also carries count, cell and witness
 pub record ReportNumbers : Type 0 where
@@ -34,10 +37,13 @@ pub record ReportNumbers : Type 0 where
   pub divisor : ℕ
   pub remainder : ℤ
 
+abbrev pub reportZeros : Refusal → ReportNumbers
+reportZeros f = record { refused = f; count = 0; row = 0; column = 0; divisor = 0; remainder = pos 0 }
+
 abbrev pub outcomeNumbers : ℕ → Outcome → ReportNumbers
-outcomeNumbers n O.Passed = record { refused = refusal 0 0; count = 0; row = 0; column = 0; divisor = 0; remainder = pos 0 }
+outcomeNumbers n O.Passed = reportZeros (refusal 0 0)
 outcomeNumbers n (O.Bad b) = record { refused = refusal 10 (128 * b .row + b .column); count = n; row = b .row; column = b .column; divisor = b .witness .divisor; remainder = b .witness .remainder }
-outcomeNumbers n (O.Refused f) = record { refused = f; count = 0; row = 0; column = 0; divisor = 0; remainder = pos 0 }
+outcomeNumbers n (O.Refused f) = reportZeros f
 
 abbrev pub reportNumbers : Report → ReportNumbers
 reportNumbers a = outcomeNumbers (a .count) (a .outcome)

@@ -6,6 +6,11 @@ use mathlib.Core.List.{List, [], _∷_, _++_}
 use Prim.Native.Nat.{ℕ, zero, suc, _+_, _*_, _-_, _/_, _%_}
 use lib.Dec.{ltb, leb, eqb}
 use lib.ListN.{length, getD, drop}
+use Rattle.selection.specs.Answer.{refusal, answerBy}
+use Rattle.selection.specs.Cell.{cellRungs}
+use Rattle.selection.specs.Table.{BadAt, formRungs}
+use Rattle.selection.specs.Selection.{limitsRungs, limitsZeros, makeRungs}
+use Rattle.selection.specs.Refusals.{firstFrom, Rung, numberFirst, ladder}
 use Rattle.selection.specs.Search.{searchOf, cellVerdictOf}
 use Rattle.selection.specs.declared.Refusal.{Refusal}
 use Rattle.selection.specs.declared.CellVerdict.{CellVerdict}
@@ -15,8 +20,7 @@ use Rattle.selection.specs.declared.table.Report.{Report}
 use Rattle.selection.specs.declared.maker.RowLimits.{RowLimits}
 
 abbrev pub cellOf : ℕ → ℕ → ℕ → CellVerdict
-cellOf r c b =
-    cond (ltb 15 r) (Refused (record { number = 1; place = 0 })) (cond (ltb 127 c) (Refused (record { number = 1; place = 0 })) (cond (ltb 4 b) (Refused (record { number = 9; place = 128 * r + c })) (cellVerdictOf (searchOf r c b))))
+cellOf r c b = answerBy Refused (cellVerdictOf (searchOf r c b)) (ladder (cellRungs r c b))
 
 -- Whether a digit is allowed, in small numbers: in units of 2^56 the divisors of the row r lie from u = 16 + r to w = 17 + r, and 3P of the
 -- column c from v - 384 to v - 372, where v = 6c. No point breaks the digit q from below if v - 384 is at least (3q - 2)D for each D; none from
@@ -56,17 +60,10 @@ madeTable = listFrom madeAt 0 2048
 
 -- what the maker leaves in a buffer that held s, and answers
 abbrev pub madeBuffer : List ℕ → List ℕ
-madeBuffer s = cond (ltb (length s) 2048) s (madeTable ++ drop 2048 s)
+madeBuffer s = answerBy (λ f. s) (madeTable ++ drop 2048 s) (ladder (makeRungs (length s)))
 
 abbrev pub makeOf : List ℕ → Refusal
-makeOf s = cond (ltb (length s) 2048) (record { number = 7; place = 0 }) (record { number = 0; place = 0 })
-
--- of n numbers from i on, the first that passes the test f; else the number past them
-unfoldable pub firstFrom : (ℕ → Bool) → ℕ → ℕ → ℕ
-firstFrom f i zero = i
-firstFrom f i (suc n) =
-    let rest = firstFrom f (i + 1) n in
-    cond (f i) i rest
+makeOf s = answerBy (λ f. f) (refusal 0 0) (ladder (makeRungs (length s)))
 
 -- the first column from c on whose made byte is b; else 128
 abbrev pub beginsOf : ℕ → ℕ → ℕ → ℕ
@@ -83,9 +80,7 @@ limitsOf r =
     a ∷ b ∷ c ∷ d ∷ e ∷ f ∷ []
 
 abbrev pub rowLimitsOf : ℕ → RowLimits
-rowLimitsOf r = cond (ltb 15 r)
-    (record { refusal = record { number = 1; place = 0 }; limits = 0 ∷ 0 ∷ 0 ∷ 0 ∷ 0 ∷ 0 ∷ [] })
-    (record { refusal = record { number = 0; place = 0 }; limits = limitsOf r })
+rowLimitsOf r = answerBy limitsZeros (record { refusal = refusal 0 0; limits = limitsOf r }) (ladder (limitsRungs r))
 
 -- how many numbers below m pass the test f
 unfoldable pub countBelow : (ℕ → Bool) → ℕ → ℕ
@@ -119,3 +114,7 @@ reportOf t =
     cond (eqb (length t) 2048)
     (cond (ltb above 2048) (refusedReport 9 above) (cond (ltb bad 2048) (badReport (countBelow (isBad t) 2048) bad verdict) passedReport))
     (refusedReport 8 0)
+
+-- what each call refuses that is lent a table, after its arguments: then 10, a bad cell; the place is the first
+unfoldable pub tableRungs : List ℕ → List Rung
+tableRungs t = formRungs t ++ (numberFirst 10 (BadAt t) (isBad t) 2048 ∷ [])

@@ -3,6 +3,7 @@ pub mod Cell
 pub mod Table
 pub mod Selection
 pub mod Answer
+pub mod Refusals
 pub mod Search
 pub mod Computed
 pub mod Packed

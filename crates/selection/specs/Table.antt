@@ -1,10 +1,11 @@
 -- Tables and their check: document 01, "Cells" and "Check". A table is the list of its bytes.
 use mathlib.Core.Path.{_≡_}
-use mathlib.Core.List.{List}
-use mathlib.Core.Logic.{_⊎_}
+use mathlib.Core.List.{List, [], _∷_}
 use Prim.Native.Nat.{ℕ, suc, _+_, _*_, _/_, _%_, _≤_, _<_}
+use lib.Dec.{ltb}
 use lib.IntN.{ℤ}
 use lib.ListN.{length, getD, take, drop}
+use Rattle.selection.specs.Refusals.{First, Rung, differ, number, numberFirst, Wrongs, FirstRefusal}
 use Rattle.selection.specs.Cell.{Allows, Against, LeastWitness, digit}
 use Rattle.selection.specs.declared.table.Outcome.{Outcome}
 use Rattle.selection.specs.declared.table.Outcome.the-variants.{Passed, Bad, Refused}
@@ -36,14 +37,12 @@ pub data Tally (P : ℕ → Type 0) : ℕ → ℕ → Type 0 where
   one : {m n : ℕ} → P m → Tally P m n → Tally P (suc m) (suc n)
   other : {m n : ℕ} → (P m → ⊥) → Tally P m n → Tally P (suc m) n
 
--- k is the first number with the property P
-pub record First (P : ℕ → Type 0) (k : ℕ) : Type 0 where
-  pub here : P k
-  pub before : (j : ℕ) → j < k → P j → ⊥
+-- refused as no table: 8, length not 2,048; 9, a byte above 4, the place is the first such index
+abbrev pub formRungs : List ℕ → List Rung
+formRungs t = number 8 (differ (length t) 2048) ∷ numberFirst 9 (λ k. 4 < getD t k 0) (λ k. ltb 4 (getD t k 0)) 2048 ∷ []
 
--- refusal 8: not 2,048 bytes. Refusal 9: a byte above 4, the first at the place
-pub record NoTable (t : List ℕ) (n p : ℕ) : Type 0 where
-  pub why : ((length t ≡ 2048 → ⊥) × (n ≡ 8) × (p ≡ 0)) ⊎ ((length t ≡ 2048) × (n ≡ 9) × First (λ k. 4 < getD t k 0) p)
+abbrev pub NoTable : List ℕ → ℕ → ℕ → Type 0
+NoTable t n p = FirstRefusal (Wrongs (formRungs t)) n p
 
 -- the first bad cell, with its witness
 pub record FirstBad (t : List ℕ) (r c D : ℕ) (P : ℤ) : Type 0 where

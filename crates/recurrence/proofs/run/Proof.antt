@@ -1,8 +1,9 @@
 -- `run` meets its contract: the arguments' refusal, then the table's, else the run through the table.
 use mathlib.Core.Path.{refl, sym, ap, _∙_}
 use denote.Ref.{now}
+use lib.ListN.{length}
 use Rattle.selection.proofs.Orders.{admitted-both, first-lent}
-use Rattle.recurrence.specs.Run.{runValues}
+use Rattle.recurrence.specs.Run.{runRungs, runValues}
 use Rattle.recurrence.proofs.Refusals.{spans, run-answered}
 use borrow.Author.Needs.{needs}
 use Rattle.recurrence.proofs.run.Statement.{statement}
@@ -25,7 +26,7 @@ enum-told c = search needs
 
 run-admitted-requires : tie.Need-run-admitted-requires
 run-admitted-requires c κs =
-    let k = admitted-both (c .before .before .before .admit-after .ensures) (c .before .enum-told .given .1) in
+    let k = admitted-both _ (c .before .before .before .admit-after .ensures) (c .before .enum-told .given .1) in
     let s = spans _ _ _ _ _ (sym (c .before .before .before .before .argument-refusal .ensures) ∙ k .0) in
     (k .1, s .0, s .1, s .2, s .3)
 
@@ -36,7 +37,7 @@ returns : tie.Need-returns
 returns c =
     let a = c .before .before .before .before .before .before .before .before .args in
     run-answered (now (a .table)) (a .dividend) (a .divisor) (a .digits) (now (a .buffer)) (a .place)
-    (first-lent _ (c .before .before .before .before .admit-after .ensures) (c .before .before .before .before .before .argument-refusal .ensures) (c .before .before .admission .given .1))
+    (first-lent (runRungs (a .dividend) (a .divisor) (a .digits) (length (now (a .buffer))) (a .place)) _ (c .before .before .before .before .admit-after .ensures) (c .before .before .before .before .before .argument-refusal .ensures) (c .before .before .admission .given .1))
     (c .zeros .ensures, refl)
 
 same-length : tie.Need-same-length
@@ -47,7 +48,7 @@ returns-2 c =
     let a = c .before .before .before .before .before .before .before .before .before .before .before .args in
     let r = c .before .before .before .run-admitted .ensures in
     run-answered (now (a .table)) (a .dividend) (a .divisor) (a .digits) (now (a .buffer)) (a .place)
-    (first-lent _ (c .before .before .before .before .before .before .before .admit-after .ensures) (c .before .before .before .before .before .before .before .before .argument-refusal .ensures) (c .before .before .before .before .before .enum-told .given .1))
+    (first-lent (runRungs (a .dividend) (a .divisor) (a .digits) (length (now (a .buffer))) (a .place)) _ (c .before .before .before .before .before .before .before .admit-after .ensures) (c .before .before .before .before .before .before .before .before .argument-refusal .ensures) (c .before .before .before .before .before .enum-told .given .1))
     (c .values .ensures ∙ ap runValues (r .1), r .0)
 
 pub run-spec : {M : Type 1} → statement M

@@ -1,10 +1,11 @@
 -- `run_kept` meets its contract: the kept table passes, so only the arguments can be refused.
 use mathlib.Core.Path.{refl, sym, ap, _∙_}
 use denote.Ref.{now}
+use lib.ListN.{length}
 use Rattle.selection.specs.Computed.{madeTable}
 use Rattle.selection.proofs.MadeTables.{kept-passes}
 use Rattle.selection.proofs.Orders.{first-kept}
-use Rattle.recurrence.specs.Run.{runValues}
+use Rattle.recurrence.specs.Run.{runRungs, runValues}
 use Rattle.recurrence.proofs.Refusals.{spans, run-answered}
 use Rattle.recurrence.proofs.Rows.{kept-row, row-of-kept}
 use borrow.Author.Needs.{needs}
@@ -41,7 +42,7 @@ returns : tie.Need-returns
 returns c =
     let a = c .before .before .before .before .before .before .args in
     run-answered madeTable (a .dividend) (a .divisor) (a .digits) (now (a .buffer)) (a .place)
-    (first-kept (c .before .before .before .before .argument-refusal .ensures) (c .before .before .admission .given .1))
+    (first-kept (runRungs (a .dividend) (a .divisor) (a .digits) (length (now (a .buffer))) (a .place)) (c .before .before .before .before .argument-refusal .ensures) (c .before .before .admission .given .1))
     (c .zeros .ensures, refl)
 
 same-length : tie.Need-same-length
@@ -54,7 +55,7 @@ returns-2 c =
     let g = c .before .before .before .before .before .before .before .enum-told .given .1 in
     let s = spans _ _ _ _ _ (sym e ∙ g) in
     let r = c .before .before .before .run-part .ensures madeTable kept-passes (kept-row _ (s .0 .least) (s .0 .most) (c .before .before .before .before .before .before .kept-row .ensures)) in
-    run-answered madeTable (a .dividend) (a .divisor) (a .digits) (now (a .buffer)) (a .place) (first-kept e g) (c .values .ensures ∙ ap runValues (r .1), r .0)
+    run-answered madeTable (a .dividend) (a .divisor) (a .digits) (now (a .buffer)) (a .place) (first-kept (runRungs (a .dividend) (a .divisor) (a .digits) (length (now (a .buffer))) (a .place)) e g) (c .values .ensures ∙ ap runValues (r .1), r .0)
 
 pub run-kept-spec : {M : Type 1} → statement M
 run-kept-spec =

@@ -2,7 +2,7 @@
 use mathlib.Core.Path.{sym, ap, _∙_}
 use denote.Ref.{now}
 use Rattle.selection.proofs.Orders.{admitted-both, answered, first-lent}
-use Rattle.division.specs.Whole.{wholeThrough, wholeZeros, wholeValues}
+use Rattle.division.specs.Whole.{wholeRungs, wholeThrough, wholeZeros, wholeValues}
 use Rattle.division.proofs.Calls.{whole-spans}
 use borrow.Author.Needs.{needs}
 use Rattle.division.proofs.whole.divide_whole.Statement.{statement}
@@ -25,7 +25,7 @@ enum-told c = search needs
 
 divide-requires : tie.Need-divide-requires
 divide-requires c κs =
-    let k = admitted-both (c .before .before .admit-after .ensures) (c .enum-told .given .1) in
+    let k = admitted-both _ (c .before .before .admit-after .ensures) (c .enum-told .given .1) in
     let s = whole-spans _ _ (sym (c .before .before .before .refusal-of .ensures) ∙ k .0) in
     (k .1, s .0, s .1, s .2)
 
@@ -36,13 +36,13 @@ returns : tie.Need-returns
 returns c =
     let x = c .before .before .before .before .before .before .before .args in
     answered wholeZeros (wholeValues (wholeThrough (now (x .table)) (x .a) (x .b)))
-    (first-lent _ (c .before .before .before .before .admit-after .ensures) (c .before .before .before .before .before .refusal-of .ensures) (c .before .before .admission .given .1)) (c .zeros .ensures)
+    (first-lent (wholeRungs (x .a) (x .b)) _ (c .before .before .before .before .admit-after .ensures) (c .before .before .before .before .before .refusal-of .ensures) (c .before .before .admission .given .1)) (c .zeros .ensures)
 
 returns-2 : tie.Need-returns-2
 returns-2 c =
     let x = c .before .before .before .before .before .before .before .args in
     answered wholeZeros (wholeValues (wholeThrough (now (x .table)) (x .a) (x .b)))
-    (first-lent _ (c .before .before .before .before .admit-after .ensures) (c .before .before .before .before .before .refusal-of .ensures) (c .before .before .enum-told .given .1)) (c .values .ensures ∙ ap wholeValues (c .before .divide .ensures))
+    (first-lent (wholeRungs (x .a) (x .b)) _ (c .before .before .before .before .admit-after .ensures) (c .before .before .before .before .before .refusal-of .ensures) (c .before .before .enum-told .given .1)) (c .values .ensures ∙ ap wholeValues (c .before .divide .ensures))
 
 pub divide-whole-spec : {M : Type 1} → statement M
 divide-whole-spec =

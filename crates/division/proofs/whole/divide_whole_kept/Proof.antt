@@ -2,7 +2,7 @@
 use mathlib.Core.Path.{sym, ap, _∙_}
 use Rattle.selection.specs.Computed.{madeTable}
 use Rattle.selection.proofs.Orders.{answered, first-kept}
-use Rattle.division.specs.Whole.{wholeThrough, wholeZeros, wholeValues}
+use Rattle.division.specs.Whole.{wholeRungs, wholeThrough, wholeZeros, wholeValues}
 use Rattle.division.proofs.Calls.{whole-spans}
 use borrow.Author.Needs.{needs}
 use Rattle.division.proofs.whole.divide_whole_kept.Statement.{statement}
@@ -30,13 +30,13 @@ returns : tie.Need-returns
 returns c =
     let x = c .before .before .before .before .before .args in
     answered wholeZeros (wholeValues (wholeThrough madeTable (x .a) (x .b)))
-    (first-kept (c .before .before .before .before .refusal-of .ensures) (c .before .before .admission .given .1)) (c .zeros .ensures)
+    (first-kept (wholeRungs (x .a) (x .b)) (c .before .before .before .before .refusal-of .ensures) (c .before .before .admission .given .1)) (c .zeros .ensures)
 
 returns-2 : tie.Need-returns-2
 returns-2 c =
     let x = c .before .before .before .before .before .args in
     answered wholeZeros (wholeValues (wholeThrough madeTable (x .a) (x .b)))
-    (first-kept (c .before .before .before .before .refusal-of .ensures) (c .before .before .enum-told .given .1)) (c .values .ensures ∙ ap wholeValues (c .before .divide-kept .ensures))
+    (first-kept (wholeRungs (x .a) (x .b)) (c .before .before .before .before .refusal-of .ensures) (c .before .before .enum-told .given .1)) (c .values .ensures ∙ ap wholeValues (c .before .divide-kept .ensures))
 
 pub divide-whole-kept-spec : {M : Type 1} → statement M
 divide-whole-kept-spec =

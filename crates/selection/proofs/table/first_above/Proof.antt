@@ -2,7 +2,8 @@ use Prim.Native.Nat.{_≤_, _-_}
 use mathlib.Core.Path.{_≡_, refl, sym, _∙_}
 use native.Mathlib.Omega.{arith}
 use borrow.Author.Tests.{lt-ltb, le-ltb}
-use Rattle.selection.specs.Computed.{firstFrom, aboveFour}
+use Rattle.selection.specs.Refusals.{firstFrom}
+use Rattle.selection.specs.Computed.{aboveFour}
 use Rattle.selection.proofs.Counts.{first-here, first-on, first-end}
 use Rattle.selection.proofs.table.first_above.Statement.{statement}
 use Rattle.selection.proofs.table.first_above.Tie as tie

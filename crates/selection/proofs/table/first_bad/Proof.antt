@@ -1,7 +1,8 @@
 use Prim.Native.Nat.{_≤_, _-_}
 use mathlib.Core.Path.{_≡_, refl, sym, _∙_}
 use native.Mathlib.Omega.{arith}
-use Rattle.selection.specs.Computed.{firstFrom, isBad}
+use Rattle.selection.specs.Refusals.{firstFrom}
+use Rattle.selection.specs.Computed.{isBad}
 use Rattle.selection.proofs.Counts.{first-here, first-on, first-end}
 use Rattle.selection.proofs.table.first_bad.Statement.{statement}
 use Rattle.selection.proofs.table.first_bad.Tie as tie

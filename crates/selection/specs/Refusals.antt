@@ -1,0 +1,113 @@
+-- Who sends bad input: document 01's section of that name, and document 02's order. What a call refuses is a list of rungs: each call's stands with its answer.
+use mathlib.Core.Path.{_≡_}
+use mathlib.Core.Bool.{Bool, cond, not, _||_}
+use mathlib.Core.List.{List, [], _∷_}
+use mathlib.Core.Logic.{_⊎_, _↔_}
+use Prim.Native.Nat.{ℕ, zero, suc, _+_, _≤_, _<_}
+use lib.Dec.{leb, ltb, eqb}
+use Rattle.selection.specs.Answer.{refusal, inOrder}
+use Rattle.selection.specs.declared.Refusal.{Refusal}
+use Rattle.selection.specs.declared.Admission.{Admission}
+use Rattle.selection.specs.declared.Admission.the-variants.{Admitted, Refused}
+
+-- ---- conditions
+
+pub data Condition : Type 0 where
+  below : ℕ → ℕ → Condition
+  atMost : ℕ → ℕ → Condition
+  same : ℕ → ℕ → Condition
+  differ : ℕ → ℕ → Condition
+  eitherOf : Condition → Condition → Condition
+
+-- what a condition says
+abbrev pub Holds : Condition → Type 0
+Holds (below a b) = a < b
+Holds (atMost a b) = a ≤ b
+Holds (same a b) = a ≡ b
+Holds (differ a b) = a ≡ b → ⊥
+Holds (eitherOf c d) = Holds c ⊎ Holds d
+
+-- its test
+abbrev pub holds : Condition → Bool
+holds (below a b) = ltb a b
+holds (atMost a b) = leb a b
+holds (same a b) = eqb a b
+holds (differ a b) = not (eqb a b)
+holds (eitherOf c d) = holds c || holds d
+
+-- k is the first number with the property P
+pub record First (P : ℕ → Type 0) (k : ℕ) : Type 0 where
+  pub here : P k
+  pub before : (j : ℕ) → j < k → P j → ⊥
+
+-- of n numbers from i on, the first that passes the test f; else the number past them
+unfoldable pub firstFrom : (ℕ → Bool) → ℕ → ℕ → ℕ
+firstFrom f i zero = i
+firstFrom f i (suc n) =
+    let rest = firstFrom f (i + 1) n in
+    cond (f i) i rest
+
+-- ---- rungs
+
+-- number k with place p, where c holds; or number k, where P holds of an index below m, as the test f tells: the place is the first
+pub data Rung : Type 1 where
+  numberAt : (k p : ℕ) → Condition → Rung
+  numberFirst : (k : ℕ) (P : ℕ → Type 0) (f : ℕ → Bool) (m : ℕ) → Rung
+
+-- the place is 0
+abbrev pub number : ℕ → Condition → Rung
+number k c = numberAt k 0 c
+
+abbrev pub numberOf : Rung → ℕ
+numberOf (numberAt k p c) = k
+numberOf (numberFirst k P f m) = k
+
+-- its condition, at the place q
+abbrev pub Wrong : Rung → ℕ → Type 0
+Wrong (numberAt k p c) q = (q ≡ p) × Holds c
+Wrong (numberFirst k P f m) q = (q < m) × First P q
+
+-- what a call gives that has come to it
+abbrev pub given : Rung → Admission
+given (numberAt k p c) = cond (holds c) (Refused (refusal k p)) Admitted
+given (numberFirst k P f m) = let j = firstFrom f 0 m in cond (ltb j m) (Refused (refusal k j)) Admitted
+
+-- what a call refuses: the condition of the number n holds, and p is its place
+abbrev pub Wrongs : List Rung → ℕ → ℕ → Type 0
+Wrongs [] n p = ⊥
+Wrongs (r ∷ rs) n p = ((n ≡ numberOf r) × Wrong r p) ⊎ Wrongs rs n p
+
+-- the first refusal that is given
+abbrev pub ladder : List Rung → Admission
+ladder [] = Admitted
+ladder (r ∷ rs) = inOrder (given r) (ladder rs)
+
+-- ---- the order of the refusals
+
+abbrev pub order : List ℕ
+order = 1 ∷ 2 ∷ 16 ∷ 3 ∷ 14 ∷ 15 ∷ 4 ∷ 5 ∷ 6 ∷ 11 ∷ 12 ∷ 13 ∷ 7 ∷ 8 ∷ 9 ∷ 10 ∷ []
+
+abbrev pub rankIn : List ℕ → ℕ → ℕ → ℕ
+rankIn [] i n = 0
+rankIn (m ∷ ms) i n =
+    let later = rankIn ms (suc i) n in
+    cond (eqb n m) i later
+
+-- where the number n stands in the order, from 1 on; 0: nowhere
+unfoldable pub rank : ℕ → ℕ
+rank n = rankIn order 1 n
+
+-- of what C refuses, number n with place p is the first
+pub record FirstRefusal (C : ℕ → ℕ → Type 0) (n p : ℕ) : Type 0 where
+  pub holds : C n p
+  pub before : (m q : ℕ) → rank m < rank n → C m q → ⊥
+
+-- f is the refusal (0 and 0: none) of a call that refuses by C: a number and a place exactly if they are the first, and none exactly if no condition holds
+pub record RefusedBy (C : ℕ → ℕ → Type 0) (f : Refusal) : Type 0 where
+  pub exactly : (n p : ℕ) → 0 < n → (f ≡ refusal n p) ↔ FirstRefusal C n p
+  pub none : (f ≡ refusal 0 0) ↔ ((n p : ℕ) → C n p → ⊥)
+
+-- x is an answer, `refused x` the refusal in it, and `zeros f` the refusal f with zeros besides
+pub record Refuses {X : Type 0} (C : ℕ → ℕ → Type 0) (refused : X → Refusal) (zeros : Refusal → X) (x : X) : Type 0 where
+  pub by : RefusedBy C (refused x)
+  pub besides : (n p : ℕ) → FirstRefusal C n p → x ≡ zeros (refusal n p)
