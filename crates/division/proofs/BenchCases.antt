@@ -15,7 +15,7 @@ use Rattle.selection.proofs.MadeTables.{made-bytes, kept-passes}
 use Rattle.selection.proofs.Orders.{passed-last}
 use Rattle.recurrence.specs.Recurrence.{digits, after, nextOf, value, endRemainder, resultOf}
 use Rattle.division.specs.Whole.{wholeRungs, wholeValues, wholeOf}
-use Rattle.division.specs.Computed.{finiteQuotient}
+use Rattle.division.specs.Computed.{finiteRounded}
 use Rattle.division.specs.Through.{binary64Rungs, binary64Values, binary64Of}
 use Rattle.division.specs.BenchCases.{Case8, Case9, BenchCases}
 use Rattle.division.proofs.Calls.{whole-clear, direction-clear}
@@ -34,11 +34,11 @@ case-10 : wholeOf madeTable 4195835 3145727 ≡ record { refusal = refusal 0 0; 
 case-10 = rw (passed-last kept-passes (wholeRungs 4195835 3145727), whole-clear 4195835 3145727 (lit< tt) (lit< tt) (lit< tt)) (ap wholeValues (whole-divides madeTable 4195835 3145727 kept-passes (lit< tt) (lit< tt) (lit< tt)))
 
 case-11 : binary64Of madeTable 0 0x3FF0000000000000 0x4008000000000000 ≡ record { refusal = refusal 0 0; pattern = 0x3FD5555555555555; flags = 1 }
-unfolding finiteQuotient
+unfolding finiteRounded
 case-11 = rw (passed-last kept-passes (binary64Rungs 0), direction-clear 0 (omega arith)) (ap binary64Values (binary64-through madeTable 0 0x3FF0000000000000 0x4008000000000000 kept-passes))
 
 case-12 : (binary64Of madeTable 0 1 0x4000000000000000 ≡ record { refusal = refusal 0 0; pattern = 0; flags = 3 }) × (binary64Of madeTable 2 1 0x4000000000000000 ≡ record { refusal = refusal 0 0; pattern = 1; flags = 3 })
-unfolding finiteQuotient
+unfolding finiteRounded
 case-12 =
     rw (passed-last kept-passes (binary64Rungs 0), direction-clear 0 (omega arith), passed-last kept-passes (binary64Rungs 2), direction-clear 2 (omega arith))
     (ap binary64Values (binary64-through madeTable 0 1 0x4000000000000000 kept-passes), ap binary64Values (binary64-through madeTable 2 1 0x4000000000000000 kept-passes))

@@ -16,11 +16,11 @@ use Rattle.recurrence.specs.Recurrence.{Operands, resultOf}
 use Rattle.recurrence.proofs.RunDemand.{result-divides}
 use Rattle.division.specs.Whole.{shiftTo}
 use Rattle.division.specs.Binary64.{magnitude, field, fraction, signOf}
-use Rattle.division.specs.Computed.{finiteQuotient, byClass, orQuotient, divided}
+use Rattle.division.specs.Computed.{finiteQuotient, byClass, orRounded, divided}
 use Rattle.division.specs.Through.{sticky, significandOf, ratioThrough, alignedOf, roundedQuotient, scaledThrough, binary64Through}
 use Rattle.division.specs.Working.{FiniteNonzero}
 use Rattle.division.specs.declared.binary64.ByClass.{ByClass}
-use Rattle.division.specs.declared.binary64.ByClass.the-variants.{Decided, Quotient}
+use Rattle.division.specs.declared.binary64.ByClass.the-variants.{Decided, Undecided}
 use Rattle.division.proofs.Sticky.{ratio-is, cut-high, cut-low}
 use Rattle.division.proofs.Quotient.{ScaledTo, AlignedTo, aligned-is}
 use Rattle.division.proofs.Classes.{quotient-operands}
@@ -98,6 +98,6 @@ finite-through t direction s a b p ua ub =
 pub binary64-through : (t : List ℕ) (direction a b : ℕ) → Passes t → binary64Through t direction a b ≡ divided direction a b
 binary64-through t direction a b p = go (byClass a b) refl
   where
-    go : (k : ByClass) → byClass a b ≡ k → orQuotient (scaledThrough t direction (signOf a b) (significandOf a) (significandOf b)) k ≡ orQuotient (finiteQuotient direction (signOf a b) (magnitude a) (magnitude b)) k
+    go : (k : ByClass) → byClass a b ≡ k → orRounded (scaledThrough t direction (signOf a b) (significandOf a) (significandOf b)) k ≡ orRounded (finiteQuotient direction (signOf a b) (magnitude a) (magnitude b)) k
     go (Decided x) e = refl
-    go Quotient e = let u = quotient-operands a b e in finite-through t direction (signOf a b) a b p (u .0) (u .1)
+    go Undecided e = let u = quotient-operands a b e in finite-through t direction (signOf a b) a b p (u .0) (u .1)

@@ -12,7 +12,7 @@ use Rattle.division.specs.declared.binary64.Class.{Class}
 use Rattle.division.specs.declared.binary64.Class.the-variants.{Zero, Subnormal, Normal, Infinite, Nan}
 use Rattle.division.specs.declared.binary64.Case.{Case}
 use Rattle.division.specs.declared.binary64.Case.the-variants.{Quiet, Invalid, ToInfinity, ByZero, ToZero, Finite}
-use Rattle.division.specs.declared.binary64.ByClass.the-variants.{Quotient}
+use Rattle.division.specs.declared.binary64.ByClass.the-variants.{Undecided}
 use Rattle.division.specs.Binary64.{classOf, field, fraction, signOf}
 use Rattle.division.specs.Computed.{caseOf, decided, byClass}
 use Rattle.division.specs.Working.{FiniteNonzero}
@@ -71,10 +71,10 @@ counted p e = ⊎-elim
     last false w = let z : _≡_ {A = ℕ} 0 1 = cc in omega arith
 
 -- where the classes decide nothing, the operands are finite numbers other than zero
-pub quotient-operands : (a b : ℕ) → byClass a b ≡ Quotient → FiniteNonzero a × FiniteNonzero b
+pub quotient-operands : (a b : ℕ) → byClass a b ≡ Undecided → FiniteNonzero a × FiniteNonzero b
 quotient-operands a b e = let f = both (classOf a) (classOf b) (go (caseOf (classOf a) (classOf b)) e) in (counted a (f .0), counted b (f .1))
   where
-    go : (k : Case) → decided (signOf a b) k ≡ Quotient → k ≡ Finite
+    go : (k : Case) → decided (signOf a b) k ≡ Undecided → k ≡ Finite
     go Quiet e = absurd (let z : _≡_ {A = ℕ} 0 1 = cc in omega arith)
     go Invalid e = absurd (let z : _≡_ {A = ℕ} 0 1 = cc in omega arith)
     go ToInfinity e = absurd (let z : _≡_ {A = ℕ} 0 1 = cc in omega arith)

@@ -9,7 +9,7 @@ use mathlib.Core.List.{List}
 use lib.Pow.{pow-pos, pow-mono}
 use borrow.Author.Tests.{ne-eqb}
 use Rattle.division.specs.Binary64.{magnitude, field, classOf, signOf}
-use Rattle.division.specs.Computed.{finiteQuotient, caseOf, decided, orQuotient, divided}
+use Rattle.division.specs.Computed.{finiteQuotient, caseOf, decided, orRounded, divided}
 use Rattle.division.specs.Through.{binary64Through}
 use Rattle.division.specs.Ieee.{RoundedQuotient, Ieee}
 use Rattle.division.specs.declared.binary64.Class.{Class}
@@ -20,10 +20,10 @@ use Rattle.selection.specs.Table.{Passes}
 use Rattle.division.proofs.Binary64Through.{binary64-through}
 use Rattle.division.proofs.Classes.{by-nonzero, by-finite, nonzero-operand}
 use Rattle.laws.proofs.Division.{quotient}
-use Rattle.division.proofs.RoundedQuotient.{rounded-quotient}
+use Rattle.division.proofs.Quotient.{rounded-quotient}
 
 -- finite magnitudes are below 2^1024
-magnitude-below : (p : ℕ) → field p < 2047 → magnitude p < 2 ^ 2098
+pub magnitude-below : (p : ℕ) → field p < 2047 → magnitude p < 2 ^ 2098
 magnitude-below p h = ⊎-elim
     (λ (z : field p ≡ 0). rw z (lt-of-lt-of-le {m = 2 ^ 52} (omega arith) (lit≤ {m = 2 ^ 52} {n = 2 ^ 2098} tt)))
     (λ (g : 0 < field p). rw (ne-eqb (field p) 0 (omega arith))
@@ -32,8 +32,8 @@ magnitude-below p h = ⊎-elim
 
 -- the answer of a case
 answer-of : (direction a b : ℕ) (x y : Class) (k : Case) → classOf a ≡ x → classOf b ≡ y → caseOf x y ≡ k
-    → divided direction a b ≡ orQuotient (finiteQuotient direction (signOf a b) (magnitude a) (magnitude b)) (decided (signOf a b) k)
-answer-of direction a b x y k e f g = ap (λ (k : Case). orQuotient (finiteQuotient direction (signOf a b) (magnitude a) (magnitude b)) (decided (signOf a b) k)) (ap₂ caseOf e f ∙ g)
+    → divided direction a b ≡ orRounded (finiteQuotient direction (signOf a b) (magnitude a) (magnitude b)) (decided (signOf a b) k)
+answer-of direction a b x y k e f g = ap (λ (k : Case). orRounded (finiteQuotient direction (signOf a b) (magnitude a) (magnitude b)) (decided (signOf a b) k)) (ap₂ caseOf e f ∙ g)
 
 right-nan : (x : Class) → caseOf x Nan ≡ Quiet
 right-nan Zero = refl

@@ -3,27 +3,21 @@
 use mathlib.Core.Path.{_≡_, sym, ap}
 use mathlib.Core.Logic.{inl, inr, ⊎-elim}
 use Prim.Native.Nat.{ℕ, suc, min, _+_, _-_, _*_, _/_, _%_, _≤_, _<_}
-use native.Mathlib.Nat.{div-add-mod', mod-lt, le-of-lt, lt-of-lt-of-le, eq-zero-or-pos, eq-or-lt-of-le, le-refl, le-of-eq, lt-of-not-le, not-le-of-lt, mul-lt-mul-of-pos-right, le-trans}
+use native.Mathlib.Nat.{le-of-lt, lt-of-lt-of-le, eq-zero-or-pos, eq-or-lt-of-le, le-refl, le-of-eq, lt-of-not-le, not-le-of-lt, le-trans}
 use native.Mathlib.Omega.{arith}
-use mathlib.Core.Bool.{cond}
-use lib.Dec.{eqb, ltb}
 use borrow.Author.Tests.{lt-ltb, le-ltb, eq-eqb, ne-eqb}
 use Rattle.division.specs.declared.rounding.Mode.{Mode}
 use Rattle.division.specs.declared.rounding.Mode.the-variants.{Nearest, Toward, Away}
 use Rattle.division.specs.Rounding.{AwayFromZero, ToNearest, Rounds}
-use Rattle.division.specs.Computed.{roundedTo, restOf}
+use Rattle.division.specs.Computed.{roundedTo, restAt}
 use Rattle.laws.proofs.Division.{either}
-
--- the rest beyond k units: 0 none, 1 below half a unit, 2 half, 3 above
-abbrev pub restAt : (ℕ → ℕ) → ℕ → ℕ → ℕ
-restAt f m k = cond (eqb m (f (2 * k))) 0 (cond (ltb m (f (2 * k + 1))) 1 (cond (eqb m (f (2 * k + 1))) 2 3))
 
 parity : (y : ℕ) → suc y % 2 ≡ 0 → y % 2 ≡ 0 → ⊥
 parity y p q = omega arith
 
 module _ (f : ℕ → ℕ) (up : (i j : ℕ) → i < j → f i < f j) where
   -- order on the scale
-  mono : (i j : ℕ) → i ≤ j → f i ≤ f j
+  pub mono : (i j : ℕ) → i ≤ j → f i ≤ f j
   mono i j h = ⊎-elim (λ (e : i ≡ j). le-of-eq (ap f e)) (λ (g : i < j). le-of-lt (up i j g)) (eq-or-lt-of-le h)
 
   -- a greater magnitude is not rounded to a smaller number
@@ -52,7 +46,7 @@ module _ (f : ℕ → ℕ) (up : (i j : ℕ) → i < j → f i < f j) where
   -- the rounding of k units and a rest is the rounding of the exact magnitude
   module _ (m k : ℕ) (low : f (2 * k) ≤ m) (high : m < f (2 * k + 2)) where
     -- the four places of m
-    place : (P : ℕ → Type 0) → (m ≡ f (2 * k) → P 0) → (f (2 * k) < m → m < f (2 * k + 1) → P 1) → (m ≡ f (2 * k + 1) → P 2) → (f (2 * k + 1) < m → P 3) → P (restAt f m k)
+    pub place : (P : ℕ → Type 0) → (m ≡ f (2 * k) → P 0) → (f (2 * k) < m → m < f (2 * k + 1) → P 1) → (m ≡ f (2 * k + 1) → P 2) → (f (2 * k + 1) < m → P 3) → P (restAt f m k)
     place P p0 p1 p2 p3 = ⊎-elim
         (λ (e : f (2 * k) ≡ m). rw (eq-eqb m (f (2 * k)) (sym e)) (p0 (sym e)))
         (λ (g : f (2 * k) < m). rw (ne-eqb m (f (2 * k)) (omega arith)) (⊎-elim
@@ -130,20 +124,3 @@ module _ (f : ℕ → ℕ) (up : (i j : ℕ) → i < j → f i < f j) (m h : ℕ
       (λ (z : h % 2 ≡ 0). absurd (omega (arith, mono f up (h + 1) (2 * (h / 2) + 1) (omega arith))))
       (λ (z : 0 < h % 2). let q : h ≡ 2 * (h / 2) + 1 = omega arith in omega (arith, ap f q))
       (eq-zero-or-pos (h % 2)))
-
--- a quotient's rest, on the scale of its divisor
-pub quotient-rest : (n u : ℕ) → 0 < u → restOf (n % u) u ≡ restAt (λ j. j * u) (2 * n) (n / u)
-quotient-rest n u h =
-    let d : n / u * u + n % u ≡ n = div-add-mod' n u in
-    sym (place (λ j. j * u) (λ i j g. omega (arith, mul-lt-mul-of-pos-right g h)) (2 * n) (n / u) (omega arith) (omega (arith, mod-lt n h))
-    (λ r. r ≡ restOf (n % u) u)
-    (λ e. rw (eq-eqb (n % u) 0 (omega arith)))
-    (λ g l. rw (ne-eqb (n % u) 0 (omega arith), lt-ltb (2 * (n % u)) u (omega arith)))
-    (λ e. rw (ne-eqb (n % u) 0 (omega arith), le-ltb (2 * (n % u)) u (omega arith), eq-eqb (2 * (n % u)) u (omega arith)))
-    (λ g. rw (ne-eqb (n % u) 0 (omega arith), le-ltb (2 * (n % u)) u (omega arith), ne-eqb (2 * (n % u)) u (omega arith))))
-
--- so the definition's rounded number is the one that rounds n / u
-pub quotient-rounds : (mode : Mode) (n u : ℕ) → 0 < u → Rounds mode (λ j. j * u) (2 * n) (roundedTo mode (n / u) (restOf (n % u) u))
-quotient-rounds mode n u h =
-    let d : n / u * u + n % u ≡ n = div-add-mod' n u in
-    rw (quotient-rest n u h) (rounds (λ j. j * u) (λ i j g. mul-lt-mul-of-pos-right g h) (2 * n) (n / u) (omega arith) (omega (arith, mod-lt n h)) mode)

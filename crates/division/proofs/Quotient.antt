@@ -1,24 +1,21 @@
 -- The quotient of two magnitudes: the exponent and the rounded part that the definition names are those of any sticky quotient in range.
 -- Assumes nothing.
-use mathlib.Core.Path.{_≡_, sym, ap, _∙_}
+use mathlib.Core.Path.{_≡_, refl, ap, _∙_}
 use mathlib.Core.Bool.{Bool}
-use mathlib.Core.Logic.{⊎-elim}
-use Prim.Native.Nat.{ℕ, zero, suc, min, _+_, _-_, _*_, _/_, _%_, _^_, _≤_, _<_}
-use native.Mathlib.Nat.{div-add-mod', mod-lt, mul-lt-mul-of-pos-right, mul-le-mul-left, mul-pos, div-lt-iff-lt-mul, le-div-iff-mul-le, lt-of-lt-of-le, pow-suc}
+use Prim.Native.Nat.{ℕ, min, _+_, _-_, _*_, _/_, _%_, _^_, _≤_, _<_}
+use native.Mathlib.Nat.{div-add-mod', mod-lt, mul-lt-mul-of-pos-right, mul-le-mul-right, mul-pos, zero-mul, pow-suc}
 use native.Mathlib.Omega.{arith}
-use lib.Dec.{ltb, eqb}
-use lib.Pow.{pow-add, pow-mono, pow-pos}
-use borrow.Author.Tests.{le-leb, lt-leb}
+use lib.Pow.{pow-add, pow-pos}
 use Rattle.division.specs.Rounding.{modeOf}
 use Rattle.division.specs.Through.{sticky}
 use Rattle.division.specs.declared.binary64.Scaled.{Scaled}
 use Rattle.division.specs.declared.binary64.Aligned.{Aligned}
-use Rattle.division.specs.Computed.{restOf, packed, largest, exponent, finiteQuotient}
+use Rattle.division.specs.Ieee.{quotientScale, quotientPlace, RoundedQuotient}
+use Rattle.division.specs.Computed.{packed, finiteQuotient}
 use Rattle.division.specs.Working.{Normalized}
-use Rattle.laws.proofs.Division.{either, quotient}
-use Rattle.division.proofs.Packing.{cond-in}
 use Rattle.division.proofs.Sticky.{sticky-cross, sticky-sticky}
-use Rattle.division.proofs.Nearest.{restAt, whole-units, halves, quotient-rest}
+use Rattle.division.proofs.Scales.{Increasing}
+use Rattle.division.proofs.Rounded.{finite-rounded, finite-is}
 
 -- x is normalized, and sig * 2^exp is m * 2^52
 pub record ScaledTo (m : ℕ) (x : Scaled) : Type 0 where
@@ -33,59 +30,41 @@ pub record AlignedTo (w up down : ℕ) (x : Aligned) : Type 0 where
   pub high : x .v < 2 ^ 55
   pub small : x .e ≤ 3119
 
--- the search finds the one exponent in range
-pub largest-is : (d a b e : ℕ) → e ≤ d → (0 < e → b * 2 ^ e ≤ a * 2 ^ 1022) → a * 2 ^ 1022 < b * 2 ^ suc e → largest d a b ≡ e
-unfolding largest
-largest-is zero a b e l low high = omega arith
-largest-is (suc d) a b e l low high = ⊎-elim
-    (λ (g : e ≤ d). rw (lt-leb _ _ (lt-of-lt-of-le high (mul-le-mul-left b (pow-mono {i = suc e} {j = suc d} (omega arith)))), largest) (largest-is d a b e g low high))
-    (λ (g : d < e). let s : e ≡ suc d = omega arith in rw (le-leb _ _ (rw s at (low (omega arith))), largest) (sym s))
-    (either e d)
+-- the scale of a quotient
+pub quotient-increasing : (b : ℕ) → 0 < b → Increasing (quotientScale b)
+quotient-increasing b p =
+    record {
+      none = λ e. zero-mul (b * 2 ^ e);
+      up = λ e i j g. mul-lt-mul-of-pos-right g (mul-pos p (pow-pos e));
+      double = λ e j. rw (pow-suc 2 e) (omega arith);
+    }
 
--- at half units a sticky quotient is the whole part with the rest that rounding asks for
-graded : (n u : ℕ) → 0 < u → sticky (2 * n) u ≡ 4 * (n / u) + restOf (n % u) u
-graded n u p =
-    let h = 2 * n / u in
-    let up : (i j : ℕ) → i < j → i * u < j * u = λ i j g. mul-lt-mul-of-pos-right g p in
-    let d : h * u + 2 * n % u ≡ 2 * n = div-add-mod' (2 * n) u in
-    let low : h * u ≤ 2 * n = omega arith in
-    let high : 2 * n < (h + 1) * u = omega (arith, mod-lt (2 * n) p) in
-    let w = whole-units (λ j. j * u) up (2 * n) h low high in
-    let k = quotient {n = n} {d = u} {q = h / 2} {r = n - h / 2 * u} (omega (arith, w)) (omega (arith, w)) .0 in
-    let r : 2 * n - h * u ≡ 2 * n % u = omega arith in
-    let e = quotient-rest n u p ∙ ap (restAt (λ j. j * u) (2 * n)) k ∙ halves (λ j. j * u) up (2 * n) h low high in
-    rw (k, e, r) (omega arith)
+-- the greatest exponent reaches beyond every quotient; x, y and z stand for 2 ^ 2098, 2 ^ 1074 and 2 ^ 3119
+reach : (a b x y z : ℕ) → a < x → 0 < y → x * y ≡ 2 ^ 53 * z → 0 < b → 2 * (a * y) < 2 ^ 54 * (b * z)
+reach a b x y z l h e p = omega (arith, mul-lt-mul-of-pos-right l h, mul-le-mul-right z p)
 
-rest-lt : (r u : ℕ) → restOf r u < 4
-rest-lt r u =
-    let P : ℕ → Type 0 = λ x. x < 4 in
-    cond-in P (eqb r 0) (omega arith) (cond-in P (ltb (2 * r) u) (omega arith) (cond-in P (eqb (2 * r) u) (omega arith) (omega arith)))
+-- the quotient of two magnitudes that the definition gives is rounded once; finite magnitudes are below 2^1024, which is 2^2098 units
+pub rounded-quotient : (direction : ℕ) (s : Bool) (a b : ℕ) → a < 2 ^ 2098 → 0 < b → RoundedQuotient direction s a b (finiteQuotient direction s a b)
+rounded-quotient direction s a b l p =
+    finite-rounded (quotientScale b) (quotient-increasing b p) (quotientPlace a) direction s (reach a b (2 ^ 2098) (2 ^ 1074) (2 ^ 3119) l (pow-pos 1074) refl p)
 
--- the exponent's bounds, from those of the sticky quotient at half units; x stands for 2 ^ 1022
-below : (a b x p v : ℕ) → 0 < b * p → v ≡ sticky (2 * (a * (x * 2 ^ 52))) (b * p) → v < 2 ^ 55 → a * x < b * (p * 2)
-below a b x p v h e l =
-    let d = div-lt-iff-lt-mul {k = b * p} {x = 2 * (a * (x * 2 ^ 52))} {y = 2 ^ 54} h .0 (omega arith) in
-    omega arith
+-- a quotient's whole part, as a place on the scale of its divisor
+whole-part : (n u : ℕ) → 0 < u → (n / u * u ≤ n) × (n < (n / u + 1) * u) × (n % u ≡ n - n / u * u)
+whole-part n u p = let d = div-add-mod' n u in (omega arith, omega (arith, mod-lt n p), omega arith)
 
-above : (a b x p v : ℕ) → 0 < b * p → v ≡ sticky (2 * (a * (x * 2 ^ 52))) (b * p) → 2 ^ 54 ≤ v → b * p ≤ a * x
-above a b x p v h e l =
-    let d = le-div-iff-mul-le {k = b * p} {x = 2 ^ 53} {y = 2 * (a * (x * 2 ^ 52))} h .0 (omega arith) in
-    omega arith
+-- a sticky bit below a whole part
+above : (e h r v : ℕ) → v ≡ 2 * h + min 1 r → 2 ^ 54 * min 1 e ≤ v → v < 2 ^ 55 → (2 ^ 53 * min 1 e ≤ h) × (h < 2 ^ 54)
+above e h r v q low high = omega arith
 
 -- any e and v in range, v the sticky quotient at half units of 2^(e - 1074), give the definition's answer
-pub finite-is : (direction : ℕ) (s : Bool) (a b e v : ℕ) → 0 < b → e ≤ 3119 → v ≡ sticky (2 * (a * 2 ^ 1074)) (b * 2 ^ e) → 2 ^ 54 * min 1 e ≤ v → v < 2 ^ 55
+pub quotient-is : (direction : ℕ) (s : Bool) (a b e v : ℕ) → 0 < b → e ≤ 3119 → v ≡ sticky (quotientPlace a) (b * 2 ^ e) → 2 ^ 54 * min 1 e ≤ v → v < 2 ^ 55
     → finiteQuotient direction s a b ≡ packed (modeOf direction s) s e (v / 4) (v % 4)
-unfolding finiteQuotient
-finite-is direction s a b e v p l q low high =
-    let u : 0 < b * 2 ^ e = mul-pos p (pow-pos e) in
-    let E : exponent a b ≡ e = largest-is 3119 a b e l
-    (λ g. above a b (2 ^ 1022) (2 ^ e) v u q (omega arith))
-    (rw (pow-suc 2 e) (below a b (2 ^ 1022) (2 ^ e) v u q high)) in
-    let n = a * 2 ^ 1074 in
-    let w = q ∙ graded n (b * 2 ^ e) u in
-    let k : v / 4 ≡ n / (b * 2 ^ e) = omega (arith, rest-lt (n % (b * 2 ^ e)) (b * 2 ^ e)) in
-    let r : v % 4 ≡ restOf (n % (b * 2 ^ e)) (b * 2 ^ e) = omega (arith, rest-lt (n % (b * 2 ^ e)) (b * 2 ^ e)) in
-    rw (E, k, r)
+quotient-is direction s a b e v p l q low high =
+    let n = quotientPlace a in
+    let u = b * 2 ^ e in
+    let w = whole-part n u (mul-pos p (pow-pos e)) in
+    let h = above e (n / u) (n % u) v q low high in
+    finite-is (quotientScale b) (quotient-increasing b p) n direction s e (n / u) v l (w .0) (w .1) (h .0) (h .1) (q ∙ ap (λ (r : ℕ). 2 * (n / u) + min 1 r) (w .2))
 
 -- equal ratios, through scaled significands: x and y stand for the powers of their exponents, h for 2 ^ 1021
 cross : (a b m n x y h p t : ℕ) → m * x ≡ a * 2 ^ 52 → n * y ≡ b * 2 ^ 52 → p * y ≡ x * (h * t) → m * 2 ^ 54 * (b * p) ≡ 2 * (a * (h * 2 ^ 53)) * (n * t)
@@ -110,4 +89,4 @@ aligned-is direction s a b w x y at p sx sy ew sa =
     let t = at .e + y .exp - (x .exp + 1021) in
     let eq : at .e + y .exp ≡ x .exp + (1021 + t) = omega (arith, sa .reach) in
     let v : at .v ≡ sticky (2 * (a * 2 ^ 1074)) (b * 2 ^ at .e) = sa .value ∙ ap (λ (n : ℕ). sticky n (2 * 2 ^ t)) ew ∙ meets a b (at .e) t x y sx sy p eq in
-    finite-is direction s a b (at .e) (at .v) p (omega (arith, sa .small)) v (sa .low) (sa .high)
+    quotient-is direction s a b (at .e) (at .v) p (omega (arith, sa .small)) v (sa .low) (sa .high)

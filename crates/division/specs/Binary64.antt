@@ -1,5 +1,5 @@
--- Binary64 patterns and the exponent of a quotient, over whole numbers: document 01, "Binary64". What division means is said in specs/Ieee.
-use Prim.Native.Nat.{ℕ, suc, _+_, _-_, _*_, _/_, _%_, _^_, _≤_, _<_}
+-- Binary64 patterns, over whole numbers: document 01, "Binary64". What rounding to them means is said in specs/Rounded, and what division means in specs/Ieee.
+use Prim.Native.Nat.{ℕ, _+_, _-_, _*_, _/_, _%_, _^_}
 use mathlib.Core.Bool.{Bool, not, cond, Bool·beq}
 use lib.Dec.{leb, ltb, eqb}
 use Rattle.division.specs.declared.binary64.Class.{Class}
@@ -23,11 +23,6 @@ abbrev pub classOf : ℕ → Class
 classOf p =
     cond (eqb (field p) 0) (cond (eqb (fraction p) 0) Zero Subnormal)
     (cond (ltb (field p) 2047) Normal (cond (eqb (fraction p) 0) Infinite Nan))
-
--- e is E + 1022, for E the largest whole number with 2^E ≤ a/b, or -1022 if that is larger
-pub record IsExponent (a b e : ℕ) : Type 0 where
-  pub reached : 0 < e → b * 2 ^ e ≤ a * 2 ^ 1022
-  pub beyond : a * 2 ^ 1022 < b * 2 ^ suc e
 
 -- the sign is the exclusive or of the signs
 abbrev pub signOf : ℕ → ℕ → Bool

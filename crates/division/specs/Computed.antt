@@ -1,7 +1,7 @@
 -- Computed definitions: what the functions return, tied to the meaning in Ieee by the law `ieee`. The last, `divided`, is the answer through every table that passes
 -- (`binary64-through`), and the others are its parts. None need be believed; `ieee-one` shows that no other answer has that meaning.
 use mathlib.Core.Bool.{Bool, true, false, _&&_, _||_, cond}
-use Prim.Native.Nat.{ℕ, zero, suc, _+_, _*_, _/_, _%_, _^_}
+use Prim.Native.Nat.{ℕ, zero, suc, _+_, _*_, _%_, _^_}
 use lib.Dec.{leb, ltb, eqb}
 use Rattle.division.specs.declared.rounding.Mode.{Mode}
 use Rattle.division.specs.declared.rounding.Mode.the-variants.{Nearest, Toward, Away}
@@ -11,9 +11,10 @@ use Rattle.division.specs.declared.binary64.Class.the-variants.{Zero, Su
 use Rattle.division.specs.declared.binary64.Case.{Case}
 use Rattle.division.specs.declared.binary64.Case.the-variants.{Quiet, Invalid, ToInfinity, ByZero, ToZero, Finite}
 use Rattle.division.specs.declared.binary64.ByClass.{ByClass}
-use Rattle.division.specs.declared.binary64.ByClass.the-variants.{Decided, Quotient}
+use Rattle.division.specs.declared.binary64.ByClass.the-variants.{Decided, Undecided}
 use Rattle.division.specs.Rounding.{modeOf, signBit}
 use Rattle.division.specs.Binary64.{magnitude, classOf, signOf}
+use Rattle.division.specs.Ieee.{quotientScale, quotientPlace}
 
 -- ---- rounding, once for every operation that rounds
 
@@ -29,9 +30,9 @@ roundedTo Nearest k rest = nearest k rest
 roundedTo Toward k rest = k
 roundedTo Away k rest = cond (eqb rest 0) k (k + 1)
 
--- the rest of r over u: r is what a division by u leaves
-abbrev pub restOf : ℕ → ℕ → ℕ
-restOf r u = cond (eqb r 0) 0 (cond (ltb (2 * r) u) 1 (cond (eqb (2 * r) u) 2 3))
+-- the rest beyond k units, for a magnitude at m where half a unit taken j times lies at f j
+abbrev pub restAt : (ℕ → ℕ) → ℕ → ℕ → ℕ
+restAt f m k = cond (eqb m (f (2 * k))) 0 (cond (ltb m (f (2 * k + 1))) 1 (cond (eqb m (f (2 * k + 1))) 2 3))
 
 -- what overflow gives: the largest finite number where the direction points toward zero, else infinity
 abbrev pub overflowOf : Mode → ℕ
@@ -54,26 +55,35 @@ assembled mode s e k rest K =
 abbrev pub packed : Mode → Bool → ℕ → ℕ → ℕ → Binary64Result
 packed mode s e k rest = assembled mode s e k rest (roundedTo mode k rest)
 
--- ---- the quotient of two magnitudes
+-- ---- an exact magnitude at m, on a scale: half a unit of 2^(e - 1074) taken j times lies at `scale e j`
 
--- E + 1022, for E the largest whole number with 2^E ≤ a/b, raised to -1022 if lower. 2^E ≤ a/b is b * 2^(E + 1022) ≤ a * 2^1022.
--- It is looked for from d down.
-unfoldable pub largest : ℕ → ℕ → ℕ → ℕ
-largest zero a b = 0
-largest (suc d) a b = elim (leb (b * 2 ^ suc d) (a * 2 ^ 1022)) [ true ↦ suc d | false ↦ largest d a b ]
+-- its exponent, looked for from d down: the largest at which it has 2^53 half units, or 0
+unfoldable pub largest : ℕ → (ℕ → ℕ → ℕ) → ℕ → ℕ
+largest zero scale m = 0
+largest (suc d) scale m = elim (leb (scale (suc d) (2 ^ 53)) m) [ true ↦ suc d | false ↦ largest d scale m ]
 
--- a magnitude is below 2^2098 units, so a/b is below 2^2098 and E + 1022 at most 3119
-unfoldable pub exponent : ℕ → ℕ → ℕ
-unfolding largest
-exponent a b = largest 3119 a b
+-- the greatest number from k on and below k + 2^n that f puts at m or before, bit by bit
+unfoldable pub greatest : ℕ → (ℕ → ℕ) → ℕ → ℕ → ℕ
+greatest zero f m k = k
+greatest (suc n) f m k = elim (leb (f (k + 2 ^ n)) m) [ true ↦ greatest n f m (k + 2 ^ n) | false ↦ greatest n f m k ]
 
--- a * 2^1074 is the quotient a/b's dividend in units of 2^-1074, and b * 2^e the unit's divisor
-unfoldable pub finiteQuotient : ℕ → Bool → ℕ → ℕ → Binary64Result
-unfolding exponent
-finiteQuotient direction s a b =
-    let e = exponent a b in
-    let u = b * 2 ^ e in
-    packed (modeOf direction s) s e (a * 2 ^ 1074 / u) (restOf (a * 2 ^ 1074 % u) u)
+abbrev pub unitsAt : (ℕ → ℕ) → ℕ → ℕ
+unitsAt f m = greatest 53 (λ k. f (2 * k)) m 0
+
+abbrev pub roundedUnits : Mode → Bool → (ℕ → ℕ) → ℕ → ℕ → ℕ → Binary64Result
+roundedUnits mode s f m e k = packed mode s e k (restAt f m k)
+
+abbrev pub roundedAt : Mode → Bool → (ℕ → ℕ → ℕ) → ℕ → ℕ → Binary64Result
+roundedAt mode s scale m e = roundedUnits mode s (scale e) m e (unitsAt (scale e) m)
+
+-- its answer; a magnitude is below 2^2098 units of 2^-1074, so a quotient of two is below 2^2098, and its e = E + 1022 at most 3119
+unfoldable pub finiteRounded : ℕ → Bool → (ℕ → ℕ → ℕ) → ℕ → Binary64Result
+unfolding largest greatest
+finiteRounded direction s scale m = roundedAt (modeOf direction s) s scale m (largest 3119 scale m)
+
+-- the quotient of two magnitudes
+abbrev pub finiteQuotient : ℕ → Bool → ℕ → ℕ → Binary64Result
+finiteQuotient direction s a b = finiteRounded direction s (quotientScale b) (quotientPlace a)
 
 -- ---- the classes
 
@@ -115,16 +125,16 @@ decided s Invalid = Decided (record { pattern = 0x7FF8_0000_0000_0000; flags = 1
 decided s ToInfinity = Decided (record { pattern = signBit s + 0x7FF0_0000_0000_0000; flags = 0 })
 decided s ByZero = Decided (record { pattern = signBit s + 0x7FF0_0000_0000_0000; flags = 8 })
 decided s ToZero = Decided (record { pattern = signBit s; flags = 0 })
-decided s Finite = Quotient
+decided s Finite = Undecided
 
 abbrev pub byClass : ℕ → ℕ → ByClass
 byClass a b = decided (signOf a b) (caseOf (classOf a) (classOf b))
 
 -- else it is x
-abbrev pub orQuotient : Binary64Result → ByClass → Binary64Result
-orQuotient x (Decided y) = y
-orQuotient x Quotient = x
+abbrev pub orRounded : Binary64Result → ByClass → Binary64Result
+orRounded x (Decided y) = y
+orRounded x Undecided = x
 
 -- a / b, in a direction
 abbrev pub divided : ℕ → ℕ → ℕ → Binary64Result
-divided direction a b = orQuotient (finiteQuotient direction (signOf a b) (magnitude a) (magnitude b)) (byClass a b)
+divided direction a b = orRounded (finiteQuotient direction (signOf a b) (magnitude a) (magnitude b)) (byClass a b)

@@ -1,10 +1,11 @@
 pub mod Whole
 pub mod Rounding
 pub mod Binary64
+pub mod Rounded
+pub mod Ieee
 pub mod Computed
 pub mod Through
 pub mod Working
-pub mod Ieee
 pub mod Demand1
 pub mod Demand2
 pub mod Demand3

@@ -12,7 +12,7 @@ use Rattle.recurrence.specs.Recurrence.{resultOf}
 use Rattle.division.specs.Whole.{shiftTo}
 use Rattle.division.specs.Rounding.{modeOf}
 use Rattle.division.specs.Binary64.{field, fraction, signOf}
-use Rattle.division.specs.Computed.{packed, byClass, orQuotient}
+use Rattle.division.specs.Computed.{packed, byClass, orRounded}
 use Rattle.division.specs.declared.binary64.Scaled.{Scaled}
 use Rattle.division.specs.declared.binary64.Aligned.{Aligned}
 use Rattle.division.specs.declared.binary64.Binary64Result.{Binary64Result}
@@ -52,7 +52,7 @@ scaledThrough t direction s x y = roundedQuotient direction s (ratioThrough t (x
 
 -- a / b, its significands' quotient by the digits of the table t
 abbrev pub binary64Through : List ℕ → ℕ → ℕ → ℕ → Binary64Result
-binary64Through t direction a b = orQuotient (scaledThrough t direction (signOf a b) (significandOf a) (significandOf b)) (byClass a b)
+binary64Through t direction a b = orRounded (scaledThrough t direction (signOf a b) (significandOf a) (significandOf b)) (byClass a b)
 
 -- what is refused of the arguments. 6: direction above 3
 unfoldable pub binary64Rungs : ℕ → List Rung

@@ -1,0 +1,83 @@
+-- Of two answers that `Rounded` accepts for one exact magnitude, one is the other, on every scale. Assumes nothing.
+use mathlib.Core.Path.{_≡_, refl, sym, ap, ap₂, subst, _∙_}
+use mathlib.Core.Bool.{Bool, true, false}
+use mathlib.Core.Logic.{⊎-elim}
+use Prim.Native.Nat.{ℕ, suc, _+_, _-_, _*_, _/_, _^_, _≤_, _<_}
+use native.Mathlib.Nat.{mul-le-mul-left, mul-lt-mul-of-pos-right, eq-zero-or-pos, pow-suc, mul-div-cancel}
+use native.Mathlib.Omega.{arith}
+use lib.Pow.{pow-pos, pow-mono}
+use borrow.Author.Tests.{ne-eqb, leb-true, leb-false}
+use Rattle.laws.proofs.Division.{either}
+use Rattle.division.specs.Rounding.{modeOf, Rounds}
+use Rattle.division.specs.Binary64.{negative, field, fraction, magnitude}
+use Rattle.division.specs.Rounded.{flagsOfResult, Rounded}
+use Rattle.division.specs.declared.binary64.Binary64Result.{Binary64Result}
+use Rattle.division.proofs.Nearest.{rounds-one}
+use Rattle.division.proofs.Scales.{Increasing, exponent-one}
+
+-- a magnitude lies in the span that its exponent field gives
+magnitude-above : (p : ℕ) → 0 < field p → 2 ^ 52 * 2 ^ (field p - 1) ≤ magnitude p
+magnitude-above p h = rw (ne-eqb (field p) 0 (omega arith)) (omega arith)
+
+magnitude-under : (p : ℕ) → magnitude p < 2 ^ 52 * 2 ^ field p
+magnitude-under p = ⊎-elim
+    (λ (z : field p ≡ 0). rw z (omega arith))
+    (λ (g : 0 < field p).
+    let e : field p ≡ suc (field p - 1) = omega arith in
+    let d : 2 ^ field p ≡ 2 ^ (field p - 1) * 2 = ap (λ (n : ℕ). 2 ^ n) e ∙ pow-suc 2 (field p - 1) in
+    rw (ne-eqb (field p) 0 (omega arith)) (omega (arith, d, mul-lt-mul-of-pos-right {m = 2 ^ 52 + fraction p} {n = 2 ^ 53} {k = 2 ^ (field p - 1)} (omega arith) (pow-pos (field p - 1)))))
+    (eq-zero-or-pos (field p))
+
+-- so a greater exponent field is a greater magnitude
+field-order : (p q : ℕ) → field p < field q → magnitude p < magnitude q
+field-order p q h =
+    omega (arith, magnitude-under p, magnitude-above q (omega arith), mul-le-mul-left (2 ^ 52) (pow-mono {i = field p} {j = field q - 1} (omega arith)))
+
+-- a magnitude has one exponent field and one fraction
+field-one : (p q : ℕ) → magnitude p ≡ magnitude q → field p ≡ field q
+field-one p q e = ⊎-elim
+    (λ (g : field p ≤ field q). ⊎-elim (λ (h : field q ≤ field p). omega arith) (λ (h : field p < field q). absurd (omega (arith, field-order p q h))) (either (field q) (field p)))
+    (λ (g : field q < field p). absurd (omega (arith, field-order q p g)))
+    (either (field p) (field q))
+
+fraction-one : (p q : ℕ) → magnitude p ≡ magnitude q → field p ≡ field q → fraction p ≡ fraction q
+fraction-one p q e f = ⊎-elim
+    (λ (z : field q ≡ 0). rw (f, z) at e)
+    (λ (g : 0 < field q).
+    let d = rw (f, ne-eqb (field q) 0 (omega arith)) at e in
+    let k : 0 < 2 ^ (field q - 1) = pow-pos (field q - 1) in
+    let w : 2 ^ 52 + fraction p ≡ 2 ^ 52 + fraction q = sym (mul-div-cancel _ k) ∙ ap (λ (n : ℕ). n / 2 ^ (field q - 1)) d ∙ mul-div-cancel _ k in
+    omega arith)
+    (eq-zero-or-pos (field q))
+
+-- a 64-bit pattern is determined by its magnitude and its sign
+pattern-one : (p q : ℕ) → p < 2 ^ 64 → q < 2 ^ 64 → magnitude p ≡ magnitude q → negative p ≡ negative q → p ≡ q
+pattern-one p q hp hq e s =
+    let f = field-one p q e in
+    let r = fraction-one p q e f in
+    go (negative p) refl s f r
+  where
+    go : (x : Bool) → negative p ≡ x → x ≡ negative q → field p ≡ field q → fraction p ≡ fraction q → p ≡ q
+    go true i j f r = omega (arith, leb-true (2 ^ 63) p i, leb-true (2 ^ 63) q (sym j))
+    go false i j f r = omega (arith, leb-false (2 ^ 63) p i, leb-false (2 ^ 63) q (sym j))
+
+module _ (direction : ℕ) (s : Bool) (scale : ℕ → ℕ → ℕ) (inc : Increasing scale) (m : ℕ) {x y : Binary64Result} (u : Rounded direction s scale m x) (v : Rounded direction s scale m y) where
+  exponents : u .e ≡ v .e
+  exponents = exponent-one scale inc m (u .e) (v .e) (u .exponent) (v .exponent)
+
+  multiples : u .K ≡ v .K
+  multiples = rounds-one (scale (v .e)) (inc .up (v .e)) (modeOf direction s) m (u .K) (v .K)
+      (subst (λ (e : ℕ). Rounds (modeOf direction s) (scale e) m (u .K)) exponents (u .rounded)) (v .rounded)
+
+  pub rounded-one : x ≡ y
+  rounded-one = ⊎-elim
+      (λ (h : 2 ^ 2098 ≤ u .K * 2 ^ u .e). u .over h ∙ sym (v .over (rw (multiples, exponents) at h)))
+      (λ (h : u .K * 2 ^ u .e < 2 ^ 2098).
+      let k = rw (multiples, exponents) at h in
+      ap₂ result
+      (pattern-one (x .pattern) (y .pattern) (u .word h) (v .word k) (u .value h ∙ ap₂ (λ (m n : ℕ). m * 2 ^ n) multiples exponents ∙ sym (v .value k)) (u .sign h ∙ sym (v .sign k)))
+      (u .flags h ∙ ap₂ (flagsOfResult scale m) exponents multiples ∙ sym (v .flags k)))
+      (either (2 ^ 2098) (u .K * 2 ^ u .e))
+    where
+      result : ℕ → ℕ → Binary64Result
+      result p f = record { pattern = p; flags = f }
