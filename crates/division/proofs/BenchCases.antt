@@ -1,5 +1,4 @@
 -- Bench cases 1 to 12: one collection, one result.
--- Assumes nothing.
 use mathlib.Core.Path.{_≡_, refl, sym, ap, subst}
 use mathlib.Core.List.{List}
 use Prim.Native.Nat.{ℕ}
@@ -8,7 +7,7 @@ use lib.Dec.{lit<}
 use Rattle.selection.specs.Word.{signed}
 use Rattle.selection.specs.Answer.{refusal}
 use Rattle.selection.specs.Cell.{digit, estimate}
-use Rattle.selection.specs.Selection.{MadeTable}
+use Rattle.selection.specs.Maker.{MadeTable}
 use Rattle.selection.specs.Computed.{madeTable, listFrom, madeOf, allowsOf}
 use Rattle.selection.proofs.CellCases.{case-1, case-2, case-3, case-4, case-5, case-6, case-7}
 use Rattle.selection.proofs.MadeTables.{made-bytes, kept-passes}
@@ -16,7 +15,7 @@ use Rattle.selection.proofs.Orders.{passed-last}
 use Rattle.recurrence.specs.Recurrence.{digits, after, nextOf, value, endRemainder, resultOf}
 use Rattle.division.specs.Whole.{wholeRungs, wholeValues, wholeOf}
 use Rattle.division.specs.Computed.{finiteRounded}
-use Rattle.division.specs.Through.{binary64Rungs, binary64Values, binary64Of}
+use Rattle.division.specs.Binary64.{binary64Rungs, binary64Values, binary64Of}
 use Rattle.division.specs.BenchCases.{Case8, Case9, BenchCases}
 use Rattle.division.proofs.Calls.{whole-clear, direction-clear}
 use Rattle.division.proofs.WholeThrough.{whole-divides}

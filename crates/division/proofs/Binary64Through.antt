@@ -1,4 +1,4 @@
--- Binary64 through a table that passes: the run's digits give the definition's quotient. Assumes nothing.
+-- Binary64 through a table that passes: the run's digits give the definition's quotient.
 use mathlib.Core.Path.{_≡_, refl, sym}
 use mathlib.Core.Bool.{Bool}
 use mathlib.Core.Logic.{⊎-elim}
@@ -9,16 +9,16 @@ use native.Mathlib.Omega.{arith}
 use lib.Dec.{lit<}
 use lib.Pow.{pow-add}
 use borrow.Author.Tests.{ne-eqb, le-leb, lt-leb}
-use Rattle.laws.proofs.Division.{either}
+use Rattle.laws.proofs.Division.{le-or-lt}
 use Rattle.laws.proofs.Powers.{lifted}
 use Rattle.selection.specs.Table.{Passes}
 use Rattle.recurrence.specs.Recurrence.{Operands, resultOf}
 use Rattle.recurrence.proofs.RunDemand.{result-divides}
-use Rattle.division.specs.Whole.{shiftTo}
-use Rattle.division.specs.Binary64.{magnitude, field, fraction, signOf}
-use Rattle.division.specs.Computed.{finiteQuotient, byClass, orRounded, divided}
-use Rattle.division.specs.Through.{sticky, significandOf, ratioThrough, alignedOf, roundedQuotient, scaledThrough, binary64Through}
-use Rattle.division.specs.Working.{FiniteNonzero}
+use Rattle.division.specs.WholeSteps.{shiftTo}
+use Rattle.division.specs.Format.{magnitude, field, fraction, signOf}
+use Rattle.division.specs.Computed.{finiteQuotient, byClass, orRounded, quotientOf}
+use Rattle.division.specs.Binary64Steps.{sticky, ratioThrough, alignedOf, roundedQuotient, scaledThrough, binary64Through}
+use Rattle.division.specs.Significands.{significandOf, FiniteNonzero}
 use Rattle.division.specs.declared.binary64.ByClass.{ByClass}
 use Rattle.division.specs.declared.binary64.ByClass.the-variants.{Decided, Undecided}
 use Rattle.division.proofs.Sticky.{ratio-is, cut-high, cut-low}
@@ -80,7 +80,7 @@ aligned-right w up down lw hw hu hd =
       high = cut-high w (down - up) hw (omega arith);
       small = omega arith;
     }))
-    (either down (up + extra))
+    (le-or-lt down (up + extra))
 
 -- the quotient of two finite patterns that are no zeros
 finite-through : (t : List ℕ) (direction : ℕ) (s : Bool) (a b : ℕ) → Passes t → FiniteNonzero a → FiniteNonzero b
@@ -95,7 +95,7 @@ finite-through t direction s a b p ua ub =
     sym (aligned-is direction s (magnitude a) (magnitude b) (ratioThrough t (x .sig) (y .sig)) x y (alignedOf (ratioThrough t (x .sig) (y .sig)) (x .exp + 1021) (y .exp)) (ub .some) sx sy (w .0)
     (aligned-right (ratioThrough t (x .sig) (y .sig)) (x .exp + 1021) (y .exp) (w .2) (w .3) (omega (arith, sx .bits .small)) (sy .bits .small)))
 
-pub binary64-through : (t : List ℕ) (direction a b : ℕ) → Passes t → binary64Through t direction a b ≡ divided direction a b
+pub binary64-through : (t : List ℕ) (direction a b : ℕ) → Passes t → binary64Through t direction a b ≡ quotientOf direction a b
 binary64-through t direction a b p = go (byClass a b) refl
   where
     go : (k : ByClass) → byClass a b ≡ k → orRounded (scaledThrough t direction (signOf a b) (significandOf a) (significandOf b)) k ≡ orRounded (finiteQuotient direction (signOf a b) (magnitude a) (magnitude b)) k

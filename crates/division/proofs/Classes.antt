@@ -1,4 +1,4 @@
--- The classes of operands: which make the finite case, and what patterns of them have. Assumes nothing.
+-- The classes of operands: which make the finite case, and what patterns of them have.
 use mathlib.Core.Path.{_≡_, refl, sym, ap, subst, _∙_}
 use mathlib.Core.Bool.{Bool, true, false, cond}
 use mathlib.Core.Logic.{⊎-elim}
@@ -8,16 +8,16 @@ use native.Mathlib.Omega.{arith}
 use lib.Dec.{eqb}
 use lib.Pow.{pow-pos}
 use borrow.Author.Tests.{le-ltb, ne-eqb}
-use Rattle.division.specs.declared.binary64.Class.{Class}
-use Rattle.division.specs.declared.binary64.Class.the-variants.{Zero, Subnormal, Normal, Infinite, Nan}
+use Rattle.division.specs.declared.format.Class.{Class}
+use Rattle.division.specs.declared.format.Class.the-variants.{Zero, Subnormal, Normal, Infinite, Nan}
 use Rattle.division.specs.declared.binary64.Case.{Case}
 use Rattle.division.specs.declared.binary64.Case.the-variants.{Quiet, Invalid, ToInfinity, ByZero, ToZero, Finite}
 use Rattle.division.specs.declared.binary64.ByClass.the-variants.{Undecided}
-use Rattle.division.specs.Binary64.{classOf, field, fraction, signOf}
+use Rattle.division.specs.Format.{classOf, field, fraction, signOf}
 use Rattle.division.specs.Computed.{caseOf, decided, byClass}
-use Rattle.division.specs.Working.{FiniteNonzero}
+use Rattle.division.specs.Significands.{FiniteNonzero}
 use Rattle.division.specs.Ieee.{IsNonzero, IsFinite}
-use Rattle.laws.proofs.Division.{either}
+use Rattle.laws.proofs.Division.{le-or-lt}
 
 -- the classes of the finite case
 abbrev counts : Class → Bool
@@ -63,7 +63,7 @@ counted p e = ⊎-elim
     (λ (f : 0 < field p). ⊎-elim
     (λ (g : 2047 ≤ field p). let w = rw (ne-eqb (field p) 0 (omega arith), le-ltb (field p) 2047 g) at e in absurd (last (eqb (fraction p) 0) w))
     (λ (g : field p < 2047). record { some = rw (ne-eqb (field p) 0 (omega arith)) (mul-pos {m = 2 ^ 52 + fraction p} (omega arith) (pow-pos (field p - 1))); finite = g })
-    (either 2047 (field p)))
+    (le-or-lt 2047 (field p)))
     (eq-zero-or-pos (field p))
   where
     last : (b : Bool) → counts (cond b Infinite Nan) ≡ true → ⊥

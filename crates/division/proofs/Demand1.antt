@@ -1,4 +1,4 @@
--- Demand 1: the answers of all calls are those of their ladders. Assumes nothing.
+-- Demand 1: the answers of all calls are those of their ladders.
 use mathlib.Core.Path.{_≡_, refl, sym, ap, subst, _∙_}
 use mathlib.Core.List.{List, _++_}
 use mathlib.Core.Logic.{⊎-elim}
@@ -22,8 +22,10 @@ use Rattle.selection.proofs.Reports.{report-checked, table-ladder, admission-la
 use Rattle.recurrence.specs.Recurrence.{digits, resultOf}
 use Rattle.recurrence.specs.Run.{runRungs, written, runZeros, runValues}
 use Rattle.recurrence.proofs.Refusals.{run-ladder, run-lent}
-use Rattle.division.specs.Whole.{wholeRungs, wholeThrough, wholeZeros, wholeValues}
-use Rattle.division.specs.Through.{binary64Rungs, binary64Through, binary64Zeros, binary64Values}
+use Rattle.division.specs.Whole.{wholeRungs, wholeZeros, wholeValues}
+use Rattle.division.specs.WholeSteps.{wholeThrough}
+use Rattle.division.specs.Binary64.{binary64Rungs, binary64Zeros, binary64Values}
+use Rattle.division.specs.Binary64Steps.{binary64Through}
 use Rattle.division.specs.Demand1.{Carries, CheckRefuses, RunRefuses, Demand1}
 use Rattle.division.proofs.Calls.{whole-ladder, whole-lent, binary64-ladder, binary64-lent}
 

@@ -1,4 +1,4 @@
--- Demand 2. Assumes nothing.
+-- Demand 2.
 use mathlib.Core.Path.{refl, sym}
 use mathlib.Core.List.{List}
 use Prim.Native.Nat.{ℕ, _^_, _≤_, _<_}
@@ -8,7 +8,7 @@ use Rattle.selection.specs.Table.{Passes}
 use Rattle.selection.proofs.Orders.{passed-last}
 use Rattle.selection.proofs.MadeTables.{kept-passes}
 use Rattle.division.specs.Whole.{wholeRungs, wholeOf}
-use Rattle.division.specs.Through.{binary64Rungs, binary64Of}
+use Rattle.division.specs.Binary64.{binary64Rungs, binary64Of}
 use Rattle.division.specs.Demand2.{Divides, DividesBinary64, RightThrough, Demand2}
 use Rattle.division.proofs.Calls.{whole-clear, direction-clear}
 use Rattle.division.proofs.WholeThrough.{whole-divides}

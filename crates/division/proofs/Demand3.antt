@@ -1,5 +1,4 @@
 -- Demand 3, whole.
--- Assumes nothing.
 use mathlib.Core.Path.{_≡_, refl, sym, ap, subst, _∙_}
 use mathlib.Core.List.{List}
 use mathlib.Core.Logic.{_↔_}
@@ -16,10 +15,11 @@ use Rattle.selection.proofs.UniqueReport.{checked-one}
 use Rattle.selection.proofs.Reports.{report-checked}
 use Rattle.selection.proofs.Orders.{passed-last}
 use Rattle.selection.proofs.MadeTables.{kept-passes}
-use Rattle.selection.proofs.Exact.{refused-exactly}
+use Rattle.selection.proofs.RefusedExactly.{refused-exactly}
 use Rattle.recurrence.proofs.RunDemand.{run-claim, run-same}
-use Rattle.division.specs.Whole.{wholeRungs, wholeThrough, wholeZeros, wholeValues, wholeOf}
-use Rattle.division.specs.Through.{binary64Rungs, binary64Of}
+use Rattle.division.specs.Whole.{wholeRungs, wholeZeros, wholeValues, wholeOf}
+use Rattle.division.specs.WholeSteps.{wholeThrough}
+use Rattle.division.specs.Binary64.{binary64Rungs, binary64Of}
 use Rattle.division.specs.Demand3.{Demand3}
 use Rattle.division.proofs.WholeThrough.{whole-divides}
 use Rattle.division.proofs.Binary64Through.{binary64-through}

@@ -1,4 +1,4 @@
--- Binary64 division means what document 01 says, for every pair of operands and through every table that passes. Assumes nothing.
+-- Binary64 division means what document 01 says, for every pair of operands and through every table that passes.
 use mathlib.Core.Path.{_≡_, refl, sym, ap, ap₂, subst, _∙_}
 use mathlib.Core.Logic.{⊎-elim}
 use Prim.Native.Nat.{ℕ, zero, _-_, _^_, _<_}
@@ -8,12 +8,12 @@ use lib.Dec.{lit≤}
 use mathlib.Core.List.{List}
 use lib.Pow.{pow-pos, pow-mono}
 use borrow.Author.Tests.{ne-eqb}
-use Rattle.division.specs.Binary64.{magnitude, field, classOf, signOf}
-use Rattle.division.specs.Computed.{finiteQuotient, caseOf, decided, orRounded, divided}
-use Rattle.division.specs.Through.{binary64Through}
+use Rattle.division.specs.Format.{magnitude, field, classOf, signOf}
+use Rattle.division.specs.Computed.{finiteQuotient, caseOf, decided, orRounded, quotientOf}
+use Rattle.division.specs.Binary64Steps.{binary64Through}
 use Rattle.division.specs.Ieee.{RoundedQuotient, Ieee}
-use Rattle.division.specs.declared.binary64.Class.{Class}
-use Rattle.division.specs.declared.binary64.Class.the-variants.{Zero, Subnormal, Normal, Infinite, Nan}
+use Rattle.division.specs.declared.format.Class.{Class}
+use Rattle.division.specs.declared.format.Class.the-variants.{Zero, Subnormal, Normal, Infinite, Nan}
 use Rattle.division.specs.declared.binary64.Case.{Case}
 use Rattle.division.specs.declared.binary64.Case.the-variants.{Quiet, Invalid, ToInfinity, ByZero, ToZero, Finite}
 use Rattle.selection.specs.Table.{Passes}
@@ -32,7 +32,7 @@ magnitude-below p h = ⊎-elim
 
 -- the answer of a case
 answer-of : (direction a b : ℕ) (x y : Class) (k : Case) → classOf a ≡ x → classOf b ≡ y → caseOf x y ≡ k
-    → divided direction a b ≡ orRounded (finiteQuotient direction (signOf a b) (magnitude a) (magnitude b)) (decided (signOf a b) k)
+    → quotientOf direction a b ≡ orRounded (finiteQuotient direction (signOf a b) (magnitude a) (magnitude b)) (decided (signOf a b) k)
 answer-of direction a b x y k e f g = ap (λ (k : Case). orRounded (finiteQuotient direction (signOf a b) (magnitude a) (magnitude b)) (decided (signOf a b) k)) (ap₂ caseOf e f ∙ g)
 
 right-nan : (x : Class) → caseOf x Nan ≡ Quiet
@@ -45,7 +45,7 @@ right-nan Nan = refl
 left-nan : (y : Class) → caseOf Nan y ≡ Quiet
 left-nan y = refl
 
-pub ieee : (direction a b : ℕ) → Ieee direction a b (divided direction a b)
+pub ieee : (direction a b : ℕ) → Ieee direction a b (quotientOf direction a b)
 ieee direction a b =
     record {
       nan = ⊎-elim

@@ -1,13 +1,12 @@
 -- Of two answers that `Ieee` accepts for the same operands, one is the other: nothing of a quotient is left to chance.
--- Assumes nothing.
 use mathlib.Core.Path.{_≡_, refl, sym, _∙_}
 use mathlib.Core.Logic.{inl, inr}
 use Prim.Native.Nat.{ℕ}
-use Rattle.division.specs.Binary64.{magnitude, classOf, signOf}
+use Rattle.division.specs.Format.{magnitude, classOf, signOf}
 use Rattle.division.specs.Ieee.{quotientScale, quotientPlace, IsNonzero, Ieee}
-use Rattle.division.specs.declared.binary64.Binary64Result.{Binary64Result}
-use Rattle.division.specs.declared.binary64.Class.{Class}
-use Rattle.division.specs.declared.binary64.Class.the-variants.{Zero, Subnormal, Normal, Infinite, Nan}
+use Rattle.division.specs.declared.format.Binary64Result.{Binary64Result}
+use Rattle.division.specs.declared.format.Class.{Class}
+use Rattle.division.specs.declared.format.Class.the-variants.{Zero, Subnormal, Normal, Infinite, Nan}
 use Rattle.division.proofs.Classes.{nonzero-operand}
 use Rattle.division.proofs.Quotient.{quotient-increasing}
 use Rattle.division.proofs.RoundedOne.{rounded-one}

@@ -1,6 +1,6 @@
 pub mod Sticky
 pub mod Nearest
-pub mod Packing
+pub mod RoundedResults
 pub mod Scales
 pub mod Meaning
 pub mod Rounded

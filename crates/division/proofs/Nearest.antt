@@ -1,5 +1,5 @@
 -- What rounding means. An exact magnitude x is given by an increasing scale f and a number m: half a unit taken j times lies at f j, and x at m.
--- A quotient n / u has f j = j * u and m = 2 * n; a root has squares. Rounding is stated and shown once, for every scale. Assumes nothing.
+-- A quotient n / u has f j = j * u and m = 2 * n; a root has squares. Rounding is stated and shown once, for every scale.
 use mathlib.Core.Path.{_≡_, sym, ap}
 use mathlib.Core.Logic.{inl, inr, ⊎-elim}
 use Prim.Native.Nat.{ℕ, suc, min, _+_, _-_, _*_, _/_, _%_, _≤_, _<_}
@@ -9,8 +9,8 @@ use borrow.Author.Tests.{lt-ltb, le-ltb, eq-eqb, ne-eqb}
 use Rattle.division.specs.declared.rounding.Mode.{Mode}
 use Rattle.division.specs.declared.rounding.Mode.the-variants.{Nearest, Toward, Away}
 use Rattle.division.specs.Rounding.{AwayFromZero, ToNearest, Rounds}
-use Rattle.division.specs.Computed.{roundedTo, restAt}
-use Rattle.laws.proofs.Division.{either}
+use Rattle.division.specs.Computed.{roundedTo, tailAt}
+use Rattle.laws.proofs.Division.{le-or-lt}
 
 parity : (y : ℕ) → suc y % 2 ≡ 0 → y % 2 ≡ 0 → ⊥
 parity y p q = omega arith
@@ -24,10 +24,10 @@ module _ (f : ℕ → ℕ) (up : (i j : ℕ) → i < j → f i < f j) where
   pub rounds-mono : (mode : Mode) (m n x y : ℕ) → m ≤ n → Rounds mode f m x → Rounds mode f n y → x ≤ y
   rounds-mono Toward m n x y h p q = ⊎-elim (λ (g : x ≤ y). g)
       (λ (g : y < x). absurd (omega (arith, mono (2 * y + 2) (2 * x) (omega arith), p .under, q .next)))
-      (either x y)
+      (le-or-lt x y)
   rounds-mono Away m n x y h p q = ⊎-elim (λ (g : x ≤ y). g)
       (λ (g : y < x). absurd (omega (arith, mono (2 * y) (2 * x - 2) (omega arith), q .over, p .last (omega arith))))
-      (either x y)
+      (le-or-lt x y)
   rounds-mono Nearest m n x y h p q = ⊎-elim (λ (g : x ≤ y). g)
       (λ (g : y < x).
       let a : f (2 * x - 1) ≤ m = p .above (omega arith) in
@@ -37,16 +37,16 @@ module _ (f : ℕ → ℕ) (up : (i j : ℕ) → i < j → f i < f j) where
       let c : f (2 * x - 1) ≡ f (2 * y + 1) = ap f e in
       let z : x ≡ suc y = omega arith in
       absurd (parity y (rw z at (p .even (inr (omega arith, omega arith)))) (q .even (inl (omega arith)))))
-      (either x y)
+      (le-or-lt x y)
 
   -- no two numbers round one magnitude
   pub rounds-one : (mode : Mode) (m x y : ℕ) → Rounds mode f m x → Rounds mode f m y → x ≡ y
   rounds-one mode m x y p q = omega (arith, rounds-mono mode m m x y (le-refl m) p q, rounds-mono mode m m y x (le-refl m) q p)
 
-  -- the rounding of k units and a rest is the rounding of the exact magnitude
+  -- the rounding of k units and a tail is the rounding of the exact magnitude
   module _ (m k : ℕ) (low : f (2 * k) ≤ m) (high : m < f (2 * k + 2)) where
     -- the four places of m
-    pub place : (P : ℕ → Type 0) → (m ≡ f (2 * k) → P 0) → (f (2 * k) < m → m < f (2 * k + 1) → P 1) → (m ≡ f (2 * k + 1) → P 2) → (f (2 * k + 1) < m → P 3) → P (restAt f m k)
+    pub place : (P : ℕ → Type 0) → (m ≡ f (2 * k) → P 0) → (f (2 * k) < m → m < f (2 * k + 1) → P 1) → (m ≡ f (2 * k + 1) → P 2) → (f (2 * k + 1) < m → P 3) → P (tailAt f m k)
     place P p0 p1 p2 p3 = ⊎-elim
         (λ (e : f (2 * k) ≡ m). rw (eq-eqb m (f (2 * k)) (sym e)) (p0 (sym e)))
         (λ (g : f (2 * k) < m). rw (ne-eqb m (f (2 * k)) (omega arith)) (⊎-elim
@@ -55,7 +55,7 @@ module _ (f : ℕ → ℕ) (up : (i j : ℕ) → i < j → f i < f j) where
         (λ (l : f (2 * k + 1) < m). rw (ne-eqb m (f (2 * k + 1)) (omega arith)) (p3 l))
         (eq-or-lt-of-le h)))
         (λ (h : m < f (2 * k + 1)). rw (lt-ltb m (f (2 * k + 1)) h) (p1 g h))
-        (either (f (2 * k + 1)) m)))
+        (le-or-lt (f (2 * k + 1)) m)))
         (eq-or-lt-of-le low)
 
     next-even : f (2 * (k + 1)) ≡ f (2 * k + 2)
@@ -80,7 +80,7 @@ module _ (f : ℕ → ℕ) (up : (i j : ℕ) → i < j → f i < f j) where
         (λ (z : 0 < k % 2). let w : k + k % 2 ≡ k + 1 = omega arith in rw w (goes (le-of-eq (sym e)) (λ t. omega arith)))
         (eq-zero-or-pos (k % 2))
 
-    pub rounds : (mode : Mode) → Rounds mode f m (roundedTo mode k (restAt f m k))
+    pub rounds : (mode : Mode) → Rounds mode f m (roundedTo mode k (tailAt f m k))
     rounds Toward = record { under = low; next = high }
     rounds Away = place (λ r. AwayFromZero f m (roundedTo Away k r))
         (λ e. record { over = le-of-eq e; last = λ p. omega (arith, up (2 * k - 2) (2 * k) (omega arith)) })
@@ -96,7 +96,7 @@ module _ (f : ℕ → ℕ) (up : (i j : ℕ) → i < j → f i < f j) where
         tie
         (λ g. goes (le-of-lt g) (λ t. absurd (omega arith)))
 
--- h half units and a sticky bit, as code has them: the whole units are h / 2, and the rest is the lowest bit of h and the sticky bit
+-- h half units and a sticky bit, as code has them: the whole units are h / 2, and the tail is the lowest bit of h and the sticky bit
 module _ (f : ℕ → ℕ) (up : (i j : ℕ) → i < j → f i < f j) (m h : ℕ) (low : f h ≤ m) (high : m < f (h + 1)) where
   pub whole-units : (f (2 * (h / 2)) ≤ m) × (m < f (2 * (h / 2) + 2))
   whole-units = (
@@ -104,7 +104,7 @@ module _ (f : ℕ → ℕ) (up : (i j : ℕ) → i < j → f i < f j) (m h : ℕ
     lt-of-lt-of-le high (mono f up (h + 1) (2 * (h / 2) + 2) (omega arith)),
   )
 
-  pub halves : restAt f m (h / 2) ≡ 2 * (h % 2) + min 1 (m - f h)
+  pub halves : tailAt f m (h / 2) ≡ 2 * (h % 2) + min 1 (m - f h)
   halves =
       let l : f (h + 1) ≤ f (2 * (h / 2) + 2) = mono f up (h + 1) (2 * (h / 2) + 2) (omega arith) in
       place f up m (h / 2) (whole-units .0) (whole-units .1) (λ r. r ≡ 2 * (h % 2) + min 1 (m - f h))

@@ -1,5 +1,4 @@
 -- The quotient of two magnitudes: the exponent and the rounded part that the definition names are those of any sticky quotient in range.
--- Assumes nothing.
 use mathlib.Core.Path.{_≡_, refl, ap, _∙_}
 use mathlib.Core.Bool.{Bool}
 use Prim.Native.Nat.{ℕ, min, _+_, _-_, _*_, _/_, _%_, _^_, _≤_, _<_}
@@ -7,12 +6,12 @@ use native.Mathlib.Nat.{div-add-mod', mod-lt, mul-lt-mul-of-pos-right, mul-le-mu
 use native.Mathlib.Omega.{arith}
 use lib.Pow.{pow-add, pow-pos}
 use Rattle.division.specs.Rounding.{modeOf}
-use Rattle.division.specs.Through.{sticky}
-use Rattle.division.specs.declared.binary64.Scaled.{Scaled}
+use Rattle.division.specs.Binary64Steps.{sticky}
+use Rattle.division.specs.declared.format.Scaled.{Scaled}
 use Rattle.division.specs.declared.binary64.Aligned.{Aligned}
 use Rattle.division.specs.Ieee.{quotientScale, quotientPlace, RoundedQuotient}
-use Rattle.division.specs.Computed.{packed, finiteQuotient}
-use Rattle.division.specs.Working.{Normalized}
+use Rattle.division.specs.Computed.{roundedResult, finiteQuotient}
+use Rattle.division.specs.Significands.{Normalized}
 use Rattle.division.proofs.Sticky.{sticky-cross, sticky-sticky}
 use Rattle.division.proofs.Scales.{Increasing}
 use Rattle.division.proofs.Rounded.{finite-rounded, finite-is}
@@ -24,11 +23,11 @@ pub record ScaledTo (m : ℕ) (x : Scaled) : Type 0 where
 
 -- at the exponent e, w * 2^(up - down) is cut down by e + down - up bits
 pub record AlignedTo (w up down : ℕ) (x : Aligned) : Type 0 where
-  pub reach : up ≤ x .e + down
-  pub value : x .v ≡ sticky w (2 * 2 ^ (x .e + down - up))
-  pub low : 2 ^ 54 * min 1 (x .e) ≤ x .v
-  pub high : x .v < 2 ^ 55
-  pub small : x .e ≤ 3119
+  pub reach : up ≤ x .exponent + down
+  pub value : x .quarters ≡ sticky w (2 * 2 ^ (x .exponent + down - up))
+  pub low : 2 ^ 54 * min 1 (x .exponent) ≤ x .quarters
+  pub high : x .quarters < 2 ^ 55
+  pub small : x .exponent ≤ 3119
 
 -- the scale of a quotient
 pub quotient-increasing : (b : ℕ) → 0 < b → Increasing (quotientScale b)
@@ -58,7 +57,7 @@ above e h r v q low high = omega arith
 
 -- any e and v in range, v the sticky quotient at half units of 2^(e - 1074), give the definition's answer
 pub quotient-is : (direction : ℕ) (s : Bool) (a b e v : ℕ) → 0 < b → e ≤ 3119 → v ≡ sticky (quotientPlace a) (b * 2 ^ e) → 2 ^ 54 * min 1 e ≤ v → v < 2 ^ 55
-    → finiteQuotient direction s a b ≡ packed (modeOf direction s) s e (v / 4) (v % 4)
+    → finiteQuotient direction s a b ≡ roundedResult (modeOf direction s) s e (v / 4) (v % 4)
 quotient-is direction s a b e v p l q low high =
     let n = quotientPlace a in
     let u = b * 2 ^ e in
@@ -84,9 +83,9 @@ meets a b e t x y sx sy p eq =
 
 -- the steps of the code, together
 pub aligned-is : (direction : ℕ) (s : Bool) (a b w : ℕ) (x y : Scaled) (at : Aligned) → 0 < b → ScaledTo a x → ScaledTo b y → w ≡ sticky (x .sig * 2 ^ 54) (y .sig)
-    → AlignedTo w (x .exp + 1021) (y .exp) at → finiteQuotient direction s a b ≡ packed (modeOf direction s) s (at .e) (at .v / 4) (at .v % 4)
+    → AlignedTo w (x .exp + 1021) (y .exp) at → finiteQuotient direction s a b ≡ roundedResult (modeOf direction s) s (at .exponent) (at .quarters / 4) (at .quarters % 4)
 aligned-is direction s a b w x y at p sx sy ew sa =
-    let t = at .e + y .exp - (x .exp + 1021) in
-    let eq : at .e + y .exp ≡ x .exp + (1021 + t) = omega (arith, sa .reach) in
-    let v : at .v ≡ sticky (2 * (a * 2 ^ 1074)) (b * 2 ^ at .e) = sa .value ∙ ap (λ (n : ℕ). sticky n (2 * 2 ^ t)) ew ∙ meets a b (at .e) t x y sx sy p eq in
-    quotient-is direction s a b (at .e) (at .v) p (omega (arith, sa .small)) v (sa .low) (sa .high)
+    let t = at .exponent + y .exp - (x .exp + 1021) in
+    let eq : at .exponent + y .exp ≡ x .exp + (1021 + t) = omega (arith, sa .reach) in
+    let v : at .quarters ≡ sticky (2 * (a * 2 ^ 1074)) (b * 2 ^ at .exponent) = sa .value ∙ ap (λ (n : ℕ). sticky n (2 * 2 ^ t)) ew ∙ meets a b (at .exponent) t x y sx sy p eq in
+    quotient-is direction s a b (at .exponent) (at .quarters) p (omega (arith, sa .small)) v (sa .low) (sa .high)

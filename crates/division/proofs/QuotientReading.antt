@@ -1,4 +1,4 @@
--- The meaning over a scale, at a quotient's scale, says what document 01 says of a/b: exponent, exactness, and what is below 2^-1022. Assumes nothing.
+-- The meaning over a scale, at a quotient's scale, says what document 01 says of a/b: exponent, exactness, and what is below 2^-1022.
 use mathlib.Core.Path.{_≡_}
 use mathlib.Core.Logic.{_↔_}
 use Prim.Native.Nat.{ℕ, suc, _*_, _^_, _≤_, _<_}

@@ -1,5 +1,4 @@
 -- The answer that the definition gives for an exact magnitude is that magnitude rounded once, with document 01's overflow value, sign and flags: shown once for every scale.
--- Assumes nothing.
 use mathlib.Core.Path.{_≡_, refl, sym, ap, ap₂, subst, _∙_}
 use mathlib.Core.Bool.{Bool, false, cond, _&&_}
 use mathlib.Core.Logic.{⊎-elim}
@@ -12,10 +11,10 @@ use Rattle.division.specs.declared.rounding.Mode.{Mode}
 use Rattle.division.specs.declared.rounding.Mode.the-variants.{Nearest, Toward, Away}
 use Rattle.division.specs.Rounding.{modeOf}
 use Rattle.division.specs.Rounded.{IsExponent, flagsOfResult, Rounded}
-use Rattle.division.specs.Computed.{roundedTo, restAt, flagsOf, packed, largest, unitsAt, roundedUnits, roundedAt, finiteRounded}
-use Rattle.laws.proofs.Division.{either}
+use Rattle.division.specs.Computed.{roundedTo, tailAt, flagsOf, roundedResult, largest, unitsAt, roundedUnits, roundedAt, finiteRounded}
+use Rattle.laws.proofs.Division.{le-or-lt}
 use Rattle.division.proofs.Nearest.{mono, place, rounds, whole-units, halves}
-use Rattle.division.proofs.Packing.{rounded-near}
+use Rattle.division.proofs.RoundedResults.{rounded-near}
 use Rattle.division.proofs.Meaning.{value-of, sign-of, field-of, word-of, flags-of-it, overflow-is}
 use Rattle.division.proofs.Scales.{Increasing, greatest-meets, greatest-one, order, beside, further, largest-meets, exponent-one, units-high, units-low}
 
@@ -30,9 +29,9 @@ module _ (f : ℕ → ℕ) (up : (i j : ℕ) → i < j → f i < f j) (m k : ℕ
   between x l h g e = ⊎-elim
       (λ (w : x ≤ k). omega (arith, mono f up (2 * x) (2 * k) (omega arith)))
       (λ (w : k < x). omega (arith, mono f up (2 * k + 2) (2 * x) (omega arith)))
-      (either x k)
+      (le-or-lt x k)
 
-  exact-test : (mode : Mode) → eqb (restAt f m k) 0 ≡ eqb (f (2 * roundedTo mode k (restAt f m k))) m
+  exact-test : (mode : Mode) → eqb (tailAt f m k) 0 ≡ eqb (f (2 * roundedTo mode k (tailAt f m k))) m
   exact-test mode = place f up m k low high (λ r. eqb r 0 ≡ eqb (f (2 * roundedTo mode k r)) m)
       (λ e. rw (exact-none mode k, eq-eqb _ _ (sym e)))
       (λ g l. some 1 g)
@@ -55,30 +54,30 @@ module _ (scale : ℕ → ℕ → ℕ) (inc : Increasing scale) (m : ℕ) where
         rw z (⊎-elim
         (λ (t : 2 ^ 52 ≤ k). rw (le-ltb k (2 ^ 52) t, le-ltb m (scale 0 (2 ^ 53)) (le-trans (order scale inc 0 (2 ^ 53) (2 * k) (omega arith)) l)))
         (λ (t : k < 2 ^ 52). rw (lt-ltb k (2 ^ 52) t, lt-ltb m (scale 0 (2 ^ 53)) (lt-of-lt-of-le h (order scale inc 0 (2 * k + 2) (2 ^ 53) (omega arith)))))
-        (either (2 ^ 52) k)))
-        (either 1 e)
+        (le-or-lt (2 ^ 52) k)))
+        (le-or-lt 1 e)
 
-    flags-meant : (mode : Mode) → flagsOf e k (restAt (scale e) m k) ≡ flagsOfResult scale m e (roundedTo mode k (restAt (scale e) m k))
+    flags-meant : (mode : Mode) → flagsOf e k (tailAt (scale e) m k) ≡ flagsOfResult scale m e (roundedTo mode k (tailAt (scale e) m k))
     flags-meant mode = ap₂ (λ (y z : Bool). cond y 0 (cond z 3 1)) (exact-test (scale e) (inc .up e) m k low high mode) tiny
 
-    -- k whole units and the rest beyond them, packed
-    pub packed-rounds : (direction : ℕ) (s : Bool) → Rounded direction s scale m (packed (modeOf direction s) s e k (restAt (scale e) m k))
-    packed-rounds direction s =
+    -- k whole units and the tail beyond them, roundedResult
+    pub result-rounds : (direction : ℕ) (s : Bool) → Rounded direction s scale m (roundedResult (modeOf direction s) s e k (tailAt (scale e) m k))
+    result-rounds direction s =
         let mode = modeOf direction s in
-        let rest = restAt (scale e) m k in
+        let tail = tailAt (scale e) m k in
         let i = units-high scale inc m e k is low high in
         let j = units-low scale inc m e k is low high in
         record {
           e = e;
-          K = roundedTo mode k rest;
+          K = roundedTo mode k tail;
           exponent = is;
           rounded = rounds (scale e) (inc .up e) m k low high mode;
           over = λ h. rw (le-leb _ _ h, ← overflow-is direction s) refl;
-          word = word-of mode s e k rest i j;
-          value = value-of mode s e k rest i j;
-          sign = sign-of mode s e k rest i j;
-          finite = field-of mode s e k rest i j;
-          flags = λ h. flags-of-it mode s e k rest i j h ∙ flags-meant mode;
+          word = word-of mode s e k tail i j;
+          value = value-of mode s e k tail i j;
+          sign = sign-of mode s e k tail i j;
+          finite = field-of mode s e k tail i j;
+          flags = λ h. flags-of-it mode s e k tail i j h ∙ flags-meant mode;
         }
 
   -- the whole units that the definition finds
@@ -110,11 +109,11 @@ module _ (scale : ℕ → ℕ → ℕ) (inc : Increasing scale) (m : ℕ) where
       let e = largest 3119 scale m in
       let is = largest-meets scale inc m 3119 h in
       let u = units-meet e is in
-      subst (Rounded direction s scale m) (sym (opened direction s)) (packed-rounds e (unitsAt (scale e) m) is (u .0) (u .1) direction s)
+      subst (Rounded direction s scale m) (sym (opened direction s)) (result-rounds e (unitsAt (scale e) m) is (u .0) (u .1) direction s)
 
   -- any e and h in range, h the whole half units of 2^(e - 1074), and v as code has it, h with a sticky bit below, give the definition's answer
   pub finite-is : (direction : ℕ) (s : Bool) (e h v : ℕ) → e ≤ 3119 → scale e h ≤ m → m < scale e (h + 1) → 2 ^ 53 * min 1 e ≤ h → h < 2 ^ 54 → v ≡ 2 * h + min 1 (m - scale e h)
-      → finiteRounded direction s scale m ≡ packed (modeOf direction s) s e (v / 4) (v % 4)
+      → finiteRounded direction s scale m ≡ roundedResult (modeOf direction s) s e (v / 4) (v % 4)
   finite-is direction s e h v l low high least most q =
       let mode = modeOf direction s in
       let beyond : m < scale e (2 ^ 54) = lt-of-lt-of-le high (order scale inc e (h + 1) (2 ^ 54) (omega arith)) in
@@ -125,4 +124,4 @@ module _ (scale : ℕ → ℕ → ℕ) (inc : Increasing scale) (m : ℕ) where
       let r = halves (scale e) (inc .up e) m h low high in
       let k4 : h / 2 ≡ v / 4 = omega arith in
       let r4 : 2 * (h % 2) + min 1 (m - scale e h) ≡ v % 4 = omega arith in
-      opened direction s ∙ ap (roundedAt mode s scale m) E ∙ ap (roundedUnits mode s (scale e) m e) k ∙ ap₂ (packed mode s e) k4 (r ∙ r4)
+      opened direction s ∙ ap (roundedAt mode s scale m) E ∙ ap (roundedUnits mode s (scale e) m e) k ∙ ap₂ (roundedResult mode s e) k4 (r ∙ r4)

@@ -1,4 +1,4 @@
--- Of two answers that `Rounded` accepts for one exact magnitude, one is the other, on every scale. Assumes nothing.
+-- Of two answers that `Rounded` accepts for one exact magnitude, one is the other, on every scale.
 use mathlib.Core.Path.{_≡_, refl, sym, ap, ap₂, subst, _∙_}
 use mathlib.Core.Bool.{Bool, true, false}
 use mathlib.Core.Logic.{⊎-elim}
@@ -7,11 +7,11 @@ use native.Mathlib.Nat.{mul-le-mul-left, mul-lt-mul-of-pos-right, eq-zero-or-pos
 use native.Mathlib.Omega.{arith}
 use lib.Pow.{pow-pos, pow-mono}
 use borrow.Author.Tests.{ne-eqb, leb-true, leb-false}
-use Rattle.laws.proofs.Division.{either}
+use Rattle.laws.proofs.Division.{le-or-lt}
 use Rattle.division.specs.Rounding.{modeOf, Rounds}
-use Rattle.division.specs.Binary64.{negative, field, fraction, magnitude}
+use Rattle.division.specs.Format.{negative, field, fraction, magnitude}
 use Rattle.division.specs.Rounded.{flagsOfResult, Rounded}
-use Rattle.division.specs.declared.binary64.Binary64Result.{Binary64Result}
+use Rattle.division.specs.declared.format.Binary64Result.{Binary64Result}
 use Rattle.division.proofs.Nearest.{rounds-one}
 use Rattle.division.proofs.Scales.{Increasing, exponent-one}
 
@@ -36,9 +36,9 @@ field-order p q h =
 -- a magnitude has one exponent field and one fraction
 field-one : (p q : ℕ) → magnitude p ≡ magnitude q → field p ≡ field q
 field-one p q e = ⊎-elim
-    (λ (g : field p ≤ field q). ⊎-elim (λ (h : field q ≤ field p). omega arith) (λ (h : field p < field q). absurd (omega (arith, field-order p q h))) (either (field q) (field p)))
+    (λ (g : field p ≤ field q). ⊎-elim (λ (h : field q ≤ field p). omega arith) (λ (h : field p < field q). absurd (omega (arith, field-order p q h))) (le-or-lt (field q) (field p)))
     (λ (g : field q < field p). absurd (omega (arith, field-order q p g)))
-    (either (field p) (field q))
+    (le-or-lt (field p) (field q))
 
 fraction-one : (p q : ℕ) → magnitude p ≡ magnitude q → field p ≡ field q → fraction p ≡ fraction q
 fraction-one p q e f = ⊎-elim
@@ -77,7 +77,7 @@ module _ (direction : ℕ) (s : Bool) (scale : ℕ → ℕ → ℕ) (inc : Incre
       ap₂ result
       (pattern-one (x .pattern) (y .pattern) (u .word h) (v .word k) (u .value h ∙ ap₂ (λ (m n : ℕ). m * 2 ^ n) multiples exponents ∙ sym (v .value k)) (u .sign h ∙ sym (v .sign k)))
       (u .flags h ∙ ap₂ (flagsOfResult scale m) exponents multiples ∙ sym (v .flags k)))
-      (either (2 ^ 2098) (u .K * 2 ^ u .e))
+      (le-or-lt (2 ^ 2098) (u .K * 2 ^ u .e))
     where
       result : ℕ → ℕ → Binary64Result
       result p f = record { pattern = p; flags = f }

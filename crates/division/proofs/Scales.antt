@@ -1,11 +1,11 @@
--- The scale of an exact magnitude: the exponent that the definition finds is the largest, and there is one; so are the whole units, and they have 53 bits. Assumes nothing.
+-- The scale of an exact magnitude: the exponent that the definition finds is the largest, and there is one; so are the whole units, and they have 53 bits.
 use mathlib.Core.Path.{_≡_, sym, ap}
 use mathlib.Core.Logic.{⊎-elim}
 use Prim.Native.Nat.{ℕ, zero, suc, min, _+_, _*_, _^_, _≤_, _<_}
 use native.Mathlib.Nat.{pow-suc, le-of-eq, le-trans, eq-or-lt-of-le}
 use native.Mathlib.Omega.{arith}
 use borrow.Author.Tests.{le-leb, lt-leb}
-use Rattle.laws.proofs.Division.{either}
+use Rattle.laws.proofs.Division.{le-or-lt}
 use Rattle.division.specs.Rounded.{IsExponent}
 use Rattle.division.specs.Computed.{largest, greatest}
 use Rattle.division.proofs.Nearest.{mono}
@@ -27,10 +27,10 @@ module _ (f : ℕ → ℕ) (up : (i j : ℕ) → i < j → f i < f j) (m : ℕ) 
       let e : k + 2 ^ suc n ≡ k + 2 ^ n + 2 ^ n = omega (arith, pow-suc 2 n) in
       rw (le-leb _ _ g, greatest) (greatest-meets n (k + 2 ^ n) g (rw e at h)))
       (λ (g : m < f (k + 2 ^ n)). rw (lt-leb _ _ g, greatest) (greatest-meets n k l g))
-      (either (f (k + 2 ^ n)) m)
+      (le-or-lt (f (k + 2 ^ n)) m)
 
   least : (i j : ℕ) → f i ≤ m → m < f (j + 1) → i ≤ j
-  least i j l h = ⊎-elim (λ (g : i ≤ j). g) (λ (g : j < i). absurd (omega (arith, mono f up (j + 1) i (omega arith)))) (either i j)
+  least i j l h = ⊎-elim (λ (g : i ≤ j). g) (λ (g : j < i). absurd (omega (arith, mono f up (j + 1) i (omega arith)))) (le-or-lt i j)
 
   -- there is one
   pub greatest-one : (i j : ℕ) → f i ≤ m → m < f (i + 1) → f j ≤ m → m < f (j + 1) → i ≡ j
@@ -47,7 +47,7 @@ module _ (scale : ℕ → ℕ → ℕ) (inc : Increasing scale) where
   beside d (suc e) h = ⊎-elim
       (λ (g : e ≤ d). let z : d ≡ e = omega arith in rw z (le-of-eq (sym (inc .double e (2 ^ 53)))))
       (λ (g : d < e). le-trans (beside d e g) (le-trans (order e (2 ^ 53) (2 ^ 54) (omega arith)) (le-of-eq (sym (inc .double e (2 ^ 53))))))
-      (either e d)
+      (le-or-lt e d)
 
   -- and a greater exponent reaches further
   pub further : (d e : ℕ) → d ≤ e → scale d (2 ^ 54) ≤ scale e (2 ^ 54)
@@ -63,12 +63,12 @@ module _ (scale : ℕ → ℕ → ℕ) (inc : Increasing scale) where
     largest-meets (suc d) h = ⊎-elim
         (λ (g : scale (suc d) (2 ^ 53) ≤ m). rw (le-leb _ _ g, largest) (record { reached = λ p. g; beyond = h }))
         (λ (g : m < scale (suc d) (2 ^ 53)). rw (lt-leb _ _ g, largest) (largest-meets d (rw (inc .double d (2 ^ 53)) at g)))
-        (either (scale (suc d) (2 ^ 53)) m)
+        (le-or-lt (scale (suc d) (2 ^ 53)) m)
 
     at-most : (d e : ℕ) → IsExponent scale m d → IsExponent scale m e → d ≤ e
     at-most d e x y = ⊎-elim (λ (g : d ≤ e). g)
         (λ (g : e < d). absurd (omega (arith, y .beyond, beside e d g, x .reached (omega arith))))
-        (either d e)
+        (le-or-lt d e)
 
     -- there is one
     pub exponent-one : (d e : ℕ) → IsExponent scale m d → IsExponent scale m e → d ≡ e
@@ -80,7 +80,7 @@ module _ (scale : ℕ → ℕ → ℕ) (inc : Increasing scale) where
       units-high = ⊎-elim
           (λ (g : 2 ^ 53 ≤ k). absurd (omega (arith, is .beyond, order e (2 ^ 54) (2 * k) (omega arith))))
           (λ (g : k < 2 ^ 53). g)
-          (either (2 ^ 53) k)
+          (le-or-lt (2 ^ 53) k)
 
       pub units-low : 2 ^ 52 * min 1 e ≤ k
       units-low = ⊎-elim
@@ -88,5 +88,5 @@ module _ (scale : ℕ → ℕ → ℕ) (inc : Increasing scale) where
           (λ (p : 0 < e). ⊎-elim
           (λ (g : 2 ^ 52 ≤ k). omega arith)
           (λ (g : k < 2 ^ 52). absurd (omega (arith, is .reached p, order e (2 * k + 2) (2 ^ 53) (omega arith))))
-          (either (2 ^ 52) k))
-          (either e 0)
+          (le-or-lt (2 ^ 52) k))
+          (le-or-lt e 0)

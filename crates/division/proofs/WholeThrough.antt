@@ -1,4 +1,4 @@
--- Whole numbers through a table that passes: the run's digits give a / b and a % b. Assumes nothing.
+-- Whole numbers through a table that passes: the run's digits give a / b and a % b.
 use mathlib.Core.Path.{_≡_}
 use mathlib.Core.List.{List}
 use Prim.Native.Nat.{ℕ, _+_, _-_, _*_, _/_, _%_, _^_, _≤_, _<_}
@@ -11,7 +11,7 @@ use Rattle.laws.proofs.Powers.{by-digits, lifted}
 use Rattle.selection.specs.Table.{Passes}
 use Rattle.recurrence.specs.Recurrence.{Operands, resultOf}
 use Rattle.recurrence.proofs.RunDemand.{result-divides}
-use Rattle.division.specs.Whole.{shiftTo, shiftedThrough, wholeThrough}
+use Rattle.division.specs.WholeSteps.{shiftTo, shiftedThrough, wholeThrough}
 
 -- the dividend is moved up by a bit at most
 pub low-bit : (a s : ℕ) → a < 2 ^ 60 → a * 2 ^ (s % 2) < 2 ^ 61

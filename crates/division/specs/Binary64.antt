@@ -1,29 +1,26 @@
--- Binary64 patterns, over whole numbers: document 01, "Binary64". What rounding to them means is said in specs/Rounded, and what division means in specs/Ieee.
-use Prim.Native.Nat.{ℕ, _+_, _-_, _*_, _/_, _%_, _^_}
-use mathlib.Core.Bool.{Bool, not, cond, Bool·beq}
-use lib.Dec.{leb, ltb, eqb}
-use Rattle.division.specs.declared.binary64.Class.{Class}
-use Rattle.division.specs.declared.binary64.Class.the-variants.{Zero, Subnormal, Normal, Infinite, Nan}
+-- Binary64 division as a caller sees it: document 01, "Binary64" and "Who sends bad input".
+use mathlib.Core.List.{List, [], _∷_, _++_}
+use Prim.Native.Nat.{ℕ}
+use Rattle.selection.specs.Answer.{refusal, answerBy}
+use Rattle.selection.specs.Computed.{tableRungs}
+use Rattle.selection.specs.Refusals.{Rung, below, number, ladder}
+use Rattle.selection.specs.declared.Refusal.{Refusal}
+use Rattle.division.specs.Binary64Steps.{binary64Through}
+use Rattle.division.specs.declared.format.Binary64Result.{Binary64Result}
+use Rattle.division.specs.declared.binary64.Binary64Answer.{Binary64Answer}
 
--- the three fields of a pattern
-abbrev pub negative : ℕ → Bool
-negative p = leb (2 ^ 63) p
+-- what is refused of the arguments. 6: direction above 3
+unfoldable pub binary64Rungs : ℕ → List Rung
+binary64Rungs direction = number 6 (below 3 direction) ∷ []
 
-abbrev pub field : ℕ → ℕ
-field p = p / 2 ^ 52 % 2048
+-- number and place of a refusal, and zeros
+abbrev pub binary64Zeros : Refusal → Binary64Answer
+binary64Zeros f = record { refusal = f; pattern = 0; flags = 0 }
 
-abbrev pub fraction : ℕ → ℕ
-fraction p = p % 2 ^ 52
+-- pattern and flags, and no refusal
+abbrev pub binary64Values : Binary64Result → Binary64Answer
+binary64Values x = record { refusal = refusal 0 0; pattern = x .pattern; flags = x .flags }
 
--- the magnitude of a finite pattern, in units of 2^-1074; of an infinity or a not-a-number it says nothing
-abbrev pub magnitude : ℕ → ℕ
-magnitude p = cond (eqb (field p) 0) (fraction p) ((2 ^ 52 + fraction p) * 2 ^ (field p - 1))
-
-abbrev pub classOf : ℕ → Class
-classOf p =
-    cond (eqb (field p) 0) (cond (eqb (fraction p) 0) Zero Subnormal)
-    (cond (ltb (field p) 2047) Normal (cond (eqb (fraction p) 0) Infinite Nan))
-
--- the sign is the exclusive or of the signs
-abbrev pub signOf : ℕ → ℕ → Bool
-signOf a b = not (Bool·beq (negative a) (negative b))
+-- the answer: then 8, 9, 10, the table's, for every pair of operands
+abbrev pub binary64Of : List ℕ → ℕ → ℕ → ℕ → Binary64Answer
+binary64Of t direction a b = answerBy binary64Zeros (binary64Values (binary64Through t direction a b)) (ladder (binary64Rungs direction ++ tableRungs t))

@@ -1,59 +1,59 @@
--- Computed definitions: what the functions return, tied to the meaning in Ieee by the law `ieee`. The last, `divided`, is the answer through every table that passes
+-- Computed definitions: what the functions return, tied to the meaning in Ieee by the law `ieee`. The last, `quotientOf`, is the answer through every table that passes
 -- (`binary64-through`), and the others are its parts. None need be believed; `ieee-one` shows that no other answer has that meaning.
 use mathlib.Core.Bool.{Bool, true, false, _&&_, _||_, cond}
 use Prim.Native.Nat.{ℕ, zero, suc, _+_, _*_, _%_, _^_}
 use lib.Dec.{leb, ltb, eqb}
 use Rattle.division.specs.declared.rounding.Mode.{Mode}
 use Rattle.division.specs.declared.rounding.Mode.the-variants.{Nearest, Toward, Away}
-use Rattle.division.specs.declared.binary64.Binary64Result.{Binary64Result}
-use Rattle.division.specs.declared.binary64.Class.{Class}
-use Rattle.division.specs.declared.binary64.Class.the-variants.{Zero, Subnormal, Normal, Infinite, Nan}
+use Rattle.division.specs.declared.format.Binary64Result.{Binary64Result}
+use Rattle.division.specs.declared.format.Class.{Class}
+use Rattle.division.specs.declared.format.Class.the-variants.{Zero, Subnormal, Normal, Infinite, Nan}
 use Rattle.division.specs.declared.binary64.Case.{Case}
 use Rattle.division.specs.declared.binary64.Case.the-variants.{Quiet, Invalid, ToInfinity, ByZero, ToZero, Finite}
 use Rattle.division.specs.declared.binary64.ByClass.{ByClass}
 use Rattle.division.specs.declared.binary64.ByClass.the-variants.{Decided, Undecided}
-use Rattle.division.specs.Rounding.{modeOf, signBit}
-use Rattle.division.specs.Binary64.{magnitude, classOf, signOf}
+use Rattle.division.specs.Rounding.{modeOf}
+use Rattle.division.specs.Format.{signBit, magnitude, classOf, signOf, infinity, largestFinite, quietNan, inexactFlag, underflowFlag, overflowFlag, divisionByZeroFlag, invalidFlag}
 use Rattle.division.specs.Ieee.{quotientScale, quotientPlace}
 
 -- ---- rounding, once for every operation that rounds
 
--- An exact magnitude x ≥ 0 in some unit is given by k, the whole units in it, and by its rest:
+-- An exact magnitude x ≥ 0 in some unit is given by k, the whole units in it, and by its tail:
 -- 0 nothing is left, 1 less than half a unit, 2 half a unit, 3 more than half a unit.
 
 -- nearest, ties to even
 abbrev pub nearest : ℕ → ℕ → ℕ
-nearest k rest = cond (ltb rest 2) k (cond (eqb rest 2) (k + k % 2) (k + 1))
+nearest k tail = cond (ltb tail 2) k (cond (eqb tail 2) (k + k % 2) (k + 1))
 
 abbrev pub roundedTo : Mode → ℕ → ℕ → ℕ
-roundedTo Nearest k rest = nearest k rest
-roundedTo Toward k rest = k
-roundedTo Away k rest = cond (eqb rest 0) k (k + 1)
+roundedTo Nearest k tail = nearest k tail
+roundedTo Toward k tail = k
+roundedTo Away k tail = cond (eqb tail 0) k (k + 1)
 
--- the rest beyond k units, for a magnitude at m where half a unit taken j times lies at f j
-abbrev pub restAt : (ℕ → ℕ) → ℕ → ℕ → ℕ
-restAt f m k = cond (eqb m (f (2 * k))) 0 (cond (ltb m (f (2 * k + 1))) 1 (cond (eqb m (f (2 * k + 1))) 2 3))
+-- the tail beyond k units, for a magnitude at m where half a unit taken j times lies at f j
+abbrev pub tailAt : (ℕ → ℕ) → ℕ → ℕ → ℕ
+tailAt f m k = cond (eqb m (f (2 * k))) 0 (cond (ltb m (f (2 * k + 1))) 1 (cond (eqb m (f (2 * k + 1))) 2 3))
 
 -- what overflow gives: the largest finite number where the direction points toward zero, else infinity
 abbrev pub overflowOf : Mode → ℕ
-overflowOf Nearest = 0x7FF0_0000_0000_0000
-overflowOf Toward = 0x7FEF_FFFF_FFFF_FFFF
-overflowOf Away = 0x7FF0_0000_0000_0000
+overflowOf Nearest = infinity
+overflowOf Toward = largestFinite
+overflowOf Away = infinity
 
 -- the flags of a result that does not overflow: 1 inexact; 2 underflow, if the exact magnitude is below 2^-1022 too
 abbrev pub flagsOf : ℕ → ℕ → ℕ → ℕ
-flagsOf e k rest = cond (eqb rest 0) 0 (cond (eqb e 0 && ltb k (2 ^ 52)) 3 1)
+flagsOf e k tail = cond (eqb tail 0) 0 (cond (eqb e 0 && ltb k (2 ^ 52)) (inexactFlag + underflowFlag) inexactFlag)
 
 -- K units of 2^(e - 1074), assembled: the pattern of K * 2^(e - 1074), or overflow from 2^1024 on
 abbrev pub assembled : Mode → Bool → ℕ → ℕ → ℕ → ℕ → Binary64Result
-assembled mode s e k rest K =
+assembled mode s e k tail K =
     cond (leb (2 ^ 2098) (K * 2 ^ e))
-    (record { pattern = signBit s + overflowOf mode; flags = 1 + 4 })
-    (record { pattern = signBit s + (e * 2 ^ 52 + K); flags = flagsOf e k rest })
+    (record { pattern = signBit s + overflowOf mode; flags = inexactFlag + overflowFlag })
+    (record { pattern = signBit s + (e * 2 ^ 52 + K); flags = flagsOf e k tail })
 
--- the answer for the magnitude of k units of 2^(e - 1074) and a rest
-abbrev pub packed : Mode → Bool → ℕ → ℕ → ℕ → Binary64Result
-packed mode s e k rest = assembled mode s e k rest (roundedTo mode k rest)
+-- the answer for the magnitude of k units of 2^(e - 1074) and a tail
+abbrev pub roundedResult : Mode → Bool → ℕ → ℕ → ℕ → Binary64Result
+roundedResult mode s e k tail = assembled mode s e k tail (roundedTo mode k tail)
 
 -- ---- an exact magnitude at m, on a scale: half a unit of 2^(e - 1074) taken j times lies at `scale e j`
 
@@ -71,7 +71,7 @@ abbrev pub unitsAt : (ℕ → ℕ) → ℕ → ℕ
 unitsAt f m = greatest 53 (λ k. f (2 * k)) m 0
 
 abbrev pub roundedUnits : Mode → Bool → (ℕ → ℕ) → ℕ → ℕ → ℕ → Binary64Result
-roundedUnits mode s f m e k = packed mode s e k (restAt f m k)
+roundedUnits mode s f m e k = roundedResult mode s e k (tailAt f m k)
 
 abbrev pub roundedAt : Mode → Bool → (ℕ → ℕ → ℕ) → ℕ → ℕ → Binary64Result
 roundedAt mode s scale m e = roundedUnits mode s (scale e) m e (unitsAt (scale e) m)
@@ -120,10 +120,10 @@ caseOf x y =
 
 -- the answer to each case that the classes alone decide
 abbrev pub decided : Bool → Case → ByClass
-decided s Quiet = Decided (record { pattern = 0x7FF8_0000_0000_0000; flags = 0 })
-decided s Invalid = Decided (record { pattern = 0x7FF8_0000_0000_0000; flags = 16 })
-decided s ToInfinity = Decided (record { pattern = signBit s + 0x7FF0_0000_0000_0000; flags = 0 })
-decided s ByZero = Decided (record { pattern = signBit s + 0x7FF0_0000_0000_0000; flags = 8 })
+decided s Quiet = Decided (record { pattern = quietNan; flags = 0 })
+decided s Invalid = Decided (record { pattern = quietNan; flags = invalidFlag })
+decided s ToInfinity = Decided (record { pattern = signBit s + infinity; flags = 0 })
+decided s ByZero = Decided (record { pattern = signBit s + infinity; flags = divisionByZeroFlag })
 decided s ToZero = Decided (record { pattern = signBit s; flags = 0 })
 decided s Finite = Undecided
 
@@ -136,5 +136,5 @@ orRounded x (Decided y) = y
 orRounded x Undecided = x
 
 -- a / b, in a direction
-abbrev pub divided : ℕ → ℕ → ℕ → Binary64Result
-divided direction a b = orRounded (finiteQuotient direction (signOf a b) (magnitude a) (magnitude b)) (byClass a b)
+abbrev pub quotientOf : ℕ → ℕ → ℕ → Binary64Result
+quotientOf direction a b = orRounded (finiteQuotient direction (signOf a b) (magnitude a) (magnitude b)) (byClass a b)

@@ -7,12 +7,12 @@ use lib.ListN.{length, getD}
 use Rattle.selection.specs.Answer.{refusal, cellNumbers, cellZeros, ReportNumbers, reportNumbers, reportZeros}
 use Rattle.selection.specs.Refusals.{Wrongs, FirstRefusal, RefusedBy, Refuses}
 use Rattle.selection.specs.Cell.{LeastWitness, cellRungs, digit}
-use Rattle.selection.specs.Selection.{limitsRungs, limitsZeros, makeRungs}
+use Rattle.selection.specs.Maker.{limitsRungs, limitsZeros, makeRungs}
 use Rattle.selection.specs.Table.{BadAt, Tally}
 use Rattle.selection.specs.Computed.{cellOf, rowLimitsOf, makeOf, madeBuffer, madeTable, reportOf, tableRungs}
 use Rattle.recurrence.specs.Run.{runRungs, runZeros, runOf, bufferOf}
 use Rattle.division.specs.Whole.{wholeRungs, wholeZeros, wholeOf}
-use Rattle.division.specs.Through.{binary64Rungs, binary64Zeros, binary64Of}
+use Rattle.division.specs.Binary64.{binary64Rungs, binary64Zeros, binary64Of}
 
 -- what the check's refusal 10 at the place p carries: the number of bad cells, the first of them, its witness
 pub record Carries (t : List ℕ) (p : ℕ) (x : ReportNumbers) : Type 0 where

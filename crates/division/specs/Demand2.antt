@@ -6,10 +6,10 @@ use Rattle.selection.specs.Answer.{refusal}
 use Rattle.selection.specs.Table.{Passes}
 use Rattle.selection.specs.Computed.{madeTable}
 use Rattle.division.specs.Whole.{wholeOf}
-use Rattle.division.specs.Through.{binary64Of}
+use Rattle.division.specs.Binary64.{binary64Of}
 use Rattle.division.specs.Ieee.{Ieee}
 use Rattle.division.specs.declared.whole.WholeAnswer.{WholeAnswer}
-use Rattle.division.specs.declared.binary64.Binary64Result.{Binary64Result}
+use Rattle.division.specs.declared.format.Binary64Result.{Binary64Result}
 use Rattle.division.specs.declared.binary64.Binary64Answer.{Binary64Answer}
 
 -- the answer is no refusal; a = Q·b + R with R below b for its quotient Q and its remainder R, and for no others

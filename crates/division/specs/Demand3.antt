@@ -12,7 +12,7 @@ use Rattle.recurrence.specs.Recurrence.{Operands}
 use Rattle.recurrence.specs.Run.{runOf}
 use Rattle.recurrence.specs.Demand.{RunClaim}
 use Rattle.division.specs.Whole.{wholeOf}
-use Rattle.division.specs.Through.{binary64Of}
+use Rattle.division.specs.Binary64.{binary64Of}
 
 -- through two tables the same answers, for every argument, refusals included
 pub record SameThrough (t u : List ℕ) : Type 0 where

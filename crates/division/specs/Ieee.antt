@@ -3,11 +3,10 @@ use mathlib.Core.Path.{_≡_}
 use mathlib.Core.Bool.{Bool}
 use mathlib.Core.Logic.{_⊎_}
 use Prim.Native.Nat.{ℕ, _+_, _*_, _^_}
-use Rattle.division.specs.Rounding.{signBit}
-use Rattle.division.specs.Binary64.{magnitude, classOf, signOf}
+use Rattle.division.specs.Format.{signBit, magnitude, classOf, signOf, infinity, quietNan, divisionByZeroFlag, invalidFlag}
 use Rattle.division.specs.Rounded.{Rounded}
-use Rattle.division.specs.declared.binary64.Binary64Result.{Binary64Result}
-use Rattle.division.specs.declared.binary64.Class.the-variants.{Zero, Subnormal, Normal, Infinite, Nan}
+use Rattle.division.specs.declared.format.Binary64Result.{Binary64Result}
+use Rattle.division.specs.declared.format.Class.the-variants.{Zero, Subnormal, Normal, Infinite, Nan}
 
 -- Half a unit of 2^(E - 52), which is 2^(e - 1075) for e = E + 1022, taken j times, against a/b for two magnitudes: both multiplied through by b and by 2^1075, so that j half units
 -- lie at j·(b·2^e) and a/b at 2·(a·2^1074)
@@ -30,9 +29,9 @@ IsFinite p = (classOf p ≡ Zero) ⊎ IsNonzero p
 
 -- x is a / b
 pub record Ieee (direction a b : ℕ) (x : Binary64Result) : Type 0 where
-  pub nan : (classOf a ≡ Nan) ⊎ (classOf b ≡ Nan) → x ≡ record { pattern = 0x7FF8_0000_0000_0000; flags = 0 }
-  pub invalid : ((classOf a ≡ Zero) × (classOf b ≡ Zero)) ⊎ ((classOf a ≡ Infinite) × (classOf b ≡ Infinite)) → x ≡ record { pattern = 0x7FF8_0000_0000_0000; flags = 16 }
-  pub by-zero : IsNonzero a → classOf b ≡ Zero → x ≡ record { pattern = signBit (signOf a b) + 0x7FF0_0000_0000_0000; flags = 8 }
-  pub infinite : classOf a ≡ Infinite → IsFinite b → x ≡ record { pattern = signBit (signOf a b) + 0x7FF0_0000_0000_0000; flags = 0 }
+  pub nan : (classOf a ≡ Nan) ⊎ (classOf b ≡ Nan) → x ≡ record { pattern = quietNan; flags = 0 }
+  pub invalid : ((classOf a ≡ Zero) × (classOf b ≡ Zero)) ⊎ ((classOf a ≡ Infinite) × (classOf b ≡ Infinite)) → x ≡ record { pattern = quietNan; flags = invalidFlag }
+  pub by-zero : IsNonzero a → classOf b ≡ Zero → x ≡ record { pattern = signBit (signOf a b) + infinity; flags = divisionByZeroFlag }
+  pub infinite : classOf a ≡ Infinite → IsFinite b → x ≡ record { pattern = signBit (signOf a b) + infinity; flags = 0 }
   pub zero : ((classOf a ≡ Zero) × IsNonzero b) ⊎ (IsFinite a × (classOf b ≡ Infinite)) → x ≡ record { pattern = signBit (signOf a b); flags = 0 }
   pub quotient : IsNonzero a → IsNonzero b → RoundedQuotient direction (signOf a b) (magnitude a) (magnitude b) x

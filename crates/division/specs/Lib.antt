@@ -1,11 +1,13 @@
-pub mod Whole
+pub mod Format
 pub mod Rounding
-pub mod Binary64
 pub mod Rounded
 pub mod Ieee
 pub mod Computed
-pub mod Through
-pub mod Working
+pub mod WholeSteps
+pub mod Whole
+pub mod Significands
+pub mod Binary64Steps
+pub mod Binary64
 pub mod Demand1
 pub mod Demand2
 pub mod Demand3

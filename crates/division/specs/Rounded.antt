@@ -5,9 +5,9 @@ use mathlib.Core.Path.{_≡_}
 use mathlib.Core.Bool.{Bool, not, true, false, cond}
 use Prim.Native.Nat.{ℕ, zero, suc, _+_, _*_, _^_, _≤_, _<_}
 use lib.Dec.{ltb, eqb}
-use Rattle.division.specs.Rounding.{modeOf, signBit, Rounds}
-use Rattle.division.specs.Binary64.{negative, field, magnitude}
-use Rattle.division.specs.declared.binary64.Binary64Result.{Binary64Result}
+use Rattle.division.specs.Rounding.{modeOf, Rounds}
+use Rattle.division.specs.Format.{signBit, negative, field, magnitude, infinity, largestFinite, inexactFlag, underflowFlag, overflowFlag}
+use Rattle.division.specs.declared.format.Binary64Result.{Binary64Result}
 
 -- E is the largest whole number with 2^E at most the exact magnitude, or -1022 if that is larger: 2^E is 2^53 half units of 2^(E - 52), and 2^(E + 1) is 2^54
 pub record IsExponent (scale : ℕ → ℕ → ℕ) (m e : ℕ) : Type 0 where
@@ -24,11 +24,11 @@ pointsToZero (suc (suc (suc (suc d)))) s = false
 
 -- what overflow gives: infinity, or the largest finite number where the direction points toward zero for that sign
 abbrev pub overflowValue : ℕ → Bool → ℕ
-overflowValue direction s = cond (pointsToZero direction s) 0x7FEF_FFFF_FFFF_FFFF 0x7FF0_0000_0000_0000
+overflowValue direction s = cond (pointsToZero direction s) largestFinite infinity
 
 -- the flags of a result of K units that stays finite: inexact (1) when it isn't exactly the magnitude; underflow (2) too when that is below 2^-1022, which is 2^53 half units at e = 0
 abbrev pub flagsOfResult : (ℕ → ℕ → ℕ) → ℕ → ℕ → ℕ → ℕ
-flagsOfResult scale m e K = cond (eqb (scale e (2 * K)) m) 0 (cond (ltb m (scale 0 (2 ^ 53))) (1 + 2) 1)
+flagsOfResult scale m e K = cond (eqb (scale e (2 * K)) m) 0 (cond (ltb m (scale 0 (2 ^ 53))) (inexactFlag + underflowFlag) inexactFlag)
 
 -- x is the exact magnitude with the sign s: rounded once, to a multiple K of 2^(E - 52)
 pub record Rounded (direction : ℕ) (s : Bool) (scale : ℕ → ℕ → ℕ) (m : ℕ) (x : Binary64Result) : Type 0 where
@@ -37,7 +37,7 @@ pub record Rounded (direction : ℕ) (s : Bool) (scale : ℕ → ℕ → ℕ) (m
   pub exponent : IsExponent scale m e
   pub rounded : Rounds (modeOf direction s) (scale e) m K
   -- 2^1024 or more: overflow (4) and inexact (1)
-  pub over : 2 ^ 2098 ≤ K * 2 ^ e → x ≡ record { pattern = signBit s + overflowValue direction s; flags = 1 + 4 }
+  pub over : 2 ^ 2098 ≤ K * 2 ^ e → x ≡ record { pattern = signBit s + overflowValue direction s; flags = inexactFlag + overflowFlag }
   -- else the 64-bit pattern of that multiple with the sign s
   pub word : K * 2 ^ e < 2 ^ 2098 → x .pattern < 2 ^ 64
   pub value : K * 2 ^ e < 2 ^ 2098 → magnitude (x .pattern) ≡ K * 2 ^ e

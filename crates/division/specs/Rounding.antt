@@ -3,7 +3,7 @@
 -- A quotient n / u has f j = j * u and m = 2 * n.
 use mathlib.Core.Path.{_≡_}
 use mathlib.Core.Logic.{_⊎_}
-use Prim.Native.Nat.{ℕ, zero, suc, _+_, _-_, _*_, _%_, _^_, _≤_, _<_}
+use Prim.Native.Nat.{ℕ, zero, suc, _+_, _-_, _*_, _%_, _≤_, _<_}
 use mathlib.Core.Bool.{Bool, cond}
 use Rattle.division.specs.declared.rounding.Mode.{Mode}
 use Rattle.division.specs.declared.rounding.Mode.the-variants.{Nearest, Toward, Away}
@@ -15,10 +15,6 @@ modeOf (suc zero) s = Toward
 modeOf (suc (suc zero)) s = cond s Toward Away
 modeOf (suc (suc (suc zero))) s = cond s Away Toward
 modeOf (suc (suc (suc (suc d)))) s = Nearest
-
--- the sign's weight
-abbrev pub signBit : Bool → ℕ
-signBit s = cond s (2 ^ 63) 0
 
 -- x units are the exact magnitude rounded
 pub record TowardZero (f : ℕ → ℕ) (m x : ℕ) : Type 0 where

@@ -1,16 +1,16 @@
-// Rounding and packing, once for every operation that rounds: a magnitude in whole units and a rest to a pattern and its flags.
+// Rounding, once for every operation that rounds: a magnitude in whole units and a tail to a pattern and its flags.
 ghost use mathlib.Core.Path.{_≡_};
 ghost use Prim.Native.Nat.{min, _*_, _^_, _≤_, _<_};
-ghost use Rattle.division.specs.Rounding.{modeOf, signBit};
-ghost use Rattle.division.specs.Computed.{roundedTo, overflowOf, flagsOf, packed};
-use crate::binary64::Binary64Result;
-
-// The weight of a significand's leading one, which a normal pattern leaves out: below it stands the fraction field, from it on the exponent field.
-pub(crate) const HIDDEN_BIT: u64 = 0x10_0000_0000_0000;
-
-pub(crate) const SIGN_BIT: u64 = 0x8000_0000_0000_0000;
-
-pub(crate) const INFINITY: u64 = 0x7FF0_0000_0000_0000;
+ghost use Rattle.division.specs.Rounding.{modeOf};
+ghost use Rattle.division.specs.Computed.{roundedTo, overflowOf, flagsOf, roundedResult};
+use crate::format::Binary64Result;
+use crate::format::HIDDEN_BIT;
+use crate::format::INEXACT;
+use crate::format::INFINITY;
+use crate::format::LARGEST_FINITE;
+use crate::format::OVERFLOW;
+use crate::format::UNDERFLOW;
+use crate::format::sign_bit;
 
 // What a direction means for a magnitude.
 pub(crate) enum Mode {
@@ -32,19 +32,19 @@ pub(crate) fn mode_of(direction: u64, negative: bool) -> Mode
     }
 }
 
-// k units and a rest, rounded to whole units.
-fn rounded(mode: Mode, k: u64, rest: u64) -> u64
-    requires { ⌜ (k < 2 ^ 60) × (rest < 4) ⌝ }
-    ensures { λ r. ⌜ r ≡ roundedTo mode k rest ⌝ }
+// k units and a tail, rounded to whole units.
+fn rounded_to(mode: Mode, k: u64, tail: u64) -> u64
+    requires { ⌜ (k < 2 ^ 60) × (tail < 4) ⌝ }
+    ensures { λ r. ⌜ r ≡ roundedTo mode k tail ⌝ }
 {
     match mode {
-        Mode::Nearest => match rest {
+        Mode::Nearest => match tail {
             0 | 1 => k,
             2 => k + k % 2,
             _ => k + 1,
         },
         Mode::Toward => k,
-        Mode::Away => { if rest == 0 { k } else { k + 1 } }
+        Mode::Away => { if tail == 0 { k } else { k + 1 } }
     }
 }
 
@@ -54,50 +54,50 @@ fn overflow(mode: Mode) -> u64
 {
     match mode {
         Mode::Nearest => INFINITY,
-        Mode::Toward => 0x7FEF_FFFF_FFFF_FFFF,
+        Mode::Toward => LARGEST_FINITE,
         Mode::Away => INFINITY,
     }
 }
 
-pub(crate) fn sign_bit(negative: bool) -> u64
-    ensures { λ r. ⌜ r ≡ signBit negative ⌝ }
-{
-    if negative { SIGN_BIT } else { 0 }
-}
-
 // Inexact and underflow.
-fn flags_of(e: u64, k: u64, rest: u64) -> u8
-    ensures { λ r. ⌜ r ≡ flagsOf e k rest ⌝ }
+fn flags_of(e: u64, k: u64, tail: u64) -> u8
+    ensures { λ r. ⌜ r ≡ flagsOf e k tail ⌝ }
 {
-    if rest == 0 {
+    if tail == 0 {
         return 0;
     }
     if e == 0 {
         if k < HIDDEN_BIT {
-            return 3;
+            return INEXACT + UNDERFLOW;
         }
     }
-    1
+    INEXACT
 }
 
-// The answer for k units of 2^(e - 1074) and a rest. Where e is not 0, k has 53 bits. A magnitude is below 2^2098 units of 2^-1074, so a quotient of two
+// The answer for k units of 2^(e - 1074) and a tail. Where e is not 0, k has 53 bits. A magnitude is below 2^2098 units of 2^-1074, so a quotient of two
 // is below 2^2098, and its e = E + 1022 at most 3119.
-pub(crate) fn pack(mode: Mode, negative: bool, e: u64, k: u64, rest: u64) -> Binary64Result
-    requires { ⌜ (e ≤ 3119) × (k < 2 ^ 53) × (2 ^ 52 * min 1 e ≤ k) × (rest < 4) ⌝ }
-    ensures { λ r. ⌜ r ≡ packed mode negative e k rest ⌝ }
+pub(crate) fn rounded_result(
+    mode: Mode,
+    negative: bool,
+    e: u64,
+    k: u64,
+    tail: u64,
+) -> Binary64Result
+    requires { ⌜ (e ≤ 3119) × (k < 2 ^ 53) × (2 ^ 52 * min 1 e ≤ k) × (tail < 4) ⌝ }
+    ensures { λ r. ⌜ r ≡ roundedResult mode negative e k tail ⌝ }
 {
     let sign = sign_bit(negative);
-    let whole = rounded(mode, k, rest);
+    let whole = rounded_to(mode, k, tail);
     let p = e * HIDDEN_BIT + whole;
     if INFINITY <= p {
         Binary64Result {
             pattern: sign + overflow(mode),
-            flags: 5,
+            flags: INEXACT + OVERFLOW,
         }
     } else {
         Binary64Result {
             pattern: sign + p,
-            flags: flags_of(e, k, rest),
+            flags: flags_of(e, k, tail),
         }
     }
 }

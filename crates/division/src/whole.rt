@@ -7,7 +7,8 @@ ghost use Rattle.selection.specs.Computed.{madeTable};
 ghost use Rattle.selection.specs.Table.{Passes, rowBytes};
 ghost use Rattle.selection.specs.Refusals.{ladder};
 ghost use Rattle.recurrence.specs.Row.{Row};
-ghost use Rattle.division.specs.Whole.{shiftTo, shiftedThrough, wholeThrough, wholeRungs, wholeZeros, wholeValues, wholeOf};
+ghost use Rattle.division.specs.WholeSteps.{shiftTo, shiftedThrough, wholeThrough};
+ghost use Rattle.division.specs.Whole.{wholeRungs, wholeZeros, wholeValues, wholeOf};
 use selection::Admission;
 use selection::Refusal;
 

@@ -1,6 +1,6 @@
 -- ℤ as differences of naturals: `diff a b` is a − b. Each law turns a statement on ℤ into one on ℕ, which
 -- `omega` reads: `simp diffs (omega arith)` proves an equation or an order of sums and products of such differences, and
--- `simp diffs at h` reads one. Assumes nothing.
+-- `simp diffs at h` reads one.
 use mathlib.Core.Path.{_≡_, refl, sym, ap, subst}
 use mathlib.Core.Logic.{_↔_}
 use Prim.Native.Nat.{ℕ, zero, suc, _+_, _-_, _*_, _≤_}

@@ -1,4 +1,4 @@
--- A list filled from the front, and a part of a list lent and put back. Assumes nothing.
+-- A list filled from the front, and a part of a list lent and put back.
 use mathlib.Core.Path.{_≡_, sym, subst}
 use mathlib.Core.Logic.{⊎-elim}
 use mathlib.Core.List.{List, [], _∷_, _++_, append-assoc}

@@ -1,5 +1,4 @@
 -- Tests that antt computes, and what a passed one says: one test over all entries of a table, and a law that carries it to each.
--- Assumes nothing.
 use mathlib.Core.Path.{_≡_, refl, _∙_, subst, sym}
 use mathlib.Core.Bool.{Bool, true, false, not, cond}
 use mathlib.Core.Logic.{⊎-elim}
@@ -68,10 +67,10 @@ pub every-at : (f : ℕ → ℕ → Bool) (xs : List ℕ) → T (every f 0 xs) �
 every-at f xs t k h = subst (λ (m : ℕ). T (f m (getD xs k 0))) (zero-add k) (every-from f xs 0 t k h)
 
 -- what holds of 0 to 4 holds of each number up to 4
-pub five : (P : ℕ → Type 0) → P 0 → P 1 → P 2 → P 3 → P 4 → (b : ℕ) → b ≤ 4 → P b
-five P p q r s t zero h = p
-five P p q r s t (suc zero) h = q
-five P p q r s t (suc (suc zero)) h = r
-five P p q r s t (suc (suc (suc zero))) h = s
-five P p q r s t (suc (suc (suc (suc zero)))) h = t
-five P p q r s t (suc (suc (suc (suc (suc b))))) h = absurd (omega arith)
+pub up-to-four : (P : ℕ → Type 0) → P 0 → P 1 → P 2 → P 3 → P 4 → (b : ℕ) → b ≤ 4 → P b
+up-to-four P p q r s t zero h = p
+up-to-four P p q r s t (suc zero) h = q
+up-to-four P p q r s t (suc (suc zero)) h = r
+up-to-four P p q r s t (suc (suc (suc zero))) h = s
+up-to-four P p q r s t (suc (suc (suc (suc zero)))) h = t
+up-to-four P p q r s t (suc (suc (suc (suc (suc b))))) h = absurd (omega arith)

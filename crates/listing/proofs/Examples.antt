@@ -1,5 +1,4 @@
 -- A table with no bad cell or with one, and document 01's example of a listing.
--- Assumes nothing.
 use mathlib.Core.Path.{_≡_, refl, sym, ap, _∙_}
 use mathlib.Core.List.{List, [], _++_, append-nil}
 use mathlib.Core.Logic.{⊎-elim, _⊎_, inl, inr, _≢_}
@@ -15,10 +14,10 @@ use Rattle.selection.specs.Computed.{cellOf, allowsOf, madeOf, listFrom, madeTa
 use Rattle.selection.specs.Table.{Table, Passes}
 use Rattle.selection.specs.declared.Witness.{Witness}
 use Rattle.selection.proofs.MadeTables.{kept-passes}
-use Rattle.report.specs.Text.{decimalUpto, decimalOf, lineEnd}
+use Rattle.printing.specs.Text.{decimalUpto, decimalOf, lineEnd}
 use Rattle.listing.specs.Listing.{names, lineText, lineFrom, lineOf, linesUpto, listingOf}
 use Rattle.listing.specs.Example.{exampleLine, Example}
-use Rattle.listing.specs.declared.Line.the-variants.{Nothing, BadCell}
+use Rattle.listing.specs.declared.Line.the-variants.{Nothing, Cell}
 use Rattle.listing.proofs.Lines.{listed-one}
 use Rattle.listing.proofs.Listings.{table-text}
 
@@ -68,7 +67,7 @@ witness = record { divisor = 1242993497154256896; remainder = pos 33146493257446
 
 only-line : (t : List ℕ) → getD t 215 0 ≡ 2 → lineText (lineOf t 215) ≡ exampleLine ++ lineEnd
 unfolding witness lineOf digit decimalUpto decimalOf
-only-line t e = ap (λ (b : ℕ). lineText (lineFrom t 215 (cellOf 1 87 b))) e ∙ ap (λ (b : ℕ). lineText (BadCell 1 87 (digit b) witness)) e
+only-line t e = ap (λ (b : ℕ). lineText (lineFrom t 215 (cellOf 1 87 b))) e ∙ ap (λ (b : ℕ). lineText (Cell 1 87 (digit b) witness)) e
 
 quiet-elsewhere : (k : ℕ) → k < 2048 → k ≢ 215 → lineOf changed k ≡ Nothing
 quiet-elsewhere k l x = quiet changed-table k l (rw (elsewhere k x) (kept-passes .allowed k l))

@@ -1,5 +1,4 @@
 -- Laws of the listing's lines: the computed ones are those in document 01's words, and there are no others.
--- Assumes nothing.
 use mathlib.Core.Path.{_≡_, refl, sym, ap, subst, _∙_}
 use mathlib.Core.List.{List, _++_}
 use Prim.Native.Nat.{ℕ, zero, suc, _+_, _/_, _%_, _≤_, _<_}
@@ -13,13 +12,13 @@ use Rattle.selection.specs.Table.{Table}
 use Rattle.selection.specs.declared.CellVerdict.{CellVerdict}
 use Rattle.selection.specs.declared.CellVerdict.the-variants as C
 use Rattle.selection.specs.declared.Witness.{Witness}
-use Rattle.selection.proofs.Bridge.{cell-checked}
+use Rattle.selection.proofs.BiasedPoints.{cell-checked}
 use Rattle.selection.proofs.Tables.{cell-at}
 use Rattle.selection.proofs.UniqueCell.{cell-checked-one}
 use Rattle.selection.proofs.Verdicts.{never-refused}
 use Rattle.listing.specs.Listing.{Listed, Lines, none, more, lineFrom, lineOf, lineText, linesUpto}
 use Rattle.listing.specs.declared.Line.{Line}
-use Rattle.listing.specs.declared.Line.the-variants.{Nothing, BadCell}
+use Rattle.listing.specs.declared.Line.the-variants.{Nothing, Cell}
 
 module _ (t : List ℕ) (k : ℕ) (h : Table t) (below : k < 2048) where
   verdict-listed : (v : CellVerdict) → CellChecked (k / 128) (k % 128) (getD t k 0) v → Listed t k (lineFrom t k v)
@@ -40,9 +39,9 @@ module _ (t : List ℕ) (k : ℕ) {v : CellVerdict} (told : v ≡ cellOf (k / 12
   unfolding lineOf
   allowed-line e = ap (lineFrom t k) (sym e ∙ told)
 
-  pub disallowed-line : {w : Witness} {q : ℤ} → v ≡ C.Disallowed w → q ≡ digit (getD t k 0) → BadCell (k / 128) (k % 128) q w ≡ lineOf t k
+  pub disallowed-line : {w : Witness} {q : ℤ} → v ≡ C.Disallowed w → q ≡ digit (getD t k 0) → Cell (k / 128) (k % 128) q w ≡ lineOf t k
   unfolding lineOf
-  disallowed-line {w} e d = ap (λ (x : ℤ). BadCell (k / 128) (k % 128) x w) d ∙ ap (lineFrom t k) (sym e ∙ told)
+  disallowed-line {w} e d = ap (λ (x : ℤ). Cell (k / 128) (k % 128) x w) d ∙ ap (lineFrom t k) (sym e ∙ told)
 
 -- one cell more
 pub lines-more : (t : List ℕ) (k : ℕ) {l : Line} → l ≡ lineOf t k → linesUpto t k ++ lineText l ≡ linesUpto t (k + 1)
@@ -63,8 +62,8 @@ record Told (t : List ℕ) (k : ℕ) (l : Line) : Type 0 where
 
 told : {t : List ℕ} {k : ℕ} → Table t → k < 2048 → (l : Line) → Listed t k l → Told t k l
 told {t} {k} h b Nothing j = record { verdict = C.Allowed; checked = record { means = (cell-at h k b, j .means) }; line = refl }
-told {t} {k} h b (BadCell r c q w) j =
-    let e : BadCell r c q w ≡ BadCell (k / 128) (k % 128) (digit (getD t k 0)) w = cc (j .means .0, j .means .1, j .means .2) in
+told {t} {k} h b (Cell r c q w) j =
+    let e : Cell r c q w ≡ Cell (k / 128) (k % 128) (digit (getD t k 0)) w = cc (j .means .0, j .means .1, j .means .2) in
     let x : LeastWitness (k / 128) (k % 128) (digit (getD t k 0)) (w .divisor) (w .remainder) = rw (← j .means .0, ← j .means .1, ← j .means .2) (j .means .3) in
     record { verdict = C.Disallowed w; checked = record { means = (cell-at h k b, x) }; line = e }
 

@@ -1,5 +1,4 @@
 -- The computed listing is the one in document 01's words and there is no other, and the text in the buffer is it.
--- Assumes nothing.
 use mathlib.Core.Path.{_≡_, refl, sym, ap, _∙_}
 use mathlib.Core.List.{List, _++_}
 use Prim.Native.Nat.{ℕ, _≤_}
@@ -14,8 +13,8 @@ use Rattle.selection.specs.declared.table.Report.{Report}
 use Rattle.selection.proofs.Tables.{no-table}
 use Rattle.selection.proofs.Reports.{form-ladder, report-checked}
 use Rattle.selection.proofs.Ladders.{refusal-one}
-use Rattle.report.specs.Text.{Appended, lineEnd, refusalText}
-use Rattle.report.proofs.Texts.{appended-size, appended-take, appended-drop}
+use Rattle.printing.specs.Text.{Appended, lineEnd, refusalText}
+use Rattle.printing.proofs.Texts.{appended-size, appended-take, appended-drop}
 use Rattle.listing.specs.Listing.{Lists, names, linesUpto, tableText, textFor, listingOf}
 use Rattle.listing.proofs.Lines.{lines-right, lines-one}
 

@@ -5,7 +5,7 @@ use Prim.Native.Nat.{ℕ}
 use lib.ListN.{getD, set}
 use Rattle.selection.specs.Computed.{madeTable}
 use Rattle.selection.specs.Table.{Passes}
-use Rattle.report.specs.Text.{lineEnd}
+use Rattle.printing.specs.Text.{lineEnd}
 use Rattle.listing.specs.Listing.{names, listingOf}
 
 -- `1 87 0 1242993497154256896 3314649325744685056`

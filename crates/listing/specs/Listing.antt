@@ -13,14 +13,14 @@ use Rattle.selection.specs.declared.CellVerdict.{CellVerdict}
 use Rattle.selection.specs.declared.CellVerdict.the-variants as C
 use Rattle.selection.specs.declared.table.Outcome.{Outcome}
 use Rattle.selection.specs.declared.table.Outcome.the-variants as O
-use Rattle.report.specs.Text.{decimalOf, signedOf, space, lineEnd, refusalText}
+use Rattle.printing.specs.Text.{decimalOf, signedOf, space, lineEnd, refusalText}
 use Rattle.listing.specs.declared.Line.{Line}
-use Rattle.listing.specs.declared.Line.the-variants.{Nothing, BadCell}
+use Rattle.listing.specs.declared.Line.the-variants.{Nothing, Cell}
 
 -- l is what the listing has of cell k of the table t: nothing where its digit is allowed, and otherwise the five values
 abbrev pub LineMeaning : List ℕ → ℕ → Line → Type 0
 LineMeaning t k Nothing = Allows (k / 128) (k % 128) (digit (getD t k 0))
-LineMeaning t k (BadCell row column q w) = (row ≡ k / 128) × (column ≡ k % 128) × (q ≡ digit (getD t k 0)) × LeastWitness row column q (w .divisor) (w .remainder)
+LineMeaning t k (Cell row column q w) = (row ≡ k / 128) × (column ≡ k % 128) × (q ≡ digit (getD t k 0)) × LeastWitness row column q (w .divisor) (w .remainder)
 
 pub record Listed (t : List ℕ) (k : ℕ) (l : Line) : Type 0 where
   pub means : LineMeaning t k l
@@ -31,7 +31,7 @@ witnessText w = (decimalOf (w .divisor) ++ space) ++ (signedOf (w .remainder) ++
 
 abbrev pub lineText : Line → List ℕ
 lineText Nothing = []
-lineText (BadCell row column q w) = (decimalOf row ++ space) ++ ((decimalOf column ++ space) ++ ((signedOf q ++ space) ++ witnessText w))
+lineText (Cell row column q w) = (decimalOf row ++ space) ++ ((decimalOf column ++ space) ++ ((signedOf q ++ space) ++ witnessText w))
 
 -- x is the text of the lines of the first n cells, in index order
 pub data Lines (t : List ℕ) : ℕ → List ℕ → Type 0 where
@@ -53,7 +53,7 @@ pub record Lists (t x : List ℕ) : Type 0 where
 -- the line of cell k by the verdict on it. No cell of a table is refused
 abbrev pub lineFrom : List ℕ → ℕ → CellVerdict → Line
 lineFrom t k C.Allowed = Nothing
-lineFrom t k (C.Disallowed w) = BadCell (k / 128) (k % 128) (digit (getD t k 0)) w
+lineFrom t k (C.Disallowed w) = Cell (k / 128) (k % 128) (digit (getD t k 0)) w
 lineFrom t k (C.Refused f) = Nothing
 
 unfoldable pub lineOf : List ℕ → ℕ → Line

@@ -3,14 +3,14 @@ ghost use Prim.Native.Nat.{_+_, _*_, _≤_, _<_};
 ghost use mathlib.Core.Path.{_≡_};
 ghost use lib.ListN.{length, take, drop};
 ghost use Rattle.selection.specs.Table.{Table};
-ghost use Rattle.report.specs.Text.{Appended};
+ghost use Rattle.printing.specs.Text.{Appended};
 ghost use Rattle.listing.specs.Listing.{Listed, Lists, lineOf, witnessText, lineText, linesUpto, tableText, listingOf};
 use libc::STDERR_FILENO;
 use libc::STDIN_FILENO;
 use libc::STDOUT_FILENO;
-use report::text::append;
-use report::text::append_number;
-use report::text::append_signed;
+use printing::text::append;
+use printing::text::append_number;
+use printing::text::append_signed;
 use selection::CellVerdict;
 use selection::Witness;
 use selection::table::Outcome;
@@ -18,7 +18,7 @@ use selection::table::Outcome;
 // What the listing has of one cell: nothing, or the row, the column, the digit and the witness against it.
 enum Line {
     Nothing,
-    BadCell(u64, u64, i64, Witness),
+    Cell(u64, u64, i64, Witness),
 }
 
 // Room for the longest text: 35 bytes of names, and 2,048 lines of five numbers, each of 20 digits, with a sign to two of them.
@@ -34,10 +34,10 @@ fn line_of(table: &[u8], k: usize) -> Line
     let byte = table[k];
     match selection::check_cell(row, column, byte) {
         CellVerdict::Allowed => Line::Nothing,
-        CellVerdict::Disallowed(witness) => Line::BadCell(
+        CellVerdict::Disallowed(witness) => Line::Cell(
             row,
             column,
-            report::digit_of(byte),
+            printing::digit_of(byte),
             witness,
         ),
         // No cell of a table gets here, and the proof says so.
@@ -62,7 +62,7 @@ fn append_line(out: &mut [u8], at: usize, line: Line) -> usize
 {
     match line {
         Line::Nothing => at,
-        Line::BadCell(row, column, digit, witness) => {
+        Line::Cell(row, column, digit, witness) => {
             let after_row = append_number(out, at, row, b" ");
             let after_column = append_number(out, after_row, column, b" ");
             let after_digit = append_signed(out, after_column, digit, b" ");
@@ -104,7 +104,7 @@ fn listing(bytes: &[u8], out: &mut [u8; ROOM]) -> usize
     match outcome {
         Outcome::Passed => append_table(out, bytes),
         Outcome::Bad(_) => append_table(out, bytes),
-        Outcome::Refused(refusal) => report::text::append_refusal(out, 0, refusal),
+        Outcome::Refused(refusal) => printing::text::append_refusal(out, 0, refusal),
     }
 }
 

@@ -1,5 +1,4 @@
 -- A cell without a point is one that allows both -2 and 2: where there is a point, it keeps at most one of them.
--- Assumes nothing.
 use mathlib.Core.Path.{sym, subst}
 use mathlib.Core.Bool.{true, false}
 use Prim.Native.Nat.{ℕ, _<_}

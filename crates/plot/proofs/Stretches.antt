@@ -1,11 +1,10 @@
 -- Columns of one shade: the first of them, and one more.
--- Assumes nothing.
 use mathlib.Core.Path.{_≡_, subst}
 use mathlib.Core.List.{List}
 use mathlib.Core.Logic.{⊎-elim}
 use Prim.Native.Nat.{ℕ, _+_, _*_, _≤_, _<_}
 use native.Mathlib.Omega.{arith}
-use Rattle.laws.proofs.Division.{either}
+use Rattle.laws.proofs.Division.{le-or-lt}
 use Rattle.plot.specs.Plot.{Shaded}
 
 module _ (t : List ℕ) (row : ℕ) where
@@ -21,4 +20,4 @@ module _ (t : List ℕ) (row : ℕ) where
 
   pub alike-more : (from end : ℕ) {m n : ℕ} → Alike from end n → Shaded t (128 * row + end) m → m ≡ n → Alike from (end + 1) n
   alike-more from end f s e c l h =
-      ⊎-elim (λ g. at end (omega arith) (subst (Shaded t (128 * row + end)) e s)) (λ g. f c l g) (either end c)
+      ⊎-elim (λ g. at end (omega arith) (subst (Shaded t (128 * row + end)) e s)) (λ g. f c l g) (le-or-lt end c)

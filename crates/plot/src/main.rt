@@ -141,8 +141,8 @@ fn draw_table(table: &[u8], count: u64)
 // The two lines of a refusal, as the listing program prints them.
 fn print_refusal(refusal: Refusal) {
     let mut out = [0u8; 56];
-    let end = report::text::append_refusal(&mut out, 0, refusal);
-    report::print_text(&out[..end]);
+    let end = printing::text::append_refusal(&mut out, 0, refusal);
+    printing::print_text(&out[..end]);
 }
 
 // The check tells a table, passed or bad, from what gets the two lines of a refusal.

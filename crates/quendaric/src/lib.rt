@@ -6,9 +6,9 @@ ghost use Rattle.selection.specs.Computed.{cellOf, reportOf, rowLimitsOf, makeO
 ghost use Rattle.selection.specs.declared.CellVerdict.the-variants as C;
 ghost use Rattle.recurrence.specs.Run.{runOf, bufferOf};
 ghost use Rattle.division.specs.Whole.{wholeOf};
-ghost use Rattle.division.specs.Through.{binary64Of};
+ghost use Rattle.division.specs.Binary64.{binary64Of};
 ghost use Rattle.quendaric.specs.Reply.{cellReply, tableReply};
-ghost use Rattle.quendaric.specs.Working.{CellOfReport, badReply};
+ghost use Rattle.quendaric.specs.BadReply.{CellOfReport, badReply};
 use division::binary64::Binary64Answer;
 use division::whole::WholeAnswer;
 use recurrence::RunAnswer;

@@ -10,7 +10,7 @@ use lib.IntN.{ℤ, pos, negsuc, natAbs, _+ℤ_, _-ℤ_}
 use lib.Signed.{nonNeg}
 use Rattle.laws.proofs.Diff.{diff, diffs}
 use Rattle.recurrence.specs.Recurrence.{State, after, correctedQuotient, correctedRemainder, endRemainder, resultOf}
-use Rattle.recurrence.specs.Working.{resultFromWord, CorrectionReady}
+use Rattle.recurrence.specs.FastRun.{resultFromWord, CorrectionReady}
 use Rattle.recurrence.specs.declared.RunResult.{RunResult}
 use Rattle.recurrence.proofs.Steps.{biased}
 use Rattle.recurrence.proofs.Invariant.{Invariant, quarter}

@@ -8,7 +8,7 @@ use lib.ListN.{getD}
 use lib.IntN.{pos}
 use Rattle.laws.proofs.Diff.{diffs}
 use Rattle.selection.specs.Table.{Passes}
-use Rattle.selection.proofs.Bridge.{digit-diff}
+use Rattle.selection.proofs.BiasedPoints.{digit-diff}
 use Rattle.recurrence.specs.Recurrence.{State, Operands, cellAt, stepBy, nextOf, after, digits, value}
 use Rattle.recurrence.proofs.Steps.{biased, InRange, AllowedAt, table-digit-allowed, step-law, step-in-range}
 use Rattle.recurrence.proofs.Digits.{value-append}

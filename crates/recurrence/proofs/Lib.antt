@@ -1,5 +1,5 @@
 pub mod CarrySave
-pub mod Ahead
+pub mod NextColumn
 pub mod Steps
 pub mod Digits
 pub mod Invariant

@@ -9,7 +9,7 @@ use lib.ListN.{length, drop, set, length-append, length-drop, drop-of-length-le}
 use Rattle.laws.proofs.Lists.{store}
 use Rattle.selection.specs.Table.{Passes}
 use Rattle.recurrence.specs.Recurrence.{nextOf, after, digits}
-use Rattle.recurrence.specs.Working.{withColumn, stateOf}
+use Rattle.recurrence.specs.FastRun.{withColumn, stateOf}
 use Rattle.recurrence.specs.declared.RunState.{RunState}
 use Rattle.recurrence.proofs.Digits.{length-digits}
 use Rattle.recurrence.proofs.Invariant.{Invariant, invariant-next}

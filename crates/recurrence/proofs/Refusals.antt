@@ -1,4 +1,4 @@
--- The refusals of the arguments, and what the two calls make of them. Assumes nothing.
+-- The refusals of the arguments, and what the two calls make of them.
 use mathlib.Core.Path.{_≡_, refl, sym, ap, _∙_}
 use mathlib.Core.List.{List, _++_}
 use mathlib.Core.Logic.{inl, inr, ⊎-elim}

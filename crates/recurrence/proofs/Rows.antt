@@ -10,7 +10,7 @@ use Rattle.selection.specs.Table.{Passes, rowBytes}
 use Rattle.selection.specs.Computed.{madeTable}
 use Rattle.selection.proofs.MadeTables.{kept-passes}
 use Rattle.recurrence.specs.Row.{Row}
-use Rattle.recurrence.specs.Working.{DigitBytes}
+use Rattle.recurrence.specs.FastRun.{DigitBytes}
 
 -- the row of a table, as it is lent: `&table[start..start + 128]` with `start = 128 * ((divisor >> 56) - 16)`
 pub lent-row : (t : List ℕ) (D : ℕ) → take (128 * row D + 128 - 128 * row D) (drop (128 * row D) t) ≡ rowBytes t (row D)

@@ -1,5 +1,4 @@
 -- Demand 3 of the run: the claim about all its steps, and the same answer through every table that passes, refusals included.
--- Assumes nothing.
 use mathlib.Core.Path.{_≡_, refl, sym, ap, subst, _∙_}
 use mathlib.Core.List.{List}
 use Prim.Native.Nat.{ℕ, suc, _+_, _-_, _*_, _^_, _≤_, _<_}

@@ -11,7 +11,7 @@ use Rattle.laws.proofs.Words.{same-mod}
 use Rattle.selection.specs.Word.{Within}
 use Rattle.selection.specs.Cell.{row, column, digit, Point}
 use Rattle.selection.specs.Table.{Passes}
-use Rattle.selection.proofs.Bridge.{signed-diff, digit-diff}
+use Rattle.selection.proofs.BiasedPoints.{signed-diff, digit-diff}
 use Rattle.selection.proofs.Columns.{row-in, column-of}
 use Rattle.selection.proofs.Reports.{passes-at}
 use Rattle.recurrence.specs.CarrySave.{sum3, maj3, multiple, lowestCarry}

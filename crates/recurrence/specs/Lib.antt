@@ -3,4 +3,4 @@ pub mod Recurrence
 pub mod Run
 pub mod Demand
 pub mod Row
-pub mod Working
+pub mod FastRun

@@ -17,7 +17,7 @@ ghost use Rattle.recurrence.specs.CarrySave.{lowestCarry};
 ghost use Rattle.recurrence.specs.Recurrence.{Operands, nextOf, startOf, digits, resultOf};
 ghost use Rattle.recurrence.specs.Row.{Row};
 ghost use Rattle.recurrence.specs.Run.{runRungs, written, runZeros, runValues, runOf, bufferOf};
-ghost use Rattle.recurrence.specs.Working.{withColumn, stateOf, multiplesOf, laneOf, lanesOf, DigitBytes, StepReady, resultFromWord, CorrectionReady};
+ghost use Rattle.recurrence.specs.FastRun.{withColumn, stateOf, multiplesOf, topBitsOf, allTopBits, DigitBytes, StepReady, resultFromWord, CorrectionReady};
 
 // The next column needs the bits 61 to 54 of a word: what is left of it by 2^62, without the bits below 2^54.
 const TOP_END: u64 = 0x4000_0000_0000_0000;
@@ -58,18 +58,18 @@ fn multiples_of(divisor: u64) -> [u64; 5]
 }
 
 // The eight bits of a multiple that the next column needs, plus 128: one bit up, the column's 64.
-fn lane(multiple: u64) -> u64
-    ensures { λ r. ⌜ r ≡ laneOf multiple ⌝ }
+fn top_bits(multiple: u64) -> u64
+    ensures { λ r. ⌜ r ≡ topBitsOf multiple ⌝ }
 {
     ((multiple >> 54) + 128) % 256
 }
 
-// The lanes of the five multiples, nine bits apart, the first at the word's top (so the last starts at bit 20).
-fn lanes_of(m: &[u64; 5]) -> u64
-    ensures { λ r. ⌜ r ≡ lanesOf (now (m .entry)) ⌝ }
+// The top bits of the five multiples, nine bits apart, the first at the word's top (so the last starts at bit 20).
+fn all_top_bits(m: &[u64; 5]) -> u64
+    ensures { λ r. ⌜ r ≡ allTopBits (now (m .entry)) ⌝ }
 {
-    let high = (lane(m[0]) * 512 + lane(m[1])) * 512 + lane(m[2]);
-    ((high * 512 + lane(m[3])) * 512 + lane(m[4])) * 1048576
+    let high = (top_bits(m[0]) * 512 + top_bits(m[1])) * 512 + top_bits(m[2]);
+    ((high * 512 + top_bits(m[3])) * 512 + top_bits(m[4])) * 1048576
 }
 
 // The column of two words: their truncated estimate, plus 64.
@@ -110,8 +110,8 @@ impl RunState {
 
     // One step, through every table that has these bytes in the divisor's row. The next column comes from the top bits of the words
     // and of the multiple, ahead of the next words.
-    fn next(self, row: &[u8], multiples: &[u64; 5], lanes: u64) -> RunState
-        requires { ⌜ StepReady (now row) (now multiples) lanes self ⌝ }
+    fn next(self, row: &[u8], multiples: &[u64; 5], tops: u64) -> RunState
+        requires { ⌜ StepReady (now row) (now multiples) tops self ⌝ }
         ensures { λ r. ⌜ ((t : List ℕ) → now (row .entry) ≡ rowBytes t (Cell.row (self .divisor)) → r ≡ withColumn (nextOf t (stateOf self))) ⌝ }
     {
         let sum = self.sum;
@@ -119,8 +119,8 @@ impl RunState {
         let divisor = self.divisor;
         let digit = digit_at(row, self.column as usize);
         // The next column first: the next digit waits for it, and for neither of the next words.
-        let tops = wrapping_add_u64(sum % TOP_END & TOP_BITS, carry % TOP_END & TOP_BITS) << 2;
-        let column = wrapping_add_u64(tops, lanes << (9 * digit)) >> 57;
+        let words = wrapping_add_u64(sum % TOP_END & TOP_BITS, carry % TOP_END & TOP_BITS) << 2;
+        let column = wrapping_add_u64(words, tops << (9 * digit)) >> 57;
         // x is the inverted or plain multiple; two words that share no bit add up to the majority.
         let x = multiples[digit as usize];
         let half = sum ^ carry;
@@ -157,12 +157,12 @@ pub fn run_row(row: &[u8], dividend: u64, divisor: u64, out: &mut [u8]) -> RunRe
     ensures { λ r. ⌜ ((t : List ℕ) → Passes t → now (row .entry) ≡ rowBytes t (Cell.row divisor) → (now (out .exit) ≡ digits t dividend divisor (length (now (out .entry)))) × (r ≡ resultOf t dividend divisor (length (now (out .entry))))) ⌝ }
 {
     let multiples = multiples_of(divisor);
-    let lanes = lanes_of(&multiples);
+    let tops = all_top_bits(&multiples);
     let mut state = RunState::new(dividend, divisor);
     let mut total: u64 = 0;
     let mut i = 0;
     while i < out.len() {
-        state = state.next(row, &multiples, lanes);
+        state = state.next(row, &multiples, tops);
         let digit = state.digit;
         total = 4 * total + (digit as u64) - 2;
         out[i] = digit;

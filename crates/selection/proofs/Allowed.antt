@@ -1,6 +1,5 @@
 -- The rule in small numbers and the search agree: one test that antt computes over all cells and bytes, and one law that carries it to
 -- each. So the rule says which digits are allowed, and which cells of a table are bad.
--- Assumes nothing.
 use mathlib.Core.Path.{_≡_, refl}
 use mathlib.Core.Bool.{Bool, true, false, not}
 use mathlib.Core.List.{List}
@@ -15,7 +14,7 @@ use Rattle.selection.specs.Search.{searchOf, cellVerdictOf}
 use Rattle.selection.specs.Computed.{allowsOf, isBad}
 use Rattle.selection.specs.declared.SearchResult.{SearchResult}
 use Rattle.selection.specs.declared.SearchResult.the-variants.{NoWitness, LeastAt}
-use Rattle.selection.proofs.Bridge.{verdict-checked, not-allowed}
+use Rattle.selection.proofs.BiasedPoints.{verdict-checked, not-allowed}
 use Rattle.selection.proofs.Counts.{Decides, decides-yes, decides-no}
 use Rattle.selection.proofs.Tables.{cell-at}
 

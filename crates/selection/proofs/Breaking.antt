@@ -1,5 +1,4 @@
 -- The points of a cell that break a digit, over natural numbers: W is P + 2^63, b is the digit plus 2.
--- Assumes nothing.
 use mathlib.Core.Logic.{_⊎_}
 use Prim.Native.Nat.{ℕ, _+_, _*_, _^_, _≤_, _<_}
 use Rattle.selection.specs.Cell.{span}

@@ -1,5 +1,4 @@
 -- Bench cases 1 to 7: the cells. antt computes the five digits of a cell and the limits of a row.
--- Assumes nothing.
 use mathlib.Core.Path.{_≡_, refl, sym, subst, ap}
 use mathlib.Core.Bool.{Bool, true, false, cond}
 use mathlib.Core.List.{List, [], _∷_}
@@ -10,10 +9,10 @@ use lib.IntN.{ℤ, pos, negsuc}
 use lib.Dec.{T, leb, eqb, leb→le, eqb→eq, eqb-refl, lit≤}
 use Rattle.laws.proofs.Tests.{upto, upto-at, alike, alike-eq}
 use Rattle.selection.specs.Refusals.{firstFrom}
-use Rattle.selection.specs.Cell.{Allows, Listed, AllowedDigits, LeastWitness, IsCell, digit}
-use Rattle.selection.specs.Selection.{Limits}
+use Rattle.selection.specs.Cell.{Allows, OneOf, AllowedDigits, LeastWitness, IsCell, digit}
+use Rattle.selection.specs.Maker.{Limits}
 use Rattle.selection.specs.Computed.{allowsOf, limitsOf, madeOf}
-use Rattle.selection.proofs.Bridge.{cell-checked}
+use Rattle.selection.proofs.BiasedPoints.{cell-checked}
 use Rattle.selection.proofs.Allowed.{allows-decides}
 use Rattle.selection.proofs.Making.{limits-right}
 
@@ -41,21 +40,21 @@ listed : ℤ → List ℤ → Bool
 listed q [] = false
 listed q (x ∷ xs) = cond (same q x) true (listed q xs)
 
-to-listed : (q : ℤ) (xs : List ℤ) → T (listed q xs) → Listed q xs
+to-listed : (q : ℤ) (xs : List ℤ) → T (listed q xs) → OneOf q xs
 unfolding listed
 to-listed q [] t = t
 to-listed q (x ∷ xs) t = go (same q x) (same-eq q x) (to-listed q xs) t
   where
-    go : (b : Bool) → (T b → q ≡ x) → (T (listed q xs) → Listed q xs) → T (cond b true (listed q xs)) → Listed q (x ∷ xs)
+    go : (b : Bool) → (T b → q ≡ x) → (T (listed q xs) → OneOf q xs) → T (cond b true (listed q xs)) → OneOf q (x ∷ xs)
     go true e f t = inl (e tt)
     go false e f t = inr (f t)
 
-of-listed : (q : ℤ) (xs : List ℤ) → Listed q xs → T (listed q xs)
+of-listed : (q : ℤ) (xs : List ℤ) → OneOf q xs → T (listed q xs)
 unfolding listed
 of-listed q [] l = l
 of-listed q (x ∷ xs) l = go (same q x) (λ e. subst (λ (y : ℤ). T (same q y)) e (same-refl q)) (of-listed q xs) l
   where
-    go : (b : Bool) → (q ≡ x → T b) → (Listed q xs → T (listed q xs)) → Listed q (x ∷ xs) → T (cond b true (listed q xs))
+    go : (b : Bool) → (q ≡ x → T b) → (OneOf q xs → T (listed q xs)) → OneOf q (x ∷ xs) → T (cond b true (listed q xs))
     go true e f l = tt
     go false e f l = ⊎-elim (λ a. absurd (e a)) f l
 
@@ -69,7 +68,7 @@ cell r c qs hr hc t =
           go b k (allowsOf r c b) refl e;
     }
   where
-    go : (b : ℕ) → IsCell r c b → (x : Bool) → allowsOf r c b ≡ x → x ≡ listed (digit b) qs → Allows r c (digit b) ↔ Listed (digit b) qs
+    go : (b : ℕ) → IsCell r c b → (x : Bool) → allowsOf r c b ≡ x → x ≡ listed (digit b) qs → Allows r c (digit b) ↔ OneOf (digit b) qs
     go b k true e f = ((λ a. to-listed (digit b) qs (subst T f tt)), λ l. allows-decides k .yes e)
     go b k false e f = ((λ a. absurd (allows-decides k .no e a)), λ l. absurd (subst T (sym f) (of-listed (digit b) qs l)))
 

@@ -1,5 +1,4 @@
 -- The first number that passes a test and how many pass: the turns of the code's loops, and what both say of a property that the test decides.
--- Assumes nothing.
 use mathlib.Core.Path.{_≡_, refl, sym, subst}
 use mathlib.Core.Bool.{Bool, true, false, cond}
 use mathlib.Core.Logic.{_⊎_, inl, inr, ⊎-elim}

@@ -1,5 +1,4 @@
 -- The kept table holds the made digits: one test that antt computes over all cells, and one law that carries it to each entry.
--- Assumes nothing.
 use mathlib.Core.Path.{_≡_, sym, subst}
 use mathlib.Core.Bool.{Bool}
 use mathlib.Core.List.{List}
@@ -8,7 +7,7 @@ use native.Mathlib.Nat.{not-le-of-lt}
 use native.Mathlib.Omega.{arith}
 use lib.Dec.{T, eqb, eqb→eq}
 use lib.ListN.{length, getD}
-use Rattle.selection.specs.Selection.{Made, MadeTable}
+use Rattle.selection.specs.Maker.{Made, MadeTable}
 use Rattle.selection.specs.Computed.{madeOf}
 use Rattle.selection.specs.Table.{Passes}
 use Rattle.selection.proofs.Tables.{table-of}

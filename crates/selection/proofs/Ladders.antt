@@ -1,4 +1,4 @@
--- What a ladder of rungs gives is the first refusal, by rank, of those whose condition holds. Assumes nothing.
+-- What a ladder of rungs gives is the first refusal, by rank, of those whose condition holds.
 use mathlib.Core.Path.{_≡_, refl, sym, ap, ap₂, subst, _∙_}
 use mathlib.Core.Bool.{Bool, true, false, not, cond, _||_}
 use mathlib.Core.List.{List, [], _∷_, _++_}
@@ -7,10 +7,10 @@ use Prim.Native.Nat.{ℕ, zero, suc, _+_, _≤_, _<_}
 use native.Mathlib.Omega.{arith}
 use lib.Dec.{T, ltb, eqb, ltb→lt}
 use borrow.Author.Tests.{lt-ltb, ltb-true, ltb-false, le-leb, leb-true, eq-eqb, eqb-true, eqb-false, ne-eqb}
-use Rattle.laws.proofs.Division.{either}
+use Rattle.laws.proofs.Division.{le-or-lt}
 use Rattle.laws.proofs.Tests.{both, both-left, both-right, upto, upto-at}
 use Rattle.selection.proofs.Counts.{Decides, first-below}
-use Rattle.selection.specs.Answer.{refusal, inOrder, answerBy}
+use Rattle.selection.specs.Answer.{refusal, firstOf, answerBy}
 use Rattle.selection.specs.Refusals.{Condition, below, atMost, same, differ, eitherOf, Holds, holds, First, firstFrom, Rung, numberAt, numberFirst, numberOf, Wrong, given, Wrongs, ladder, rank, FirstRefusal, RefusedBy, Refuses}
 use Rattle.selection.specs.declared.Refusal.{Refusal}
 use Rattle.selection.specs.declared.Admission.{Admission}
@@ -48,10 +48,10 @@ pub holds-decides : (c : Condition) → Decides (Holds c) (holds c)
 holds-decides c = record { yes = test-true c; no = λ e h. let f = holds-test c h in let z : _≡_ {A = ℕ} 0 1 = cc in omega arith }
 
 pub not-below : {a b : ℕ} → (a < b → ⊥) → b ≤ a
-not-below {a} {b} n = ⊎-elim (λ h. h) (λ h. absurd (n h)) (either b a)
+not-below {a} {b} n = ⊎-elim (λ h. h) (λ h. absurd (n h)) (le-or-lt b a)
 
 pub not-most : {a b : ℕ} → (a ≤ b → ⊥) → b < a
-not-most {a} {b} n = ⊎-elim (λ h. absurd (n h)) (λ h. h) (either a b)
+not-most {a} {b} n = ⊎-elim (λ h. absurd (n h)) (λ h. h) (le-or-lt a b)
 
 -- numbers that do not differ
 pub equal : (a b : ℕ) → ((a ≡ b → ⊥) → ⊥) → a ≡ b
@@ -82,9 +82,9 @@ decided-at k p c = record { gives = go (holds c) refl; one = λ x y a b. a .0 �
 
 pub first-one : {P : ℕ → Type 0} {i j : ℕ} → First P i → First P j → i ≡ j
 first-one {i = i} {j = j} x y = ⊎-elim
-    (λ (g : i ≤ j). ⊎-elim (λ (h : j ≤ i). omega arith) (λ (h : i < j). absurd (y .before i h (x .here))) (either j i))
+    (λ (g : i ≤ j). ⊎-elim (λ (h : j ≤ i). omega arith) (λ (h : i < j). absurd (y .before i h (x .here))) (le-or-lt j i))
     (λ (g : j < i). absurd (x .before j g (y .here)))
-    (either i j)
+    (le-or-lt i j)
 
 decided-first : (k : ℕ) {P : ℕ → Type 0} (f : ℕ → Bool) (m : ℕ) → ((j : ℕ) → j < m → Decides (P j) (f j)) → Decided (numberFirst k P f m)
 decided-first k {P} f m d = record { gives = go (ltb j m) refl; one = λ p q x y. first-one (x .1) (y .1) }
@@ -143,7 +143,7 @@ meets k (r ∷ rs) o s = go (λ h. meets (rank (numberOf r)) rs (both-right (ltb
     second a Admitted m = λ n p. ⊎-elim (λ x. a p (x .1)) (m n p)
     second a (Refused f) m = record { holds = inr (m .holds); before = λ n p l. ⊎-elim (λ x. a p (x .1)) (m .before n p l) }
 
-    go : (((p : ℕ) → Wrong r p → ⊥) → Meets (Wrongs rs) (ladder rs)) → (v : Admission) → Gives r v → Meets (Wrongs (r ∷ rs)) (inOrder v (ladder rs))
+    go : (((p : ℕ) → Wrong r p → ⊥) → Meets (Wrongs rs) (ladder rs)) → (v : Admission) → Gives r v → Meets (Wrongs (r ∷ rs)) (firstOf v (ladder rs))
     go more Admitted h = second h (ladder rs) (more h)
     go more (Refused f) h = record { holds = inl h; before = λ m q l. ⊎-elim (λ x. omega (arith, ap rank (h .0), ap rank (x .0))) (λ x. omega (arith, ap rank (h .0), after (rank (numberOf r)) rs o' m q x)) }
 
@@ -154,7 +154,7 @@ is-first k (r ∷ rs) o s n p x = go (λ h. is-first (rank (numberOf r)) rs (bot
     o' : T (ranked (rank (numberOf r)) rs)
     o' = both-right (ltb k (rank (numberOf r))) _ o
 
-    go : (((p : ℕ) → Wrong r p → ⊥) → FirstRefusal (Wrongs rs) n p → ladder rs ≡ Refused (refusal n p)) → (v : Admission) → Gives r v → inOrder v (ladder rs) ≡ Refused (refusal n p)
+    go : (((p : ℕ) → Wrong r p → ⊥) → FirstRefusal (Wrongs rs) n p → ladder rs ≡ Refused (refusal n p)) → (v : Admission) → Gives r v → firstOf v (ladder rs) ≡ Refused (refusal n p)
     go more Admitted h = more h (record { holds = ⊎-elim (λ y. absurd (h p (y .1))) (λ y. y) (x .holds); before = λ m q l y. x .before m q l (inr y) })
     go more (Refused f) h = ⊎-elim
         (λ y. ap₂ (λ (k q : ℕ). Refused (refusal k q)) (h .0 ∙ sym (y .0)) (decided r (s .0) .one (f .place) p (h .1) (y .1)))
@@ -235,11 +235,11 @@ module _ {rs : List Rung} (c : Ladder rs) where
       same (Refused f) = z f
 
 -- one ladder after another
-pub ladder-append : (rs ss : List Rung) → ladder (rs ++ ss) ≡ inOrder (ladder rs) (ladder ss)
+pub ladder-append : (rs ss : List Rung) → ladder (rs ++ ss) ≡ firstOf (ladder rs) (ladder ss)
 ladder-append [] ss = refl
 ladder-append (r ∷ rs) ss = go (ladder-append rs ss) (given r)
   where
-    go : ladder (rs ++ ss) ≡ inOrder (ladder rs) (ladder ss) → (v : Admission) → inOrder v (ladder (rs ++ ss)) ≡ inOrder (inOrder v (ladder rs)) (ladder ss)
+    go : ladder (rs ++ ss) ≡ firstOf (ladder rs) (ladder ss) → (v : Admission) → firstOf v (ladder (rs ++ ss)) ≡ firstOf (firstOf v (ladder rs)) (ladder ss)
     go e Admitted = e
     go e (Refused f) = refl
 

@@ -1,5 +1,4 @@
 -- The computed made table, and the buffer that the maker fills.
--- Assumes nothing.
 use mathlib.Core.Path.{_≡_, refl, sym, ap, subst, _∙_}
 use mathlib.Core.List.{List, [], _∷_, _++_}
 use mathlib.Core.Logic.{inl}
@@ -10,7 +9,7 @@ use native.Mathlib.Omega.{arith}
 use lib.ListN.{length, getD, drop, set}
 use borrow.Author.Tests.{lt-ltb, le-ltb}
 use Rattle.laws.proofs.Lists.{store}
-use Rattle.selection.specs.Selection.{Made, MadeTable, Limits, limitsRungs, limitsZeros, makeRungs, Limited, Makes}
+use Rattle.selection.specs.Maker.{Made, MadeTable, Limits, limitsRungs, limitsZeros, makeRungs, Limited, Makes}
 use Rattle.selection.specs.Answer.{refusal, answerBy}
 use Rattle.selection.specs.Refusals.{Wrongs, RefusedBy}
 use Rattle.selection.specs.declared.Refusal.{Refusal}

@@ -1,5 +1,4 @@
 -- The made digits and their limits, at all cells by one test that antt computes.
--- Assumes nothing.
 use mathlib.Core.Path.{_≡_, refl, sym, subst}
 use mathlib.Core.Bool.{Bool, true, false, cond}
 use mathlib.Core.List.{List}
@@ -12,7 +11,7 @@ use borrow.Author.Tests.{eqb-true}
 use Rattle.laws.proofs.Tests.{both, both-left, both-right, upto, upto-at, is-true}
 use Rattle.selection.specs.Refusals.{firstFrom}
 use Rattle.selection.specs.Cell.{Allows, IsCell, digit}
-use Rattle.selection.specs.Selection.{Made, Limits, distance, stepAt}
+use Rattle.selection.specs.Maker.{Made, Limits, distance, stepAt}
 use Rattle.selection.specs.Computed.{allowsOf, madeOf, limitsOf}
 use Rattle.selection.proofs.Allowed.{allows-decides}
 

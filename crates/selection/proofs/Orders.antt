@@ -1,10 +1,10 @@
--- What a call makes of its arguments' refusal and the table's. Assumes nothing.
+-- What a call makes of its arguments' refusal and the table's.
 use mathlib.Core.Path.{_≡_, refl, sym, ap, _∙_}
 use mathlib.Core.List.{List, _++_}
 use Prim.Native.Nat.{ℕ}
 use native.Mathlib.Omega.{arith}
 use lib.Dec.{T}
-use Rattle.selection.specs.Answer.{inOrder, answerBy}
+use Rattle.selection.specs.Answer.{firstOf, answerBy}
 use Rattle.selection.specs.Computed.{madeTable, tableRungs}
 use Rattle.selection.specs.Refusals.{Rung, ladder}
 use Rattle.selection.specs.Table.{Passes}
@@ -21,17 +21,17 @@ lent rs t c o = record { sound = sound-append rs (tableRungs t) (c .sound) (tabl
 
 -- no table that passes is refused
 pub passed-last : {t : List ℕ} → Passes t → (rs : List Rung) → ladder (rs ++ tableRungs t) ≡ ladder rs
-passed-last {t} p rs = ladder-append rs (tableRungs t) ∙ ap (inOrder (ladder rs)) (sym (admission-ladder t) ∙ passes-admitted p) ∙ last (ladder rs)
+passed-last {t} p rs = ladder-append rs (tableRungs t) ∙ ap (firstOf (ladder rs)) (sym (admission-ladder t) ∙ passes-admitted p) ∙ last (ladder rs)
   where
-    last : (v : Admission) → inOrder v Admitted ≡ v
+    last : (v : Admission) → firstOf v Admitted ≡ v
     last Admitted = refl
     last (Refused f) = refl
 
 -- of a call that has admitted its arguments, of refusal v, and the table t
-pub admitted-both : (t : List ℕ) {v a : Admission} → a ≡ inOrder v (ladder (tableRungs t)) → a ≡ Admitted → (v ≡ Admitted) × Passes t
+pub admitted-both : (t : List ℕ) {v a : Admission} → a ≡ firstOf v (ladder (tableRungs t)) → a ≡ Admitted → (v ≡ Admitted) × Passes t
 admitted-both t {v} e g = let k = both v (ladder (tableRungs t)) (sym e ∙ g) in (k .0, admitted-passes (admission-ladder t ∙ k .1))
   where
-    both : (v w : Admission) → inOrder v w ≡ Admitted → (v ≡ Admitted) × (w ≡ Admitted)
+    both : (v w : Admission) → firstOf v w ≡ Admitted → (v ≡ Admitted) × (w ≡ Admitted)
     both Admitted w e = (refl, e)
     both (Refused f) w e = absurd (let z : _≡_ {A = ℕ} 0 1 = cc in omega arith)
 
@@ -40,8 +40,8 @@ pub answered : {X : Type 0} (zeros : Refusal → X) (done : X) {v u : Admission}
 answered zeros done e h = h ∙ sym (ap (answerBy zeros done) e)
 
 -- the first refusal of a call with a lent table, and of one over the kept table
-pub first-lent : (rs : List Rung) (t : List ℕ) {a w u : Admission} → w ≡ inOrder a (ladder (tableRungs t)) → a ≡ ladder rs → w ≡ u → ladder (rs ++ tableRungs t) ≡ u
-first-lent rs t e f g = ladder-append rs (tableRungs t) ∙ sym (ap (λ (v : Admission). inOrder v (ladder (tableRungs t))) f) ∙ sym e ∙ g
+pub first-lent : (rs : List Rung) (t : List ℕ) {a w u : Admission} → w ≡ firstOf a (ladder (tableRungs t)) → a ≡ ladder rs → w ≡ u → ladder (rs ++ tableRungs t) ≡ u
+first-lent rs t e f g = ladder-append rs (tableRungs t) ∙ sym (ap (λ (v : Admission). firstOf v (ladder (tableRungs t))) f) ∙ sym e ∙ g
 
 pub first-kept : (rs : List Rung) {a u : Admission} → a ≡ ladder rs → a ≡ u → ladder (rs ++ tableRungs madeTable) ≡ u
 first-kept rs e g = passed-last kept-passes rs ∙ sym e ∙ g

@@ -1,5 +1,4 @@
 -- The computed report is the check's answer in document 01's words, and a table is admitted exactly if it passes.
--- Assumes nothing.
 use mathlib.Core.Path.{_≡_, refl, sym, subst, ap, _∙_}
 use mathlib.Core.Bool.{Bool, true, false, not}
 use mathlib.Core.List.{List, [], _∷_}
@@ -14,7 +13,7 @@ use Rattle.selection.specs.Refusals.{First, firstFrom, numberFirst, ladd
 use Rattle.selection.specs.Cell.{Allows, CellChecked, digit}
 use Rattle.selection.specs.Table.{Table, BadAt, Passes, formRungs, Checked, ReportMeaning}
 use Rattle.selection.specs.Computed.{cellOf, countBelow, aboveFour, isBad, badReport, passedReport, reportOf, tableRungs}
-use Rattle.selection.specs.Answer.{refusal, admission, admissionOf, inOrder}
+use Rattle.selection.specs.Answer.{refusal, admission, admissionOf, firstOf}
 use Rattle.selection.specs.declared.Admission.{Admission}
 use Rattle.selection.specs.declared.Admission.the-variants as A
 use Rattle.selection.specs.declared.CellVerdict.{CellVerdict}
@@ -23,7 +22,7 @@ use Rattle.selection.specs.declared.table.Outcome.{Outcome}
 use Rattle.selection.specs.declared.table.Outcome.the-variants as O
 use Rattle.selection.specs.declared.table.Report.{Report}
 use Rattle.selection.specs.declared.table.BadCell.{BadCell}
-use Rattle.selection.proofs.Bridge.{not-allowed, known-not-refused, allows-unless, cell-checked}
+use Rattle.selection.proofs.BiasedPoints.{not-allowed, known-not-refused, allows-unless, cell-checked}
 use Rattle.selection.proofs.Counts.{less-decides, count-tally, first-below}
 use Rattle.selection.proofs.Allowed.{bad-decides}
 use Rattle.selection.proofs.Tables.{table-of, no-table, cell-at, cell-row, cell-column, first-bad-of}
@@ -123,7 +122,7 @@ admission-ladder t = go (reportOf t .outcome) (report-checked t .means)
       holds = inr (inr (inl (refl, (omega (arith, w .2 .row, w .2 .column), w .2 .first))));
       before = λ m q l. ⊎-elim (λ x. x .1 .1 (w .0 .size)) (⊎-elim (λ x. not-le-of-lt (x .1 .1 .here) (w .0 .digits q)) (⊎-elim (λ x. omega (arith, ap rank (x .0))) (λ z. z)));
     }))
-    go (O.Refused f) w = sym (ladder-append (formRungs t) (numberFirst 10 (BadAt t) (isBad t) 2048 ∷ []) ∙ ap (λ (v : Admission). inOrder v (ladder (numberFirst 10 (BadAt t) (isBad t) 2048 ∷ []))) (first-is (form-ladder t) _ _ (w .0)))
+    go (O.Refused f) w = sym (ladder-append (formRungs t) (numberFirst 10 (BadAt t) (isBad t) 2048 ∷ []) ∙ ap (λ (v : Admission). firstOf v (ladder (numberFirst 10 (BadAt t) (isBad t) 2048 ∷ []))) (first-is (form-ladder t) _ _ (w .0)))
 
 -- the digit of a table that passes, at a row and a column
 pub passes-at : {t : List ℕ} → Passes t → (r c : ℕ) → r ≤ 15 → c ≤ 127 → Allows r c (digit (getD t (128 * r + c) 0))

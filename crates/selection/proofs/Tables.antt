@@ -1,5 +1,4 @@
 -- Tables, and a table's index as a row and a column.
--- Assumes nothing.
 use mathlib.Core.Path.{_≡_, subst}
 use mathlib.Core.List.{List}
 use mathlib.Core.Logic.{⊎-elim}

@@ -1,5 +1,4 @@
 -- The search from above finds the least point of a cell that is too high for a digit.
--- Assumes nothing.
 use mathlib.Core.Path.{_≡_, refl}
 use mathlib.Core.Bool.{Bool, true, false, cond}
 use Prim.Native.Nat.{ℕ, _+_, _*_, _-_, _/_, _^_, _≤_, _<_, max}
@@ -7,7 +6,7 @@ use native.Mathlib.Nat.{not-le-of-lt}
 use native.Mathlib.Omega.{arith}
 use lib.Dec.{ltb, leb}
 use borrow.Author.Tests.{ltb-true, ltb-false, leb-true, leb-false}
-use Rattle.laws.proofs.Tests.{five}
+use Rattle.laws.proofs.Tests.{up-to-four}
 use Rattle.selection.specs.Cell.{span}
 use Rattle.selection.specs.Search.{leastDivisor, reach, tooHighAt}
 use Rattle.selection.specs.declared.SearchResult.the-variants.{NoWitness, LeastAt}
@@ -24,7 +23,7 @@ abbrev pub highStart : ℕ → ℕ → ℕ → ℕ
 highStart r c b = leastDivisor ((16 + r) * 2 ^ 56) (3 * (c * 2 ^ 57 - 2 ^ 63)) (3 * (2 ^ 63 - (c * 2 ^ 57 + span))) b
 
 pub high-start : (r c b : ℕ) → b ≤ 4 → HighStart r c b (highStart r c b)
-high-start r c = five (λ b. HighStart r c b (highStart r c b)) (omega arith) (omega arith) (omega arith) (omega arith) (omega arith)
+high-start r c = up-to-four (λ b. HighStart r c b (highStart r c b)) (omega arith) (omega arith) (omega arith) (omega arith) (omega arith)
 
 module _ (r c : ℕ) (hr : r ≤ 15) where
   -- the least remainder that is too high for b
@@ -36,7 +35,7 @@ module _ (r c : ℕ) (hr : r ≤ 15) where
 
   high-miss : (b : ℕ) → b ≤ 4 → HighMiss b
   high-miss =
-      five HighMiss
+      up-to-four HighMiss
       (λ d w s e D W p m. omega (arith, s .edge (omega arith)))
       (λ d w s e D W p m. omega (arith, s .edge (omega arith)))
       (λ d w s e D W p m. omega arith)
@@ -48,7 +47,7 @@ module _ (r c : ℕ) (hr : r ≤ 15) where
 
   high-hit : (b : ℕ) → b ≤ 4 → HighHit b
   high-hit =
-      five HighHit
+      up-to-four HighHit
       (λ d w s h e k l. omega arith)
       (λ d w s h e k l. omega arith)
       (λ d w s h e k l. omega arith)

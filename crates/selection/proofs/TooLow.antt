@@ -1,12 +1,11 @@
 -- The search from below finds the least point of a cell that is too low for a digit.
--- Assumes nothing.
 use mathlib.Core.Path.{_≡_, refl}
 use mathlib.Core.Bool.{Bool, true, false, cond}
 use Prim.Native.Nat.{ℕ, _+_, _*_, _-_, _^_, _≤_, _<_, max}
 use native.Mathlib.Omega.{arith}
 use lib.Dec.{ltb}
 use borrow.Author.Tests.{ltb-true, ltb-false}
-use Rattle.laws.proofs.Tests.{five}
+use Rattle.laws.proofs.Tests.{up-to-four}
 use Rattle.selection.specs.Cell.{span}
 use Rattle.selection.specs.Search.{leastDivisor, reach, tooLowAt}
 use Rattle.selection.specs.declared.SearchResult.the-variants.{NoWitness, LeastAt}
@@ -23,7 +22,7 @@ abbrev pub lowStart : ℕ → ℕ → ℕ → ℕ
 lowStart r c b = leastDivisor ((16 + r) * 2 ^ 56) (3 * (2 ^ 63 - (c * 2 ^ 57 + span))) (3 * (c * 2 ^ 57 - 2 ^ 63)) (4 - b)
 
 pub low-start : (r c b : ℕ) → b ≤ 4 → LowStart r c b (lowStart r c b)
-low-start r c = five (λ b. LowStart r c b (lowStart r c b)) (omega arith) (omega arith) (omega arith) (omega arith) (omega arith)
+low-start r c = up-to-four (λ b. LowStart r c b (lowStart r c b)) (omega arith) (omega arith) (omega arith) (omega arith) (omega arith)
 
 module _ (r c : ℕ) (hr : r ≤ 15) where
   abbrev lowest : ℕ → ℕ
@@ -34,7 +33,7 @@ module _ (r c : ℕ) (hr : r ≤ 15) where
 
   low-miss : (b : ℕ) → b ≤ 4 → LowMiss b
   low-miss =
-      five LowMiss
+      up-to-four LowMiss
       (λ d w s h e k D W p m. omega arith)
       (λ d w s h e k D W p m. omega arith)
       (λ d w s h e k D W p m. omega arith)
@@ -46,7 +45,7 @@ module _ (r c : ℕ) (hr : r ≤ 15) where
 
   low-hit : (b : ℕ) → b ≤ 4 → LowHit b
   low-hit =
-      five LowHit
+      up-to-four LowHit
       (λ d w s h e k. omega arith)
       (λ d w s h e k. omega arith)
       (λ d w s h e k. omega arith)

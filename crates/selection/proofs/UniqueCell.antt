@@ -1,5 +1,4 @@
 -- The single-cell call has one answer: the reported witness is one, and so is the refusal.
--- Assumes nothing.
 use mathlib.Core.Path.{_≡_, refl, sym, subst, ap, ap₂, _∙_}
 use Prim.Native.Nat.{ℕ, _^_, _≤_}
 use native.Mathlib.Omega.{arith}
@@ -11,7 +10,7 @@ use Rattle.selection.specs.Cell.{LeastWitness, CellChecked}
 use Rattle.selection.specs.declared.Witness.{Witness}
 use Rattle.selection.specs.declared.CellVerdict.{CellVerdict}
 use Rattle.selection.specs.declared.CellVerdict.the-variants as C
-use Rattle.selection.proofs.Bridge.{of-point, cell-ladder, known-not-refused, not-allowed}
+use Rattle.selection.proofs.BiasedPoints.{of-point, cell-ladder, known-not-refused, not-allowed}
 use Rattle.selection.proofs.Ladders.{refusal-one}
 
 module _ {r c : ℕ} {q : ℤ} (hr : r ≤ 15) (hc : c ≤ 127) where

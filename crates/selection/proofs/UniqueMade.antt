@@ -1,5 +1,4 @@
 -- The made byte of a cell, the made table, the limits of a row and what the maker leaves are each one.
--- Assumes nothing.
 use mathlib.Core.Path.{_≡_, refl, sym, ap, ap₂, _∙_}
 use mathlib.Core.Bool.{true, false, not}
 use mathlib.Core.List.{List, [], _∷_, _++_}
@@ -12,8 +11,8 @@ use lib.Dec.{T-not, eqb, eqb-refl, ltb}
 use lib.ListN.{length, getD, drop}
 use lib.Seq.{ext-getD}
 use borrow.Author.Tests.{lt-ltb, le-ltb}
-use Rattle.laws.proofs.Tests.{upto-at, five}
-use Rattle.selection.specs.Selection.{Made, MadeTable, stepAt, Limits, limitsRungs, makeRungs, Limited, Makes}
+use Rattle.laws.proofs.Tests.{upto-at, up-to-four}
+use Rattle.selection.specs.Maker.{Made, MadeTable, stepAt, Limits, limitsRungs, makeRungs, Limited, Makes}
 use Rattle.selection.specs.Refusals.{Wrongs, ladder, rank}
 use Rattle.selection.specs.declared.Admission.{Admission}
 use Rattle.selection.specs.declared.Admission.the-variants.{Admitted, Refused}
@@ -32,7 +31,7 @@ made-one {s} {t} a b = ext-getD 0 s t (a .size ∙ sym (b .size)) (λ k l. let j
 
 six-cases : (P : ℕ → Type 0) → P 0 → P 1 → P 2 → P 3 → P 4 → P 5 → (i : ℕ) → i < 6 → P i
 six-cases P p q r s t u zero h = p
-six-cases P p q r s t u (suc i) h = five (λ k. P (suc k)) q r s t u i (omega arith)
+six-cases P p q r s t u (suc i) h = up-to-four (λ k. P (suc k)) q r s t u i (omega arith)
 
 -- the bytes of a row, from the first column on
 abbrev bytes : List ℕ

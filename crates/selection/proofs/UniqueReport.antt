@@ -1,5 +1,4 @@
 -- The check has one answer to each table: one count, one first bad cell, one witness.
--- Assumes nothing.
 use mathlib.Core.Path.{_≡_, refl, sym, subst, ap, ap₂, _∙_}
 use mathlib.Core.List.{List}
 use Prim.Native.Nat.{ℕ, suc, _+_, _*_, _/_, _%_}

@@ -1,5 +1,4 @@
 -- What the answers to a table and to a cell tell a caller, by their cases.
--- Assumes nothing.
 use mathlib.Core.Path.{_≡_, refl, sym, subst}
 use mathlib.Core.List.{List}
 use Prim.Native.Nat.{ℕ, _≤_}
@@ -20,7 +19,7 @@ use Rattle.selection.specs.declared.table.BadCell.{BadCell}
 use Rattle.selection.specs.declared.table.Outcome.{Outcome}
 use Rattle.selection.specs.declared.table.Outcome.the-variants as O
 use Rattle.selection.specs.declared.table.Report.{Report}
-use Rattle.selection.proofs.Bridge.{cell-ladder, known-not-refused}
+use Rattle.selection.proofs.BiasedPoints.{cell-ladder, known-not-refused}
 use Rattle.selection.proofs.Ladders.{refuses}
 
 -- the check's answer, by its case

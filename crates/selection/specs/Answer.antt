@@ -58,9 +58,9 @@ abbrev pub admission : Report → Admission
 admission a = admissionOf (a .outcome)
 
 -- the first refusal of two, in their order
-abbrev pub inOrder : Admission → Admission → Admission
-inOrder A.Admitted v = v
-inOrder (A.Refused f) v = A.Refused f
+abbrev pub firstOf : Admission → Admission → Admission
+firstOf A.Admitted v = v
+firstOf (A.Refused f) v = A.Refused f
 
 -- an answer by the first refusal: what is done, or the number, the place and zeros
 abbrev pub answerBy : {X : Type 0} → (Refusal → X) → X → Admission → X

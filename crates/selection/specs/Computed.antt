@@ -9,7 +9,7 @@ use lib.ListN.{length, getD, drop}
 use Rattle.selection.specs.Answer.{refusal, answerBy}
 use Rattle.selection.specs.Cell.{cellRungs}
 use Rattle.selection.specs.Table.{BadAt, formRungs}
-use Rattle.selection.specs.Selection.{limitsRungs, limitsZeros, makeRungs}
+use Rattle.selection.specs.Maker.{limitsRungs, limitsZeros, makeRungs}
 use Rattle.selection.specs.Refusals.{firstFrom, Rung, numberFirst, ladder}
 use Rattle.selection.specs.Search.{searchOf, cellVerdictOf}
 use Rattle.selection.specs.declared.Refusal.{Refusal}

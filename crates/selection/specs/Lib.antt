@@ -1,10 +1,10 @@
 pub mod Word
 pub mod Cell
 pub mod Table
-pub mod Selection
+pub mod Maker
 pub mod Answer
 pub mod Refusals
 pub mod Search
 pub mod Computed
-pub mod Packed
+pub mod WordBytes
 pub mod Demand

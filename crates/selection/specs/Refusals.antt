@@ -5,7 +5,7 @@ use mathlib.Core.List.{List, [], _∷_}
 use mathlib.Core.Logic.{_⊎_, _↔_}
 use Prim.Native.Nat.{ℕ, zero, suc, _+_, _≤_, _<_}
 use lib.Dec.{leb, ltb, eqb}
-use Rattle.selection.specs.Answer.{refusal, inOrder}
+use Rattle.selection.specs.Answer.{refusal, firstOf}
 use Rattle.selection.specs.declared.Refusal.{Refusal}
 use Rattle.selection.specs.declared.Admission.{Admission}
 use Rattle.selection.specs.declared.Admission.the-variants.{Admitted, Refused}
@@ -80,7 +80,7 @@ Wrongs (r ∷ rs) n p = ((n ≡ numberOf r) × Wrong r p) ⊎ Wrongs rs n p
 -- the first refusal that is given
 abbrev pub ladder : List Rung → Admission
 ladder [] = Admitted
-ladder (r ∷ rs) = inOrder (given r) (ladder rs)
+ladder (r ∷ rs) = firstOf (given r) (ladder rs)
 
 -- ---- the order of the refusals
 

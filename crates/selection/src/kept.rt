@@ -3,8 +3,8 @@ ghost use mathlib.Core.Path.{_≡_};
 ghost use Prim.Native.Nat.{_%_};
 ghost use lib.ListN.{length};
 ghost use Rattle.selection.specs.Computed.{madeTable};
-ghost use Rattle.selection.specs.Packed.{unpacked};
-ghost use Rattle.selection.specs.Selection.{MadeTable};
+ghost use Rattle.selection.specs.WordBytes.{wordsBytes};
+ghost use Rattle.selection.specs.Maker.{MadeTable};
 ghost use Rattle.selection.specs.Table.{rowBytes};
 
 const KEPT: [u8; 2048] = [
@@ -2066,9 +2066,9 @@ pub fn kept_table() -> [u8; 2048]
 }
 
 // The bytes of sixteen words, the lowest of each first.
-fn unpack(words: &[u64; 16]) -> [u8; 128]
+fn bytes_of(words: &[u64; 16]) -> [u8; 128]
     requires { ⌜ length (now words) ≡ 16 ⌝ }
-    ensures { λ r. ⌜ r ≡ unpacked (now (words .entry)) ⌝ }
+    ensures { λ r. ⌜ r ≡ wordsBytes (now (words .entry)) ⌝ }
 {
     let mut bytes = [0u8; 128];
     let mut k = 0;
@@ -2093,5 +2093,5 @@ pub fn kept_row(n: u64) -> [u8; 128]
     ensures { λ r. ⌜ r ≡ rowBytes madeTable (n % 16) ⌝ }
 {
     let words = crate::kept_words::row_words(n);
-    unpack(&words)
+    bytes_of(&words)
 }

@@ -4,7 +4,7 @@ ghost use mathlib.Core.List.{[]};
 ghost use Prim.Native.Nat.{ℕ, _≤_, _<_};
 ghost use lib.ListN.{getD};
 ghost use Rattle.selection.specs.Computed.{madeOf, beginsOf, limitsOf, rowLimitsOf, makeOf, madeBuffer};
-ghost use Rattle.selection.specs.Selection.{Limits, Limited, stepAt, Makes};
+ghost use Rattle.selection.specs.Maker.{Limits, Limited, stepAt, Makes};
 use crate::Refusal;
 
 // The byte of the allowed digit nearest zero.

@@ -3,7 +3,7 @@ ghost use mathlib.Core.Path.{_≡_};
 ghost use Prim.Native.Nat.{_+_, _*_, _/_, _%_, _≤_, _<_};
 ghost use lib.ListN.{length, getD};
 ghost use Rattle.selection.specs.Refusals.{firstFrom, ladder};
-ghost use Rattle.selection.specs.Answer.{admission, inOrder};
+ghost use Rattle.selection.specs.Answer.{admission, firstOf};
 ghost use Rattle.selection.specs.Computed.{cellOf, countBelow, aboveFour, isBad, refusedReport, badReport, reportOf, tableRungs};
 ghost use Rattle.selection.specs.Table.{Table, Checked};
 use crate::Admission;
@@ -167,7 +167,7 @@ fn admit_table(table: &[u8]) -> Admission
 
 // The refusal of a call that is lent a table: that of its other arguments, or else the table's.
 pub fn admit_after(arguments: Admission, table: &[u8]) -> Admission
-    ensures { λ r. ⌜ r ≡ inOrder arguments (ladder (tableRungs (now (table .entry)))) ⌝ }
+    ensures { λ r. ⌜ r ≡ firstOf arguments (ladder (tableRungs (now (table .entry)))) ⌝ }
 {
     match arguments {
         Admission::Refused(f) => Admission::Refused(f),

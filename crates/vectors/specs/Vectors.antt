@@ -6,9 +6,9 @@ use lib.Dec.{ltb, eqb}
 use lib.ListN.{getD}
 use Rattle.division.specs.declared.binary64.Binary64Answer.{Binary64Answer}
 use Rattle.selection.specs.Computed.{madeTable}
-use Rattle.division.specs.Through.{binary64Of}
+use Rattle.division.specs.Binary64.{binary64Of}
 use Rattle.vectors.specs.declared.Vector.{Vector}
-use Rattle.vectors.specs.declared.Tally.{Tally}
+use Rattle.vectors.specs.declared.Counts.{Counts}
 use Rattle.vectors.specs.declared.Verdict.{Verdict}
 use Rattle.vectors.specs.declared.Verdict.the-variants.{End, Agrees, Differs}
 
@@ -64,5 +64,5 @@ verdictOf s n =
     cond (eqb n 0) End (cond (eqb n 56) (cond (formedUpto s 56) (cond (differsIn (vectorOf s)) Differs Agrees) Differs) Differs)
 
 -- one more line
-abbrev pub countedIn : Tally → Bool → Tally
+abbrev pub countedIn : Counts → Bool → Counts
 countedIn t agrees = record { run = t .run + 1; differ = cond agrees (t .differ) (t .differ + 1) }

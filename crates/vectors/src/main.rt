@@ -2,8 +2,8 @@
 ghost use mathlib.Core.Path.{_≡_};
 ghost use Prim.Native.Nat.{_+_, _^_, _≤_, _<_};
 ghost use Rattle.vectors.specs.Vectors.{nibbleOf, hexOf, vectorOf, isDecimal, isHex, fitsAt, formedUpto, differsIn, verdictOf, countedIn};
-use report::print_number;
-use report::print_text;
+use printing::print_number;
+use printing::print_text;
 
 // One case: two operands, a direction, and the pattern and flags that are expected.
 struct Vector {
@@ -21,7 +21,7 @@ enum Verdict {
     Differs,
 }
 
-struct Tally {
+struct Counts {
     run: u64,
     differ: u64,
 }
@@ -166,48 +166,48 @@ fn run_line(fd: i32) -> Verdict {
     verdict_of(&line, length)
 }
 
-// A tally with one more line, which agrees or differs.
-fn counted(tally: Tally, agrees: bool) -> Tally
-    requires { ⌜ (tally .differ ≤ tally .run) × (tally .run < 1000000) ⌝ }
-    ensures { λ r. ⌜ r ≡ countedIn tally agrees ⌝ }
+// A counts with one more line, which agrees or differs.
+fn counted(counts: Counts, agrees: bool) -> Counts
+    requires { ⌜ (counts .differ ≤ counts .run) × (counts .run < 1000000) ⌝ }
+    ensures { λ r. ⌜ r ≡ countedIn counts agrees ⌝ }
 {
     if agrees {
-        return Tally {
-            run: tally.run + 1,
-            differ: tally.differ,
+        return Counts {
+            run: counts.run + 1,
+            differ: counts.differ,
         };
     }
-    Tally {
-        run: tally.run + 1,
-        differ: tally.differ + 1,
+    Counts {
+        run: counts.run + 1,
+        differ: counts.differ + 1,
     }
 }
 
-fn run_lines(fd: i32) -> Tally
+fn run_lines(fd: i32) -> Counts
     ensures { λ r. ⌜ (r .differ ≤ r .run) × (r .run ≤ 1000000) ⌝ }
 {
-    let mut tally = Tally { run: 0, differ: 0 };
-    while tally.run < MOST {
+    let mut counts = Counts { run: 0, differ: 0 };
+    while counts.run < MOST {
         let verdict = run_line(fd);
         match verdict {
-            Verdict::End => return tally,
-            Verdict::Agrees => tally = counted(tally, true),
-            Verdict::Differs => tally = counted(tally, false),
+            Verdict::End => return counts,
+            Verdict::Agrees => counts = counted(counts, true),
+            Verdict::Differs => counts = counted(counts, false),
         }
     }
-    tally
+    counts
 }
 
 // A file's name, the number of its lines and how many of them differ.
-fn print_tally(name: &[u8], tally: Tally) {
+fn print_tally(name: &[u8], counts: Counts) {
     print_text(name);
     print_text(b" ");
-    print_number(tally.run, b" ");
-    print_number(tally.differ, b"\n");
+    print_number(counts.run, b" ");
+    print_number(counts.differ, b"\n");
 }
 
 // Runs a file, prints its line and adds it to the total. A file that cannot be opened adds nothing, and a message goes to standard error.
-fn run_file(name: &[u8], total: Tally) -> Tally
+fn run_file(name: &[u8], total: Counts) -> Counts
     requires { ⌜ (total .differ ≤ total .run) × (total .run ≤ 1000000000) ⌝ }
     ensures { λ r. ⌜ (r .differ ≤ r .run) × (r .run ≤ total .run + 1000000) ⌝ }
 {
@@ -216,18 +216,18 @@ fn run_file(name: &[u8], total: Tally) -> Tally
         os::fail(name);
         return total;
     }
-    let tally = run_lines(fd);
+    let counts = run_lines(fd);
     libc::close(fd);
-    print_tally(name, tally);
-    Tally {
-        run: total.run + tally.run,
-        differ: total.differ + tally.differ,
+    print_tally(name, counts);
+    Counts {
+        run: total.run + counts.run,
+        differ: total.differ + counts.differ,
     }
 }
 
 fn main() {
     print_text(b"file run differ\n");
-    let none = Tally { run: 0, differ: 0 };
+    let none = Counts { run: 0, differ: 0 };
     let one = run_file(b"div-testfloat.txt", none);
     let two = run_file(b"div-glibc.txt", one);
     let three = run_file(b"div-llvm.txt", two);

@@ -5,45 +5,15 @@ use mathlib.Core.List.{_++_}
 use lib.IntN.{ℤ}
 use mir.Facts.{toZ-ofZ}
 use mir.Syntax.{w64}
-use Rattle.report.specs.Text.{signedOf, space}
-use Rattle.report.proofs.Texts.{appended-none, appended-then, appended-as}
+use Rattle.printing.specs.Text.{signedOf, space}
+use Rattle.printing.proofs.Texts.{appended-none, appended-then, appended-as}
 use Rattle.listing.specs.Listing.{lineText}
 use borrow.Author.Needs.{needs}
 use Rattle.listing.proofs.append_line.Statement.{statement}
 use Rattle.listing.proofs.append_line.Tie as tie
 
-enum-told : tie.Need-enum-told
-enum-told c = search needs
-
-enum-known-line : tie.Need-enum-known-line
-enum-known-line c = search needs
-
-slice-aggregate-append-number : tie.Need-slice-aggregate-append-number
-slice-aggregate-append-number c = search needs
-
-append-number-requires : tie.Need-append-number-requires
-append-number-requires c κs = search needs
-
-slice-aggregate-append-number-2 : tie.Need-slice-aggregate-append-number-2
-slice-aggregate-append-number-2 c = search needs
-
-append-number-requires-2 : tie.Need-append-number-requires-2
-append-number-requires-2 c κs = search needs
-
-slice-aggregate-append-signed : tie.Need-slice-aggregate-append-signed
-slice-aggregate-append-signed c = search needs
-
-append-signed-requires : tie.Need-append-signed-requires
-append-signed-requires c κs = search needs
-
-append-witness-requires : tie.Need-append-witness-requires
-append-witness-requires c κs = search needs
-
 returns : tie.Need-returns
 returns c = (appended-as (appended-none _ _) (sym (ap lineText (c .enum-told .given .1))), omega arith)
-
-same-length : tie.Need-same-length
-same-length c = search needs
 
 returns-2 : tie.Need-returns-2
 returns-2 c =
@@ -58,17 +28,6 @@ returns-2 c =
 
 pub append-line-spec : {M : Type 1} → statement M
 append-line-spec =
-    tie.close
-    (tie.spec
-    enum-told
-    enum-known-line
-    slice-aggregate-append-number
-    append-number-requires
-    slice-aggregate-append-number-2
-    append-number-requires-2
-    slice-aggregate-append-signed
-    append-signed-requires
-    append-witness-requires
-    returns
-    same-length
-    returns-2)
+    tie.close (tie.spec (λ c. search needs) (λ c. search needs) (λ c. search needs)
+    (λ c κs. search needs) (λ c. search needs) (λ c κs. search needs) (λ c. search needs)
+    (λ c κs. search needs) (λ c κs. search needs) returns (λ c. search needs) returns-2)

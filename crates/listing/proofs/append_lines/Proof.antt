@@ -3,8 +3,8 @@ use mathlib.Core.Path.{_≡_, refl, ap, _∙_}
 use Prim.Native.Nat.{_+_, _*_, _-_, _≤_}
 use native.Mathlib.Omega.{arith}
 use lib.ListN.{length}
-use Rattle.report.specs.Text.{Appended}
-use Rattle.report.proofs.Texts.{appended-none, appended-then, appended-as, appended-size}
+use Rattle.printing.specs.Text.{Appended}
+use Rattle.printing.proofs.Texts.{appended-none, appended-then, appended-as, appended-size}
 use Rattle.listing.specs.Listing.{linesUpto}
 use Rattle.listing.proofs.Lines.{lines-more}
 use Rattle.listing.proofs.append_lines.Statement.{statement}
@@ -22,15 +22,6 @@ loop-holds c = (omega arith, refl, omega arith, appended-none _ _)
 
 line-of-requires : tie.Need-line-of-requires Inv-loop μ-loop
 line-of-requires c κs = (c .before .before .before .before .before .pre .0, omega arith)
-
-append-line-requires : tie.Need-append-line-requires Inv-loop μ-loop
-append-line-requires c κs = omega arith
-
-add-k : tie.Need-add-k Inv-loop μ-loop
-add-k c = omega arith
-
-loop-less : tie.Need-loop-less Inv-loop μ-loop
-loop-less c = omega arith
 
 loop-again : tie.Need-loop-again Inv-loop μ-loop
 loop-again c =
@@ -50,15 +41,5 @@ returns c =
 
 pub append-lines-spec : {M : Type 1} → statement M
 append-lines-spec =
-    tie.close
-    (tie.spec
-    Inv-loop
-    μ-loop
-    loop-holds
-    line-of-requires
-    append-line-requires
-    add-k
-    loop-less
-    loop-again
-    same-length
-    returns)
+    tie.close (tie.spec Inv-loop μ-loop loop-holds line-of-requires (λ c κs. omega arith)
+    (λ c. omega arith) (λ c. omega arith) loop-again same-length returns)

@@ -5,26 +5,11 @@ use mathlib.Core.List.{_++_}
 use lib.IntN.{ℤ}
 use mir.Facts.{toZ-ofZ}
 use mir.Syntax.{w64}
-use Rattle.report.specs.Text.{signedOf, lineEnd}
-use Rattle.report.proofs.Texts.{appended-then, appended-as}
+use Rattle.printing.specs.Text.{signedOf, lineEnd}
+use Rattle.printing.proofs.Texts.{appended-then, appended-as}
 use borrow.Author.Needs.{needs}
 use Rattle.listing.proofs.append_witness.Statement.{statement}
 use Rattle.listing.proofs.append_witness.Tie as tie
-
-slice-aggregate-append-number : tie.Need-slice-aggregate-append-number
-slice-aggregate-append-number c = search needs
-
-append-number-requires : tie.Need-append-number-requires
-append-number-requires c κs = search needs
-
-slice-aggregate-append-signed : tie.Need-slice-aggregate-append-signed
-slice-aggregate-append-signed c = search needs
-
-append-signed-requires : tie.Need-append-signed-requires
-append-signed-requires c κs = search needs
-
-same-length : tie.Need-same-length
-same-length c = search needs
 
 returns : tie.Need-returns
 returns c =
@@ -35,11 +20,5 @@ returns c =
 
 pub append-witness-spec : {M : Type 1} → statement M
 append-witness-spec =
-    tie.close
-    (tie.spec
-    slice-aggregate-append-number
-    append-number-requires
-    slice-aggregate-append-signed
-    append-signed-requires
-    same-length
-    returns)
+    tie.close (tie.spec (λ c. search needs) (λ c κs. search needs) (λ c. search needs)
+    (λ c κs. search needs) (λ c. search needs) returns)

@@ -6,26 +6,11 @@ use borrow.Author.Needs.{needs}
 use Rattle.listing.proofs.listing.Statement.{statement}
 use Rattle.listing.proofs.listing.Tie as tie
 
-check-table-requires : tie.Need-check-table-requires
-check-table-requires c κs = search needs
-
-enum-told : tie.Need-enum-told
-enum-told c = search needs
-
 append-table-requires : tie.Need-append-table-requires
 append-table-requires c κs = (passed-table (c .before .before .before .check-table .ensures .1) (c .before .enum-told .given .1), omega arith)
 
-enum-told-2 : tie.Need-enum-told-2
-enum-told-2 c = search needs
-
 append-table-requires-2 : tie.Need-append-table-requires-2
 append-table-requires-2 c κs = (bad-table (c .before .before .before .check-table .ensures .1) (c .before .enum-told2 .given .1), omega arith)
-
-enum-known-outcome : tie.Need-enum-known-outcome
-enum-known-outcome c = search needs
-
-append-refusal-requires : tie.Need-append-refusal-requires
-append-refusal-requires c κs = search needs
 
 returns : tie.Need-returns
 returns c = printed _ (c .before .before .before .before .check-table .ensures .0) (c .before .before .enum-told .given .1) (c .append-table .ensures .0) (omega arith)
@@ -38,15 +23,6 @@ returns-3 c = printed _ (c .before .before .before .before .before .check-table 
 
 pub listing-spec : {M : Type 1} → statement M
 listing-spec =
-    tie.close
-    (tie.spec
-    check-table-requires
-    enum-told
-    append-table-requires
-    enum-told-2
-    append-table-requires-2
-    enum-known-outcome
-    append-refusal-requires
-    returns
-    returns-2
-    returns-3)
+    tie.close (tie.spec (λ c κs. search needs) (λ c. search needs) append-table-requires
+    (λ c. search needs) append-table-requires-2 (λ c. search needs) (λ c κs. search needs) returns
+    returns-2 returns-3)

@@ -12,14 +12,8 @@ use Rattle.maker.proofs.made.Tie as tie
 filled : (s : List ℕ) → length s ≡ 2048 → madeBuffer s ≡ madeTable
 filled s e = rw (e, drop-of-length-le s {i = 2048} (omega arith)) (append-nil madeTable)
 
-slice-aggregate-make-table : tie.Need-slice-aggregate-make-table
-slice-aggregate-make-table c = search needs
-
-make-table-requires : tie.Need-make-table-requires
-make-table-requires c κs = search needs
-
 returns : tie.Need-returns
 returns c = c .before .make-table .ensures .1 ∙ filled (replicate 2048 0) (length-replicate {A = ℕ} 2048 0)
 
 pub made-spec : {M : Type 1} → statement M
-made-spec = tie.close (tie.spec slice-aggregate-make-table make-table-requires returns)
+made-spec = tie.close (tie.spec (λ c. search needs) (λ c κs. search needs) returns)

@@ -6,18 +6,6 @@ use borrow.Author.Needs.{needs}
 use Rattle.plot.proofs.allowed.Statement.{statement}
 use Rattle.plot.proofs.allowed.Tie as tie
 
-check-cell-requires : tie.Need-check-cell-requires
-check-cell-requires c κs = search needs
-
-enum-told : tie.Need-enum-told
-enum-told c = search needs
-
-enum-told-2 : tie.Need-enum-told-2
-enum-told-2 c = search needs
-
-enum-told-3 : tie.Need-enum-told-3
-enum-told-3 c = search needs
-
 returns : tie.Need-returns
 returns c = allowed-yes (verdict-says (c .before .before .check-cell .ensures .1) (c .enum-told .given .1) .1)
 
@@ -29,5 +17,5 @@ returns-3 c = never-refused (omega arith) (omega arith) (omega arith) (c .before
 
 pub allowed-spec : {M : Type 1} → statement M
 allowed-spec =
-    tie.close
-    (tie.spec check-cell-requires enum-told enum-told-2 enum-told-3 returns returns-2 returns-3)
+    tie.close (tie.spec (λ c κs. search needs) (λ c. search needs) (λ c. search needs)
+    (λ c. search needs) returns returns-2 returns-3)

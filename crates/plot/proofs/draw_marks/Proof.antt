@@ -11,25 +11,10 @@ Inv-loop table rings row₀ row = row ≤ 16
 abbrev μ-loop : tie.MeasureT-loop
 μ-loop table rings row₀ row = 16 - row
 
-loop-holds : tie.Need-loop-holds Inv-loop μ-loop
-loop-holds c = omega arith
-
 mark-row-requires : tie.Need-mark-row-requires Inv-loop μ-loop
 mark-row-requires c κs = (c .before .before .before .pre, omega arith)
 
-add-row : tie.Need-add-row Inv-loop μ-loop
-add-row c = omega arith
-
-loop-less : tie.Need-loop-less Inv-loop μ-loop
-loop-less c = omega arith
-
-loop-again : tie.Need-loop-again Inv-loop μ-loop
-loop-again c = omega arith
-
-returns : tie.Need-returns Inv-loop μ-loop
-returns c = search needs
-
 pub draw-marks-spec : {M : Type 1} → statement M
 draw-marks-spec =
-    tie.close
-    (tie.spec Inv-loop μ-loop loop-holds mark-row-requires add-row loop-less loop-again returns)
+    tie.close (tie.spec Inv-loop μ-loop (λ c. omega arith) mark-row-requires (λ c. omega arith)
+    (λ c. omega arith) (λ c. omega arith) (λ c. search needs))

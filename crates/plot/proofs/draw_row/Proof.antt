@@ -11,9 +11,6 @@ Inv-loop table row from₀ from = from ≤ 128
 abbrev μ-loop : tie.MeasureT-loop
 μ-loop table row from₀ from = 128 - from
 
-loop-holds : tie.Need-loop-holds Inv-loop μ-loop
-loop-holds c = omega arith
-
 stretch-from-requires : tie.Need-stretch-from-requires Inv-loop μ-loop
 stretch-from-requires c κs = (c .before .before .before .pre .0, omega arith, omega arith)
 
@@ -26,18 +23,7 @@ loop-less c = omega (arith, c .before .stretch-from .ensures .some)
 loop-again : tie.Need-loop-again Inv-loop μ-loop
 loop-again c = c .before .stretch-from .ensures .within
 
-returns : tie.Need-returns Inv-loop μ-loop
-returns c = search needs
-
 pub draw-row-spec : {M : Type 1} → statement M
 draw-row-spec =
-    tie.close
-    (tie.spec
-    Inv-loop
-    μ-loop
-    loop-holds
-    stretch-from-requires
-    print-cells-requires
-    loop-less
-    loop-again
-    returns)
+    tie.close (tie.spec Inv-loop μ-loop (λ c. omega arith) stretch-from-requires
+    print-cells-requires loop-less loop-again (λ c. search needs))

@@ -4,12 +4,6 @@ use borrow.Author.Needs.{needs}
 use Rattle.plot.proofs.has_point.Statement.{statement}
 use Rattle.plot.proofs.has_point.Tie as tie
 
-allowed-requires : tie.Need-allowed-requires
-allowed-requires c κs = search needs
-
-allowed-requires-2 : tie.Need-allowed-requires-2
-allowed-requires-2 c κs = search needs
-
 returns : tie.Need-returns
 returns c = point-no (no-point (c .before .before .before .allowed .ensures .yes (c .before .before .if1 .taken)) (c .before .allowed2 .ensures .yes (c .if2 .taken)))
 
@@ -21,4 +15,4 @@ returns-3 c = point-yes (broken-point (c .before .allowed .ensures .no (c .if1 .
 
 pub has-point-spec : {M : Type 1} → statement M
 has-point-spec =
-    tie.close (tie.spec allowed-requires allowed-requires-2 returns returns-2 returns-3)
+    tie.close (tie.spec (λ c κs. search needs) (λ c κs. search needs) returns returns-2 returns-3)

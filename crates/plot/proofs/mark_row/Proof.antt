@@ -11,9 +11,6 @@ Inv-loop table row rings from₀ from = from ≤ 128
 abbrev μ-loop : tie.MeasureT-loop
 μ-loop table row rings from₀ from = 128 - from
 
-loop-holds : tie.Need-loop-holds Inv-loop μ-loop
-loop-holds c = omega arith
-
 stretch-from-requires : tie.Need-stretch-from-requires Inv-loop μ-loop
 stretch-from-requires c κs = (c .before .before .before .pre .0, omega arith, omega arith)
 
@@ -32,20 +29,7 @@ loop-less-2 c = omega (arith, c .before .before .stretch-from .ensures .some)
 loop-again-2 : tie.Need-loop-again-2 Inv-loop μ-loop
 loop-again-2 c = c .before .before .stretch-from .ensures .within
 
-returns : tie.Need-returns Inv-loop μ-loop
-returns c = search needs
-
 pub mark-row-spec : {M : Type 1} → statement M
 mark-row-spec =
-    tie.close
-    (tie.spec
-    Inv-loop
-    μ-loop
-    loop-holds
-    stretch-from-requires
-    mark-requires
-    loop-less
-    loop-again
-    loop-less-2
-    loop-again-2
-    returns)
+    tie.close (tie.spec Inv-loop μ-loop (λ c. omega arith) stretch-from-requires mark-requires
+    loop-less loop-again loop-less-2 loop-again-2 (λ c. search needs))

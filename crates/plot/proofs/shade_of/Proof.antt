@@ -6,12 +6,6 @@ use borrow.Author.Needs.{needs}
 use Rattle.plot.proofs.shade_of.Statement.{statement}
 use Rattle.plot.proofs.shade_of.Tie as tie
 
-shared-slice-read-byte : tie.Need-shared-slice-read-byte
-shared-slice-read-byte c = search needs
-
-has-point-requires : tie.Need-has-point-requires
-has-point-requires c κs = search needs
-
 allowed-requires : tie.Need-allowed-requires
 allowed-requires c κs = (omega arith, omega arith, c .before .before .before .before .pre .0 .digits _)
 
@@ -41,16 +35,5 @@ returns-3 c = record { means = inr (inl (refl, c .before .has-point .ensures .no
 
 pub shade-of-spec : {M : Type 1} → statement M
 shade-of-spec =
-    tie.close
-    (tie.spec
-    shared-slice-read-byte
-    has-point-requires
-    allowed-requires
-    cast-result
-    returns
-    cast-result-2
-    add-result
-    returns-2
-    cast-result-3
-    add-result-2
-    returns-3)
+    tie.close (tie.spec (λ c. search needs) (λ c κs. search needs) allowed-requires cast-result
+    returns cast-result-2 add-result returns-2 cast-result-3 add-result-2 returns-3)

@@ -11,38 +11,17 @@ Inv-loop table row from shade end₀ end = (from < end) × (end ≤ 128) × Alik
 abbrev μ-loop : tie.MeasureT-loop
 μ-loop table row from shade end₀ end = 128 - end
 
-mul-shade-of : tie.Need-mul-shade-of Inv-loop μ-loop
-mul-shade-of c = omega arith
-
-add-shade-of : tie.Need-add-shade-of Inv-loop μ-loop
-add-shade-of c = omega arith
-
 shade-of-requires : tie.Need-shade-of-requires Inv-loop μ-loop
 shade-of-requires c κs = (c .before .pre .0, omega arith)
 
-add-end : tie.Need-add-end Inv-loop μ-loop
-add-end c = omega arith
-
 loop-holds : tie.Need-loop-holds Inv-loop μ-loop
 loop-holds c = (omega arith, omega arith, alike-one _ (c .before .before .args .row) (c .before .before .args .from) (c .shade-of .ensures))
-
-mul-shade-of-2 : tie.Need-mul-shade-of-2 Inv-loop μ-loop
-mul-shade-of-2 c = omega arith
-
-add-shade-of-2 : tie.Need-add-shade-of-2 Inv-loop μ-loop
-add-shade-of-2 c = omega arith
 
 shade-of-requires-2 : tie.Need-shade-of-requires-2 Inv-loop μ-loop
 shade-of-requires-2 c κs = (c .before .before .before .before .pre .0, omega arith)
 
 returns : tie.Need-returns Inv-loop μ-loop
 returns c = let inv = c .before .before .before .loop .inv in record { some = inv .0; within = inv .1; alike = inv .2 }
-
-add-end-2 : tie.Need-add-end-2 Inv-loop μ-loop
-add-end-2 c = omega arith
-
-loop-less : tie.Need-loop-less Inv-loop μ-loop
-loop-less c = omega arith
 
 loop-again : tie.Need-loop-again Inv-loop μ-loop
 loop-again c =
@@ -54,20 +33,6 @@ returns-2 c = let inv = c .before .loop .inv in record { some = inv .0; within =
 
 pub stretch-from-spec : {M : Type 1} → statement M
 stretch-from-spec =
-    tie.close
-    (tie.spec
-    Inv-loop
-    μ-loop
-    mul-shade-of
-    add-shade-of
-    shade-of-requires
-    add-end
-    loop-holds
-    mul-shade-of-2
-    add-shade-of-2
-    shade-of-requires-2
-    returns
-    add-end-2
-    loop-less
-    loop-again
-    returns-2)
+    tie.close (tie.spec Inv-loop μ-loop (λ c. omega arith) (λ c. omega arith) shade-of-requires
+    (λ c. omega arith) loop-holds (λ c. omega arith) (λ c. omega arith) shade-of-requires-2 returns
+    (λ c. omega arith) (λ c. omega arith) loop-again returns-2)

@@ -6,18 +6,6 @@ use borrow.Author.Needs.{needs}
 use Rattle.quendaric.proofs.cell_reply.Statement.{statement}
 use Rattle.quendaric.proofs.cell_reply.Tie as tie
 
-enum-told : tie.Need-enum-told
-enum-told c = search needs
-
-enum-known-x : tie.Need-enum-known-x
-enum-known-x c = search needs
-
-disallowed-reply-requires : tie.Need-disallowed-reply-requires
-disallowed-reply-requires c κs = search needs
-
-enum-known-x-2 : tie.Need-enum-known-x-2
-enum-known-x-2 c = search needs
-
 returns : tie.Need-returns
 returns c = sym (ap (λ (x : CellVerdict). cellReply (cellNumbers x)) (c .enum-told .given .1))
 
@@ -29,12 +17,5 @@ returns-3 c = sym (ap (λ (x : CellVerdict). cellReply (cellNumbers x)) (c .befo
 
 pub cell-reply-spec : {M : Type 1} → statement M
 cell-reply-spec =
-    tie.close
-    (tie.spec
-    enum-told
-    enum-known-x
-    disallowed-reply-requires
-    enum-known-x-2
-    returns
-    returns-2
-    returns-3)
+    tie.close (tie.spec (λ c. search needs) (λ c. search needs) (λ c κs. search needs)
+    (λ c. search needs) returns returns-2 returns-3)

@@ -6,14 +6,9 @@ use borrow.Author.Needs.{needs}
 use Rattle.quendaric.proofs.quendaric_check_cell.Statement.{statement}
 use Rattle.quendaric.proofs.quendaric_check_cell.Tie as tie
 
-check-cell-requires : tie.Need-check-cell-requires
-check-cell-requires c κs = search needs
-
-cell-reply-requires : tie.Need-cell-reply-requires
-cell-reply-requires c κs = search needs
-
 returns : tie.Need-returns
 returns c = c .cell-reply .ensures ∙ ap (λ (x : CellVerdict). cellReply (cellNumbers x)) (c .before .check-cell .ensures .0)
 
 pub quendaric-check-cell-spec : {M : Type 1} → statement M
-quendaric-check-cell-spec = tie.close (tie.spec check-cell-requires cell-reply-requires returns)
+quendaric-check-cell-spec =
+    tie.close (tie.spec (λ c κs. search needs) (λ c κs. search needs) returns)

@@ -7,9 +7,6 @@ use borrow.Author.Needs.{needs}
 use Rattle.quendaric.proofs.quendaric_check_table.Statement.{statement}
 use Rattle.quendaric.proofs.quendaric_check_table.Tie as tie
 
-check-table-requires : tie.Need-check-table-requires
-check-table-requires c κs = search needs
-
 table-reply-requires : tie.Need-table-reply-requires
 table-reply-requires c κs = record { cell = λ b e. bad-cell (c .check-table .ensures .1) e }
 
@@ -17,4 +14,5 @@ returns : tie.Need-returns
 returns c = c .table-reply .ensures ∙ ap (λ (x : Report). tableReply (reportNumbers x)) (c .before .check-table .ensures .0)
 
 pub quendaric-check-table-spec : {M : Type 1} → statement M
-quendaric-check-table-spec = tie.close (tie.spec check-table-requires table-reply-requires returns)
+quendaric-check-table-spec =
+    tie.close (tie.spec (λ c κs. search needs) table-reply-requires returns)

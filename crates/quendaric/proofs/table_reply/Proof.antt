@@ -7,23 +7,11 @@ use borrow.Author.Needs.{needs}
 use Rattle.quendaric.proofs.table_reply.Statement.{statement}
 use Rattle.quendaric.proofs.table_reply.Tie as tie
 
-enum-told : tie.Need-enum-told
-enum-told c = search needs
-
-enum-known-outcome : tie.Need-enum-known-outcome
-enum-known-outcome c = search needs
-
 mul-bad-reply : tie.Need-mul-bad-reply
 mul-bad-reply c = omega (arith, c .before .before .before .before .before .pre .cell _ (c .before .before .before .outcome .given .1))
 
 add-bad-reply : tie.Need-add-bad-reply
 add-bad-reply c = omega (arith, c .before .before .before .before .before .before .pre .cell _ (c .before .before .before .before .outcome .given .1))
-
-bad-reply-requires : tie.Need-bad-reply-requires
-bad-reply-requires c κs = search needs
-
-enum-known-outcome-2 : tie.Need-enum-known-outcome-2
-enum-known-outcome-2 c = search needs
 
 returns : tie.Need-returns
 returns c = sym (ap (λ (o : Outcome). tableReply (outcomeNumbers (c .before .before .args .x .count) o)) (c .enum-told .given .1))
@@ -36,14 +24,5 @@ returns-3 c = sym (ap (λ (o : Outcome). tableReply (outcomeNumbers (c .before .
 
 pub table-reply-spec : {M : Type 1} → statement M
 table-reply-spec =
-    tie.close
-    (tie.spec
-    enum-told
-    enum-known-outcome
-    mul-bad-reply
-    add-bad-reply
-    bad-reply-requires
-    enum-known-outcome-2
-    returns
-    returns-2
-    returns-3)
+    tie.close (tie.spec (λ c. search needs) (λ c. search needs) mul-bad-reply add-bad-reply
+    (λ c κs. search needs) (λ c. search needs) returns returns-2 returns-3)

@@ -5,33 +5,15 @@ use borrow.Author.Needs.{needs}
 use Rattle.recurrence.proofs.corrected.Statement.{statement}
 use Rattle.recurrence.proofs.corrected.Tie as tie
 
-wrapping-add-u64-requires : tie.Need-wrapping-add-u64-requires
-wrapping-add-u64-requires c κs = search needs
-
-sub-t6 : tie.Need-sub-t6
-sub-t6 c = search needs
-
-add-wrapping-add-u64 : tie.Need-add-wrapping-add-u64
-add-wrapping-add-u64 c = search needs
-
 mul-wrapping-add-u64 : tie.Need-mul-wrapping-add-u64
 mul-wrapping-add-u64 c =
     let h : c .before .wrapping-add-u64 .result / 2 ^ 63 ≤ 1 = omega arith in
     record { fits = omega (arith, mul-le-mul-right (c .before .before .args .state .divisor + 3 * 2 ^ 62) h) }
-
-wrapping-add-u64-requires-2 : tie.Need-wrapping-add-u64-requires-2
-wrapping-add-u64-requires-2 c κs = search needs
 
 returns : tie.Need-returns
 returns c = simp (c .wrapping-add-u642 .ensures, c .before .before .wrapping-add-u64 .ensures)
 
 pub corrected-spec : {M : Type 1} → statement M
 corrected-spec =
-    tie.close
-    (tie.spec
-    wrapping-add-u64-requires
-    sub-t6
-    add-wrapping-add-u64
-    mul-wrapping-add-u64
-    wrapping-add-u64-requires-2
-    returns)
+    tie.close (tie.spec (λ c κs. search needs) (λ c. search needs) (λ c. search needs)
+    mul-wrapping-add-u64 (λ c κs. search needs) returns)

@@ -3,11 +3,8 @@ use borrow.Author.Needs.{needs}
 use Rattle.recurrence.proofs.digit_at.Statement.{statement}
 use Rattle.recurrence.proofs.digit_at.Tie as tie
 
-shared-slice-read-result : tie.Need-shared-slice-read-result
-shared-slice-read-result c = search needs
-
 returns : tie.Need-returns
 returns c = (refl, c .before .pre .0 .small _ (c .before .pre .1))
 
 pub digit-at-spec : {M : Type 1} → statement M
-digit-at-spec = tie.close (tie.spec shared-slice-read-result returns)
+digit-at-spec = tie.close (tie.spec (λ c. search needs) returns)

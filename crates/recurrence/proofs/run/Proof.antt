@@ -9,29 +9,11 @@ use borrow.Author.Needs.{needs}
 use Rattle.recurrence.proofs.run.Statement.{statement}
 use Rattle.recurrence.proofs.run.Tie as tie
 
-argument-refusal-requires : tie.Need-argument-refusal-requires
-argument-refusal-requires c κs = search needs
-
-admit-after-requires : tie.Need-admit-after-requires
-admit-after-requires c κs = search needs
-
-enum-known-admission : tie.Need-enum-known-admission
-enum-known-admission c = search needs
-
-zeros-requires : tie.Need-zeros-requires
-zeros-requires c κs = search needs
-
-enum-told : tie.Need-enum-told
-enum-told c = search needs
-
 run-admitted-requires : tie.Need-run-admitted-requires
 run-admitted-requires c κs =
     let k = admitted-both _ (c .before .before .before .admit-after .ensures) (c .before .enum-told .given .1) in
     let s = spans _ _ _ _ _ (sym (c .before .before .before .before .argument-refusal .ensures) ∙ k .0) in
     (k .1, s .0, s .1, s .2, s .3)
-
-values-requires : tie.Need-values-requires
-values-requires c κs = search needs
 
 returns : tie.Need-returns
 returns c =
@@ -39,9 +21,6 @@ returns c =
     run-answered (now (a .table)) (a .dividend) (a .divisor) (a .digits) (now (a .buffer)) (a .place)
     (first-lent (runRungs (a .dividend) (a .divisor) (a .digits) (length (now (a .buffer))) (a .place)) _ (c .before .before .before .before .admit-after .ensures) (c .before .before .before .before .before .argument-refusal .ensures) (c .before .before .admission .given .1))
     (c .zeros .ensures, refl)
-
-same-length : tie.Need-same-length
-same-length c = search needs
 
 returns-2 : tie.Need-returns-2
 returns-2 c =
@@ -53,15 +32,6 @@ returns-2 c =
 
 pub run-spec : {M : Type 1} → statement M
 run-spec =
-    tie.close
-    (tie.spec
-    argument-refusal-requires
-    admit-after-requires
-    enum-known-admission
-    zeros-requires
-    enum-told
-    run-admitted-requires
-    values-requires
-    returns
-    same-length
-    returns-2)
+    tie.close (tie.spec (λ c κs. search needs) (λ c κs. search needs) (λ c. search needs)
+    (λ c κs. search needs) (λ c. search needs) run-admitted-requires (λ c κs. search needs) returns
+    (λ c. search needs) returns-2)

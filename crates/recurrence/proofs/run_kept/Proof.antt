@@ -12,31 +12,10 @@ use borrow.Author.Needs.{needs}
 use Rattle.recurrence.proofs.run_kept.Statement.{statement}
 use Rattle.recurrence.proofs.run_kept.Tie as tie
 
-argument-refusal-requires : tie.Need-argument-refusal-requires
-argument-refusal-requires c κs = search needs
-
-enum-known-admission : tie.Need-enum-known-admission
-enum-known-admission c = search needs
-
-zeros-requires : tie.Need-zeros-requires
-zeros-requires c κs = search needs
-
-enum-told : tie.Need-enum-told
-enum-told c = search needs
-
-kept-row-requires : tie.Need-kept-row-requires
-kept-row-requires c κs = search needs
-
-slice-aggregate-run-part : tie.Need-slice-aggregate-run-part
-slice-aggregate-run-part c = search needs
-
 run-part-requires : tie.Need-run-part-requires
 run-part-requires c κs =
     let s = spans _ _ _ _ _ (sym (c .before .before .before .before .before .argument-refusal .ensures) ∙ c .before .before .before .enum-told .given .1) in
     (row-of-kept (kept-row _ (s .0 .least) (s .0 .most) (c .before .before .kept-row .ensures)), s .0, s .1, s .2, s .3)
-
-values-requires : tie.Need-values-requires
-values-requires c κs = search needs
 
 returns : tie.Need-returns
 returns c =
@@ -44,9 +23,6 @@ returns c =
     run-answered madeTable (a .dividend) (a .divisor) (a .digits) (now (a .buffer)) (a .place)
     (first-kept (runRungs (a .dividend) (a .divisor) (a .digits) (length (now (a .buffer))) (a .place)) (c .before .before .before .before .argument-refusal .ensures) (c .before .before .admission .given .1))
     (c .zeros .ensures, refl)
-
-same-length : tie.Need-same-length
-same-length c = search needs
 
 returns-2 : tie.Need-returns-2
 returns-2 c =
@@ -59,16 +35,6 @@ returns-2 c =
 
 pub run-kept-spec : {M : Type 1} → statement M
 run-kept-spec =
-    tie.close
-    (tie.spec
-    argument-refusal-requires
-    enum-known-admission
-    zeros-requires
-    enum-told
-    kept-row-requires
-    slice-aggregate-run-part
-    run-part-requires
-    values-requires
-    returns
-    same-length
-    returns-2)
+    tie.close (tie.spec (λ c κs. search needs) (λ c. search needs) (λ c κs. search needs)
+    (λ c. search needs) (λ c κs. search needs) (λ c. search needs) run-part-requires
+    (λ c κs. search needs) returns (λ c. search needs) returns-2)

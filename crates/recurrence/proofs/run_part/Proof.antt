@@ -9,24 +9,6 @@ use native.Mathlib.Omega.{arith}
 use Rattle.recurrence.proofs.run_part.Statement.{statement}
 use Rattle.recurrence.proofs.run_part.Tie as tie
 
-add-run-row : tie.Need-add-run-row
-add-run-row c = search needs
-
-sub-run-row : tie.Need-sub-run-row
-sub-run-row c = search needs
-
-part-run-row-start : tie.Need-part-run-row-start
-part-run-row-start c = search needs
-
-part-run-row-end : tie.Need-part-run-row-end
-part-run-row-end c = search needs
-
-run-row-requires : tie.Need-run-row-requires
-run-row-requires c κs = search needs
-
-same-length : tie.Need-same-length
-same-length c = search needs
-
 returns : tie.Need-returns
 returns c t ok is =
     let a = c .before .before .before .before .before .before .args in
@@ -39,5 +21,5 @@ returns c t ok is =
 
 pub run-part-spec : {M : Type 1} → statement M
 run-part-spec =
-    tie.close
-    (tie.spec add-run-row sub-run-row part-run-row-start part-run-row-end run-row-requires same-length returns)
+    tie.close (tie.spec (λ c. search needs) (λ c. search needs) (λ c. search needs)
+    (λ c. search needs) (λ c κs. search needs) (λ c. search needs) returns)

@@ -15,11 +15,11 @@ use Rattle.recurrence.proofs.run_row.Statement.{statement}
 use Rattle.recurrence.proofs.run_row.Tie as tie
 
 abbrev Inv-loop : tie.InvT-loop
-Inv-loop bytes dividend divisor out₀ multiples lanes state₀ total₀ i₀ out state total i =
+Inv-loop bytes dividend divisor out₀ multiples tops state₀ total₀ i₀ out state total i =
     (t : List ℕ) → Passes t → bytes ≡ rowBytes t (row divisor) → Reached t dividend divisor out₀ out state total i
 
 abbrev μ-loop : tie.MeasureT-loop
-μ-loop bytes dividend divisor out₀ multiples lanes state₀ total₀ i₀ out state total i = length out₀ - i
+μ-loop bytes dividend divisor out₀ multiples tops state₀ total₀ i₀ out state total i = length out₀ - i
 
 -- one turn: what the call of next gives
 moved : (c : tie.After-next Inv-loop μ-loop) →
@@ -44,12 +44,6 @@ turned c = let g = c .before .before .before .before .before .before .before .be
 multiples-of-requires : tie.Need-multiples-of-requires Inv-loop μ-loop
 multiples-of-requires c κs = c .before .before .pre .1 .most
 
-lanes-of-requires : tie.Need-lanes-of-requires Inv-loop μ-loop
-lanes-of-requires c κs = search needs
-
-new-requires : tie.Need-new-requires Inv-loop μ-loop
-new-requires c κs = search needs
-
 loop-holds : tie.Need-loop-holds Inv-loop μ-loop
 unfolding after digits
 loop-holds c t ok is =
@@ -69,7 +63,7 @@ next-requires c κs =
     rw (r .stands) (record {
       digits = row-digits (s .pre .1 .most) g;
       multiples = rw (r .invariant .divisor) (c .before .before .before .before .before .before .multiples-of .ensures);
-      tops = c .before .before .before .before .lanes-of .ensures;
+      top-bits = c .before .before .before .before .all-top-bits .ensures;
       current = refl;
     })
 
@@ -121,23 +115,6 @@ returns c t ok is =
 
 pub run-row-spec : {M : Type 1} → statement M
 run-row-spec =
-    tie.close
-    (tie.spec
-    Inv-loop
-    μ-loop
-    multiples-of-requires
-    lanes-of-requires
-    new-requires
-    loop-holds
-    next-requires
-    mul-total
-    cast-total
-    add-total
-    sub-total
-    slice-write-out
-    add-i
-    loop-less
-    loop-again
-    corrected-requires
-    same-length
-    returns)
+    tie.close (tie.spec Inv-loop μ-loop multiples-of-requires (λ c κs. search needs)
+    (λ c κs. search needs) loop-holds next-requires mul-total cast-total add-total sub-total
+    slice-write-out add-i loop-less loop-again corrected-requires same-length returns)

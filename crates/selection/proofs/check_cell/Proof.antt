@@ -1,7 +1,6 @@
 use mir.Syntax.{w64}
-use Rattle.selection.proofs.Bridge.{verdict-checked}
+use Rattle.selection.proofs.BiasedPoints.{verdict-checked, answers}
 use mathlib.Core.Path.{sym, _∙_}
-use Rattle.selection.proofs.Bridge.{answers}
 use mir.Facts.{toZ-ofZ}
 use borrow.Author.Tests.{lt-ltb, le-ltb}
 use borrow.Author.Needs.{needs}
@@ -14,26 +13,8 @@ returns c = answers _ _ _ (simp (lt-ltb _ _ (c .if1 .taken)))
 returns-2 : tie.Need-returns-2
 returns-2 c = answers _ _ _ (simp (le-ltb _ _ (c .before .if1 .left), lt-ltb _ _ (c .if2 .taken)))
 
-mul-t9 : tie.Need-mul-t9
-mul-t9 c = search needs
-
-add-t10 : tie.Need-add-t10
-add-t10 c = search needs
-
 returns-3 : tie.Need-returns-3
 returns-3 c = answers _ _ _ (simp (le-ltb _ _ (c .before .before .if1 .left), le-ltb _ _ (c .before .if2 .left), lt-ltb _ _ (c .if3 .taken)))
-
-search-requires : tie.Need-search-requires
-search-requires c κs = search needs
-
-enum-told : tie.Need-enum-told
-enum-told c = search needs
-
-enum-known-d : tie.Need-enum-known-d
-enum-known-d c = search needs
-
-unbiased-requires : tie.Need-unbiased-requires
-unbiased-requires c κs = search needs
 
 returns-4 : tie.Need-returns-4
 returns-4 c = verdict-checked (record { row = c .before .before .before .before .before .if1 .left; column = c .before .before .before .before .if2 .left; byte = c .before .before .before .if3 .left }) (sym (c .enum-told .given .1) ∙ c .before .before .search .ensures)
@@ -43,16 +24,6 @@ returns-5 c = rw (toZ-ofZ {w = w64} (record { sfits = c .unbiased .ok }), c .unb
 
 pub check-cell-spec : {M : Type 1} → statement M
 check-cell-spec =
-    tie.close
-    (tie.spec
-    returns
-    returns-2
-    mul-t9
-    add-t10
-    returns-3
-    search-requires
-    enum-told
-    enum-known-d
-    unbiased-requires
-    returns-4
+    tie.close (tie.spec returns returns-2 (λ c. search needs) (λ c. search needs) returns-3
+    (λ c κs. search needs) (λ c. search needs) (λ c. search needs) (λ c κs. search needs) returns-4
     returns-5)

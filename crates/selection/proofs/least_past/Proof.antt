@@ -3,14 +3,8 @@ use borrow.Author.Needs.{needs}
 use Rattle.selection.proofs.least_past.Statement.{statement}
 use Rattle.selection.proofs.least_past.Tie as tie
 
-add-result : tie.Need-add-result
-add-result c = search needs
-
 returns : tie.Need-returns
 returns c = simp (eq-eqb _ _ (c .if1 .taken))
-
-add-result-2 : tie.Need-add-result-2
-add-result-2 c = search needs
 
 returns-2 : tie.Need-returns-2
 returns-2 c = simp (ne-eqb _ _ (c .before .if1 .left), eq-eqb _ _ (c .if2 .taken))
@@ -19,4 +13,5 @@ returns-3 : tie.Need-returns-3
 returns-3 c = simp (ne-eqb _ _ (c .before .if1 .left), ne-eqb _ _ (c .if2 .left))
 
 pub least-past-spec : {M : Type 1} → statement M
-least-past-spec = tie.close (tie.spec add-result returns add-result-2 returns-2 returns-3)
+least-past-spec =
+    tie.close (tie.spec (λ c. search needs) returns (λ c. search needs) returns-2 returns-3)

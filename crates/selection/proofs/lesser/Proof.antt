@@ -3,21 +3,6 @@ use borrow.Author.Needs.{needs}
 use Rattle.selection.proofs.lesser.Statement.{statement}
 use Rattle.selection.proofs.lesser.Tie as tie
 
-enum-told : tie.Need-enum-told
-enum-told c = search needs
-
-enum-known-a : tie.Need-enum-known-a
-enum-known-a c = search needs
-
-enum-told-2 : tie.Need-enum-told-2
-enum-told-2 c = search needs
-
-enum-known-b : tie.Need-enum-known-b
-enum-known-b c = search needs
-
-returns : tie.Need-returns
-returns c = search needs
-
 returns-2 : tie.Need-returns-2
 returns-2 c = simp (c .before .before .before .a .given .1, c .enum-told2 .given .1)
 
@@ -29,13 +14,5 @@ returns-4 c = simp (c .before .before .before .before .before .a .given .1, c .b
 
 pub lesser-spec : {M : Type 1} → statement M
 lesser-spec =
-    tie.close
-    (tie.spec
-    enum-told
-    enum-known-a
-    enum-told-2
-    enum-known-b
-    returns
-    returns-2
-    returns-3
-    returns-4)
+    tie.close (tie.spec (λ c. search needs) (λ c. search needs) (λ c. search needs)
+    (λ c. search needs) (λ c. search needs) returns-2 returns-3 returns-4)

@@ -5,41 +5,17 @@ use borrow.Author.Needs.{needs}
 use Rattle.selection.proofs.too_high_at.Statement.{statement}
 use Rattle.selection.proofs.too_high_at.Tie as tie
 
-mul-larger : tie.Need-mul-larger
-mul-larger c = search needs
-
-sub-larger : tie.Need-sub-larger
-sub-larger c = search needs
-
 mul-larger-2 : tie.Need-mul-larger-2
 mul-larger-2 c = omega (arith, mul-le-mul-right (c .before .args .d) (c .before .pre .1))
 
 add-larger : tie.Need-add-larger
 add-larger c = omega (arith, mul-le-mul-right (c .before .args .d) (c .before .pre .1))
 
-mul-larger-3 : tie.Need-mul-larger-3
-mul-larger-3 c = search needs
-
 add-larger-2 : tie.Need-add-larger-2
 add-larger-2 c = omega (arith, mul-le-mul-right (c .before .args .d) (c .before .pre .1))
 
 add-larger-3 : tie.Need-add-larger-3
 add-larger-3 c = omega (arith, mul-le-mul-right (c .before .args .d) (c .before .pre .1))
-
-larger-requires : tie.Need-larger-requires
-larger-requires c κs = search needs
-
-mul-if3 : tie.Need-mul-if3
-mul-if3 c = search needs
-
-mul-if3-2 : tie.Need-mul-if3-2
-mul-if3-2 c = search needs
-
-add-if3 : tie.Need-add-if3
-add-if3 c = search needs
-
-add-if3-2 : tie.Need-add-if3-2
-add-if3-2 c = search needs
 
 returns : tie.Need-returns
 returns c = simp (lt-ltb _ _ (c .before .before .before .if1 .taken), ← c .before .before .larger .ensures, le-leb _ _ (c .before .if2 .taken), le-leb _ _ (c .if3 .taken))
@@ -55,21 +31,7 @@ returns-4 c = simp (le-ltb _ _ (c .if1 .left))
 
 pub too-high-at-spec : {M : Type 1} → statement M
 too-high-at-spec =
-    tie.close
-    (tie.spec
-    mul-larger
-    sub-larger
-    mul-larger-2
-    add-larger
-    mul-larger-3
-    add-larger-2
-    add-larger-3
-    larger-requires
-    mul-if3
-    mul-if3-2
-    add-if3
-    add-if3-2
-    returns
-    returns-2
-    returns-3
+    tie.close (tie.spec (λ c. search needs) (λ c. search needs) mul-larger-2 add-larger
+    (λ c. search needs) add-larger-2 add-larger-3 (λ c κs. search needs) (λ c. search needs)
+    (λ c. search needs) (λ c. search needs) (λ c. search needs) returns returns-2 returns-3
     returns-4)

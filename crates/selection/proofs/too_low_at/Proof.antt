@@ -5,24 +5,6 @@ use borrow.Author.Needs.{needs}
 use Rattle.selection.proofs.too_low_at.Statement.{statement}
 use Rattle.selection.proofs.too_low_at.Tie as tie
 
-mul-lowest : tie.Need-mul-lowest
-mul-lowest c = search needs
-
-mul-lowest-2 : tie.Need-mul-lowest-2
-mul-lowest-2 c = search needs
-
-add-lowest : tie.Need-add-lowest
-add-lowest c = search needs
-
-sub-lowest : tie.Need-sub-lowest
-sub-lowest c = search needs
-
-larger-requires : tie.Need-larger-requires
-larger-requires c κs = search needs
-
-sub-if2 : tie.Need-sub-if2
-sub-if2 c = search needs
-
 mul-if2 : tie.Need-mul-if2
 mul-if2 c = omega (arith, mul-le-mul-right (c .before .before .args .d) (c .before .before .pre .1))
 
@@ -37,15 +19,6 @@ returns-3 c = simp (le-ltb _ _ (c .if1 .left))
 
 pub too-low-at-spec : {M : Type 1} → statement M
 too-low-at-spec =
-    tie.close
-    (tie.spec
-    mul-lowest
-    mul-lowest-2
-    add-lowest
-    sub-lowest
-    larger-requires
-    sub-if2
-    mul-if2
-    returns
-    returns-2
+    tie.close (tie.spec (λ c. search needs) (λ c. search needs) (λ c. search needs)
+    (λ c. search needs) (λ c κs. search needs) (λ c. search needs) mul-if2 returns returns-2
     returns-3)

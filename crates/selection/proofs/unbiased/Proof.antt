@@ -1,5 +1,4 @@
 -- `selection::unbiased` meets its contract: both ways the result is w - 2^63.
--- Assumes nothing.
 use mathlib.Core.Path.{_≡_, refl, _∙_, subst, sym}
 use Prim.Native.Nat.{ℕ, _-_, _^_, _<_}
 use native.Mathlib.Omega.{arith}
@@ -21,14 +20,8 @@ moved w h = rw (toZ-pos w64 h) refl
 fits : (w : ℕ) → w < 2 ^ 64 → SFits w64 (subℕ w (2 ^ 63))
 fits w h = by-cond (SFits w64) (ltb w (2 ^ 63)) _ _ (λ t. omega (arith, ltb→lt)) (λ t. omega (arith, nltb→le))
 
-cast-result : tie.Need-cast-result
-cast-result c = search needs
-
 add-result : tie.Need-add-result
 add-result c = subst (SFits w64) (sym (moved (c .before .args .w) (c .if1 .taken))) (fits (c .before .args .w) (omega arith))
-
-cast-result-2 : tie.Need-cast-result-2
-cast-result-2 c = search needs
 
 returns : tie.Need-returns
 returns c = toZ-ofZ (add-result c) ∙ moved (c .before .args .w) (c .if1 .taken)
@@ -37,4 +30,5 @@ returns-2 : tie.Need-returns-2
 returns-2 c = rw (toZ-pos w64 {n = c .before .args .w - 2 ^ 63} (omega arith)) (simp (le-ltb (c .before .args .w) (2 ^ 63) (c .if1 .left)))
 
 pub unbiased-spec : {M : Type 1} → statement M
-unbiased-spec = tie.close (tie.spec cast-result add-result cast-result-2 returns returns-2)
+unbiased-spec =
+    tie.close (tie.spec (λ c. search needs) add-result (λ c. search needs) returns returns-2)

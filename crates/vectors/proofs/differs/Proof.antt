@@ -14,9 +14,6 @@ use Rattle.vectors.proofs.differs.Tie as tie
 as-told : (v : Vector) {x y : Binary64Answer} {b : Bool} → y ≡ x → b ≡ differsFrom v y → b ≡ differsFrom v x
 as-told v {b = b} e h = subst (λ (w : Binary64Answer). b ≡ differsFrom v w) e h
 
-divide-binary64-kept-requires : tie.Need-divide-binary64-kept-requires
-divide-binary64-kept-requires c κs = search needs
-
 -- the three ends
 module _ (v : Vector) (x : Binary64Answer) where
   refused : (x .refusal .number ≡ 0 → ⊥) → true ≡ differsFrom v x
@@ -47,4 +44,4 @@ returns-3 c =
     as-told v (d .ensures) (same-pattern v (d .result) (c .before .before .before .before .before .if1 .left) (c .before .before .if2 .left))
 
 pub differs-spec : {M : Type 1} → statement M
-differs-spec = tie.close (tie.spec divide-binary64-kept-requires returns returns-2 returns-3)
+differs-spec = tie.close (tie.spec (λ c κs. search needs) returns returns-2 returns-3)

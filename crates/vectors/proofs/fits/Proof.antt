@@ -25,15 +25,6 @@ not-last n e = n (inr (inr (inr e)))
 outside : {i : ℕ} → (i < 53) ⊎ (54 < i) → cond (ltb i 53) false (ltb i 55) ≡ false
 outside {i} = ⊎-elim (λ l. rw (lt-ltb i 53 l)) (λ l. rw (le-ltb i 53 (omega arith), le-ltb i 55 (omega arith)))
 
-is-decimal-requires : tie.Need-is-decimal-requires
-is-decimal-requires c κs = search needs
-
-is-decimal-requires-2 : tie.Need-is-decimal-requires-2
-is-decimal-requires-2 c κs = search needs
-
-is-hex-requires : tie.Need-is-hex-requires
-is-hex-requires c κs = search needs
-
 returns : tie.Need-returns
 returns c = ⊎-elim (λ e. rw e) (⊎-elim (λ e. rw e) (⊎-elim (λ e. rw e) (λ e. rw e))) (c .match .keys1)
 
@@ -56,13 +47,5 @@ returns-5 c =
 
 pub fits-spec : {M : Type 1} → statement M
 fits-spec =
-    tie.close
-    (tie.spec
-    is-decimal-requires
-    is-decimal-requires-2
-    is-hex-requires
-    returns
-    returns-2
-    returns-3
-    returns-4
-    returns-5)
+    tie.close (tie.spec (λ c κs. search needs) (λ c κs. search needs) (λ c κs. search needs) returns
+    returns-2 returns-3 returns-4 returns-5)

@@ -39,23 +39,8 @@ loop-holds c = (omega arith, refl, omega arith)
 mul-value : tie.Need-mul-value Inv-loop μ-loop
 mul-value c = omega (arith, room _ (c .before .loop .inv .2) (omega arith))
 
-add-nibble : tie.Need-add-nibble Inv-loop μ-loop
-add-nibble c = omega arith
-
-element-copy-out-nibble : tie.Need-element-copy-out-nibble Inv-loop μ-loop
-element-copy-out-nibble c = omega arith
-
-nibble-requires : tie.Need-nibble-requires Inv-loop μ-loop
-nibble-requires c κs = search needs
-
 add-value : tie.Need-add-value Inv-loop μ-loop
 add-value c = omega (arith, room _ (c .before .before .before .loop .inv .2) (omega arith))
-
-add-i : tie.Need-add-i Inv-loop μ-loop
-add-i c = omega arith
-
-loop-less : tie.Need-loop-less Inv-loop μ-loop
-loop-less c = omega arith
 
 loop-again : tie.Need-loop-again Inv-loop μ-loop
 loop-again c =
@@ -67,17 +52,5 @@ returns c = all-read _ _ (omega arith) (c .before .loop .inv .1) (c .before .loo
 
 pub hex-spec : {M : Type 1} → statement M
 hex-spec =
-    tie.close
-    (tie.spec
-    Inv-loop
-    μ-loop
-    loop-holds
-    mul-value
-    add-nibble
-    element-copy-out-nibble
-    nibble-requires
-    add-value
-    add-i
-    loop-less
-    loop-again
-    returns)
+    tie.close (tie.spec Inv-loop μ-loop loop-holds mul-value (λ c. omega arith) (λ c. omega arith)
+    (λ c κs. search needs) add-value (λ c. omega arith) (λ c. omega arith) loop-again returns)

@@ -6,33 +6,6 @@ use borrow.Author.Needs.{needs}
 use Rattle.division.proofs.whole.divide.Statement.{statement}
 use Rattle.division.proofs.whole.divide.Tie as tie
 
-shift-of-requires : tie.Need-shift-of-requires
-shift-of-requires c κs = search needs
-
-cast-d : tie.Need-cast-d
-cast-d c = search needs
-
-shl-d : tie.Need-shl-d
-shl-d c = search needs
-
-sub-start : tie.Need-sub-start
-sub-start c = search needs
-
-mul-start : tie.Need-mul-start
-mul-start c = search needs
-
-add-shifted : tie.Need-add-shifted
-add-shifted c = search needs
-
-sub-shifted : tie.Need-sub-shifted
-sub-shifted c = search needs
-
-part-shifted-start : tie.Need-part-shifted-start
-part-shifted-start c = search needs
-
-part-shifted-end : tie.Need-part-shifted-end
-part-shifted-end c = search needs
-
 shifted-requires : tie.Need-shifted-requires
 shifted-requires c κs =
     let s = c .before .before .before in
@@ -48,16 +21,6 @@ returns c =
 
 pub divide-spec : {M : Type 1} → statement M
 divide-spec =
-    tie.close
-    (tie.spec
-    shift-of-requires
-    cast-d
-    shl-d
-    sub-start
-    mul-start
-    add-shifted
-    sub-shifted
-    part-shifted-start
-    part-shifted-end
-    shifted-requires
-    returns)
+    tie.close (tie.spec (λ c κs. search needs) (λ c. search needs) (λ c. search needs)
+    (λ c. search needs) (λ c. search needs) (λ c. search needs) (λ c. search needs)
+    (λ c. search needs) (λ c. search needs) shifted-requires returns)

@@ -18,21 +18,6 @@ kept c =
     let e = divisor-word (c .before .before .args .b) (k .result) (k .ensures .3) in
     kept-row D (rw e (k .ensures .2)) (rw e (k .ensures .3)) (c .kept-row .ensures)
 
-shift-of-requires : tie.Need-shift-of-requires
-shift-of-requires c κs = search needs
-
-cast-d : tie.Need-cast-d
-cast-d c = search needs
-
-shl-d : tie.Need-shl-d
-shl-d c = search needs
-
-kept-row-requires : tie.Need-kept-row-requires
-kept-row-requires c κs = search needs
-
-slice-aggregate-shifted : tie.Need-slice-aggregate-shifted
-slice-aggregate-shifted c = search needs
-
 shifted-requires : tie.Need-shifted-requires
 shifted-requires c κs =
     let k = c .before .before .shift-of in
@@ -49,12 +34,5 @@ returns c =
 
 pub divide-kept-spec : {M : Type 1} → statement M
 divide-kept-spec =
-    tie.close
-    (tie.spec
-    shift-of-requires
-    cast-d
-    shl-d
-    kept-row-requires
-    slice-aggregate-shifted
-    shifted-requires
-    returns)
+    tie.close (tie.spec (λ c κs. search needs) (λ c. search needs) (λ c. search needs)
+    (λ c κs. search needs) (λ c. search needs) shifted-requires returns)

@@ -2,35 +2,18 @@
 use mathlib.Core.Path.{sym, ap, _∙_}
 use denote.Ref.{now}
 use Rattle.selection.proofs.Orders.{admitted-both, answered, first-lent}
-use Rattle.division.specs.Whole.{wholeRungs, wholeThrough, wholeZeros, wholeValues}
+use Rattle.division.specs.Whole.{wholeRungs, wholeZeros, wholeValues}
+use Rattle.division.specs.WholeSteps.{wholeThrough}
 use Rattle.division.proofs.Calls.{whole-spans}
 use borrow.Author.Needs.{needs}
 use Rattle.division.proofs.whole.divide_whole.Statement.{statement}
 use Rattle.division.proofs.whole.divide_whole.Tie as tie
-
-refusal-of-requires : tie.Need-refusal-of-requires
-refusal-of-requires c κs = search needs
-
-admit-after-requires : tie.Need-admit-after-requires
-admit-after-requires c κs = search needs
-
-enum-known-admission : tie.Need-enum-known-admission
-enum-known-admission c = search needs
-
-zeros-requires : tie.Need-zeros-requires
-zeros-requires c κs = search needs
-
-enum-told : tie.Need-enum-told
-enum-told c = search needs
 
 divide-requires : tie.Need-divide-requires
 divide-requires c κs =
     let k = admitted-both _ (c .before .before .admit-after .ensures) (c .enum-told .given .1) in
     let s = whole-spans _ _ (sym (c .before .before .before .refusal-of .ensures) ∙ k .0) in
     (k .1, s .0, s .1, s .2)
-
-values-requires : tie.Need-values-requires
-values-requires c κs = search needs
 
 returns : tie.Need-returns
 returns c =
@@ -46,14 +29,6 @@ returns-2 c =
 
 pub divide-whole-spec : {M : Type 1} → statement M
 divide-whole-spec =
-    tie.close
-    (tie.spec
-    refusal-of-requires
-    admit-after-requires
-    enum-known-admission
-    zeros-requires
-    enum-told
-    divide-requires
-    values-requires
-    returns
+    tie.close (tie.spec (λ c κs. search needs) (λ c κs. search needs) (λ c. search needs)
+    (λ c κs. search needs) (λ c. search needs) divide-requires (λ c κs. search needs) returns
     returns-2)

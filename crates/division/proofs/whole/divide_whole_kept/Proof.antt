@@ -2,29 +2,15 @@
 use mathlib.Core.Path.{sym, ap, _∙_}
 use Rattle.selection.specs.Computed.{madeTable}
 use Rattle.selection.proofs.Orders.{answered, first-kept}
-use Rattle.division.specs.Whole.{wholeRungs, wholeThrough, wholeZeros, wholeValues}
+use Rattle.division.specs.Whole.{wholeRungs, wholeZeros, wholeValues}
+use Rattle.division.specs.WholeSteps.{wholeThrough}
 use Rattle.division.proofs.Calls.{whole-spans}
 use borrow.Author.Needs.{needs}
 use Rattle.division.proofs.whole.divide_whole_kept.Statement.{statement}
 use Rattle.division.proofs.whole.divide_whole_kept.Tie as tie
 
-refusal-of-requires : tie.Need-refusal-of-requires
-refusal-of-requires c κs = search needs
-
-enum-known-admission : tie.Need-enum-known-admission
-enum-known-admission c = search needs
-
-zeros-requires : tie.Need-zeros-requires
-zeros-requires c κs = search needs
-
-enum-told : tie.Need-enum-told
-enum-told c = search needs
-
 divide-kept-requires : tie.Need-divide-kept-requires
 divide-kept-requires c κs = whole-spans _ _ (sym (c .before .before .refusal-of .ensures) ∙ c .enum-told .given .1)
-
-values-requires : tie.Need-values-requires
-values-requires c κs = search needs
 
 returns : tie.Need-returns
 returns c =
@@ -40,13 +26,5 @@ returns-2 c =
 
 pub divide-whole-kept-spec : {M : Type 1} → statement M
 divide-whole-kept-spec =
-    tie.close
-    (tie.spec
-    refusal-of-requires
-    enum-known-admission
-    zeros-requires
-    enum-told
-    divide-kept-requires
-    values-requires
-    returns
-    returns-2)
+    tie.close (tie.spec (λ c κs. search needs) (λ c. search needs) (λ c κs. search needs)
+    (λ c. search needs) divide-kept-requires (λ c κs. search needs) returns returns-2)

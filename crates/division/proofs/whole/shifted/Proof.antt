@@ -16,34 +16,10 @@ dividend-word a s h = mod-eq-of-lt (omega (arith, low-bit a s h))
 dividend-small : (a s : ℕ) → a < 2 ^ 60 → (a * 2 ^ (s % 2)) % 2 ^ 64 < 2 ^ 61
 dividend-small a s h = rw (dividend-word a s h) (low-bit a s h)
 
-cast-n : tie.Need-cast-n
-cast-n c = search needs
-
-shl-n : tie.Need-shl-n
-shl-n c = search needs
-
-add-count : tie.Need-add-count
-add-count c = search needs
-
-cast-count : tie.Need-cast-count
-cast-count c = search needs
-
-sub-run-row : tie.Need-sub-run-row
-sub-run-row c = search needs
-
-part-digits-start : tie.Need-part-digits-start
-part-digits-start c = search needs
-
-part-digits-end : tie.Need-part-digits-end
-part-digits-end c = search needs
-
 run-row-requires : tie.Need-run-row-requires
 run-row-requires c κs =
     let s = c .before .before in
     (s .pre .0, record { dividend = dividend-small (s .args .a) (s .args .s) (s .pre .1); least = s .pre .2; most = s .pre .3 }, rw length-take (omega arith), rw length-take (omega arith))
-
-shr-t17 : tie.Need-shr-t17
-shr-t17 c = search needs
 
 returns : tie.Need-returns
 returns c t p e =
@@ -52,15 +28,6 @@ returns c t p e =
 
 pub shifted-spec : {M : Type 1} → statement M
 shifted-spec =
-    tie.close
-    (tie.spec
-    cast-n
-    shl-n
-    add-count
-    cast-count
-    sub-run-row
-    part-digits-start
-    part-digits-end
-    run-row-requires
-    shr-t17
-    returns)
+    tie.close (tie.spec (λ c. search needs) (λ c. search needs) (λ c. search needs)
+    (λ c. search needs) (λ c. search needs) (λ c. search needs) (λ c. search needs) run-row-requires
+    (λ c. search needs) returns)

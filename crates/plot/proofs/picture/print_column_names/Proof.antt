@@ -11,77 +11,10 @@ Inv-loop step₀ t4 t5 t6 step = step ≤ 8
 abbrev μ-loop : tie.MeasureT-loop
 μ-loop step₀ t4 t5 t6 step = 8 - step
 
-slice-aggregate-print-label : tie.Need-slice-aggregate-print-label Inv-loop μ-loop
-slice-aggregate-print-label c = search needs
-
-slice-aggregate-print-label-2 : tie.Need-slice-aggregate-print-label-2 Inv-loop μ-loop
-slice-aggregate-print-label-2 c = search needs
-
-print-label-requires : tie.Need-print-label-requires Inv-loop μ-loop
-print-label-requires c κs = search needs
-
-loop-holds : tie.Need-loop-holds Inv-loop μ-loop
-loop-holds c = omega arith
-
-slice-aggregate-print-text : tie.Need-slice-aggregate-print-text Inv-loop μ-loop
-slice-aggregate-print-text c = search needs
-
-print-text-requires : tie.Need-print-text-requires Inv-loop μ-loop
-print-text-requires c κs = search needs
-
-mul-print-number : tie.Need-mul-print-number Inv-loop μ-loop
-mul-print-number c = omega arith
-
-sub-print-number : tie.Need-sub-print-number Inv-loop μ-loop
-sub-print-number c = omega arith
-
-slice-aggregate-print-number : tie.Need-slice-aggregate-print-number Inv-loop μ-loop
-slice-aggregate-print-number c = search needs
-
-print-number-requires : tie.Need-print-number-requires Inv-loop μ-loop
-print-number-requires c κs = search needs
-
-mul-print-number-2 : tie.Need-mul-print-number-2 Inv-loop μ-loop
-mul-print-number-2 c = omega arith
-
-slice-aggregate-print-number-2 : tie.Need-slice-aggregate-print-number-2 Inv-loop μ-loop
-slice-aggregate-print-number-2 c = search needs
-
-print-number-requires-2 : tie.Need-print-number-requires-2 Inv-loop μ-loop
-print-number-requires-2 c κs = search needs
-
-add-step : tie.Need-add-step Inv-loop μ-loop
-add-step c = omega arith
-
-loop-less : tie.Need-loop-less Inv-loop μ-loop
-loop-less c = omega arith
-
-loop-again : tie.Need-loop-again Inv-loop μ-loop
-loop-again c = omega arith
-
-returns : tie.Need-returns Inv-loop μ-loop
-returns c = search needs
-
 pub print-column-names-spec : {M : Type 1} → statement M
 print-column-names-spec =
-    tie.close
-    (tie.spec
-    Inv-loop
-    μ-loop
-    slice-aggregate-print-label
-    slice-aggregate-print-label-2
-    print-label-requires
-    loop-holds
-    slice-aggregate-print-text
-    print-text-requires
-    mul-print-number
-    sub-print-number
-    slice-aggregate-print-number
-    print-number-requires
-    mul-print-number-2
-    slice-aggregate-print-number-2
-    print-number-requires-2
-    add-step
-    loop-less
-    loop-again
-    returns)
+    tie.close (tie.spec Inv-loop μ-loop (λ c. search needs) (λ c. search needs)
+    (λ c κs. search needs) (λ c. omega arith) (λ c. search needs) (λ c κs. search needs)
+    (λ c. omega arith) (λ c. omega arith) (λ c. search needs) (λ c κs. search needs)
+    (λ c. omega arith) (λ c. search needs) (λ c κs. search needs) (λ c. omega arith)
+    (λ c. omega arith) (λ c. omega arith) (λ c. search needs))

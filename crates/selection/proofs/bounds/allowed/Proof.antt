@@ -4,37 +4,13 @@ use Rattle.selection.specs.Computed.{allowsOf}
 use Rattle.selection.proofs.bounds.allowed.Statement.{statement}
 use Rattle.selection.proofs.bounds.allowed.Tie as tie
 
-mul-v : tie.Need-mul-v
-mul-v c = search needs
-
-add-u : tie.Need-add-u
-add-u c = search needs
-
-add-w : tie.Need-add-w
-add-w c = search needs
-
-mul-if1 : tie.Need-mul-if1
-mul-if1 c = search needs
-
-sub-if1 : tie.Need-sub-if1
-sub-if1 c = search needs
-
 returns : tie.Need-returns
 unfolding allowsOf
 returns c = simp (le-leb _ _ (c .if1 .taken))
 
-mul-if2 : tie.Need-mul-if2
-mul-if2 c = search needs
-
-add-if2 : tie.Need-add-if2
-add-if2 c = search needs
-
 returns-2 : tie.Need-returns-2
 unfolding allowsOf
 returns-2 c = simp (lt-leb _ _ (c .before .if1 .left), le-leb _ _ (c .if2 .taken))
-
-bounds-of-requires : tie.Need-bounds-of-requires
-bounds-of-requires c κs = search needs
 
 returns-3 : tie.Need-returns-3
 unfolding allowsOf
@@ -46,17 +22,6 @@ returns-4 c = simp (lt-leb _ _ (c .before .before .before .before .before .if1 .
 
 pub allowed-spec : {M : Type 1} → statement M
 allowed-spec =
-    tie.close
-    (tie.spec
-    mul-v
-    add-u
-    add-w
-    mul-if1
-    sub-if1
-    returns
-    mul-if2
-    add-if2
-    returns-2
-    bounds-of-requires
-    returns-3
-    returns-4)
+    tie.close (tie.spec (λ c. search needs) (λ c. search needs) (λ c. search needs)
+    (λ c. search needs) (λ c. search needs) returns (λ c. search needs) (λ c. search needs)
+    returns-2 (λ c κs. search needs) returns-3 returns-4)

@@ -1,5 +1,4 @@
 -- `selection::kept::kept_table` meets its contract: antt computes the rule over the constant.
--- Assumes nothing.
 use mathlib.Core.Path.{refl}
 use Rattle.selection.specs.Computed.{allowsOf, madeOf}
 use Rattle.selection.proofs.KeptLaws.{right, made-table}

@@ -4,7 +4,7 @@ use mathlib.Core.List.{[]}
 use native.Mathlib.Nat.{not-suc-le-zero}
 use native.Mathlib.Omega.{arith}
 use lib.ListN.{length, getD, length-set}
-use Rattle.selection.specs.Selection.{Limits}
+use Rattle.selection.specs.Maker.{Limits}
 use Rattle.laws.proofs.Lists.{set-more}
 use Rattle.selection.proofs.maker.all_limits.Statement.{statement}
 use Rattle.selection.proofs.maker.all_limits.Tie as tie
@@ -18,21 +18,6 @@ abbrev μ-loop : tie.MeasureT-loop
 loop-holds : tie.Need-loop-holds Inv-loop μ-loop
 loop-holds c = (omega arith, refl, λ j h. absurd (not-suc-le-zero h))
 
-limits-of-requires : tie.Need-limits-of-requires Inv-loop μ-loop
-limits-of-requires c κs = omega arith
-
-mul-all : tie.Need-mul-all Inv-loop μ-loop
-mul-all c = omega arith
-
-array-set-from-all : tie.Need-array-set-from-all Inv-loop μ-loop
-array-set-from-all c = omega arith
-
-add-row : tie.Need-add-row Inv-loop μ-loop
-add-row c = omega arith
-
-loop-less : tie.Need-loop-less Inv-loop μ-loop
-loop-less c = omega arith
-
 loop-again : tie.Need-loop-again Inv-loop μ-loop
 loop-again c = let inv = c .before .before .loop .inv in (
   omega arith,
@@ -45,15 +30,5 @@ returns c = λ j h. c .before .loop .inv .2 j (omega arith)
 
 pub all-limits-spec : {M : Type 1} → statement M
 all-limits-spec =
-    tie.close
-    (tie.spec
-    Inv-loop
-    μ-loop
-    loop-holds
-    limits-of-requires
-    mul-all
-    array-set-from-all
-    add-row
-    loop-less
-    loop-again
-    returns)
+    tie.close (tie.spec Inv-loop μ-loop loop-holds (λ c κs. omega arith) (λ c. omega arith)
+    (λ c. omega arith) (λ c. omega arith) (λ c. omega arith) loop-again returns)

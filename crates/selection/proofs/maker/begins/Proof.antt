@@ -16,20 +16,8 @@ abbrev μ-loop : tie.MeasureT-loop
 loop-holds : tie.Need-loop-holds Inv-loop μ-loop
 loop-holds c = (omega arith, refl)
 
-cast-made : tie.Need-cast-made Inv-loop μ-loop
-cast-made c = omega arith
-
-made-requires : tie.Need-made-requires Inv-loop μ-loop
-made-requires c κs = omega arith
-
 returns : tie.Need-returns Inv-loop μ-loop
 returns c = (sym (c .before .before .before .loop .inv .1 ∙ first-here _ _ 128 (omega arith) (eq-eqb _ _ (sym (c .before .made .ensures) ∙ c .if1 .taken))), omega arith)
-
-add-c : tie.Need-add-c Inv-loop μ-loop
-add-c c = omega arith
-
-loop-less : tie.Need-loop-less Inv-loop μ-loop
-loop-less c = omega arith
 
 loop-again : tie.Need-loop-again Inv-loop μ-loop
 loop-again c = (omega arith, c .before .before .before .loop .inv .1 ∙ first-on _ _ 128 (omega arith) (ne-eqb _ _ (λ e. c .if1 .left (c .before .made .ensures ∙ e))))
@@ -39,15 +27,5 @@ returns-2 c = (sym (c .before .loop .inv .1 ∙ first-end _ _ 128 (c .loop-test 
 
 pub begins-spec : {M : Type 1} → statement M
 begins-spec =
-    tie.close
-    (tie.spec
-    Inv-loop
-    μ-loop
-    loop-holds
-    cast-made
-    made-requires
-    returns
-    add-c
-    loop-less
-    loop-again
-    returns-2)
+    tie.close (tie.spec Inv-loop μ-loop loop-holds (λ c. omega arith) (λ c κs. omega arith) returns
+    (λ c. omega arith) (λ c. omega arith) loop-again returns-2)

@@ -4,36 +4,11 @@ use borrow.Author.Needs.{needs}
 use Rattle.selection.proofs.maker.limits_of.Statement.{statement}
 use Rattle.selection.proofs.maker.limits_of.Tie as tie
 
-begins-requires : tie.Need-begins-requires
-begins-requires c κs = search needs
-
-begins-requires-2 : tie.Need-begins-requires-2
-begins-requires-2 c κs = search needs
-
-begins-requires-3 : tie.Need-begins-requires-3
-begins-requires-3 c κs = search needs
-
-begins-requires-4 : tie.Need-begins-requires-4
-begins-requires-4 c κs = search needs
-
-begins-requires-5 : tie.Need-begins-requires-5
-begins-requires-5 c κs = search needs
-
-begins-requires-6 : tie.Need-begins-requires-6
-begins-requires-6 c κs = search needs
-
 returns : tie.Need-returns
 unfolding limitsOf
 returns c = limits-answer _ (c .before .before .before .before .before .before .pre) (simp (c .begins6 .ensures .0, c .before .begins5 .ensures .0, c .before .before .begins4 .ensures .0, c .before .before .before .begins3 .ensures .0, c .before .before .before .before .begins2 .ensures .0, c .before .before .before .before .before .begins .ensures .0))
 
 pub limits-of-spec : {M : Type 1} → statement M
 limits-of-spec =
-    tie.close
-    (tie.spec
-    begins-requires
-    begins-requires-2
-    begins-requires-3
-    begins-requires-4
-    begins-requires-5
-    begins-requires-6
-    returns)
+    tie.close (tie.spec (λ c κs. search needs) (λ c κs. search needs) (λ c κs. search needs)
+    (λ c κs. search needs) (λ c κs. search needs) (λ c κs. search needs) returns)

@@ -4,29 +4,17 @@ use borrow.Author.Needs.{needs}
 use Rattle.selection.proofs.maker.made.Statement.{statement}
 use Rattle.selection.proofs.maker.made.Tie as tie
 
-allowed-requires : tie.Need-allowed-requires
-allowed-requires c κs = search needs
-
 returns : tie.Need-returns
 unfolding madeOf
 returns c = simp (sym (c .before .allowed .ensures) ∙ c .if1 .taken)
-
-allowed-requires-2 : tie.Need-allowed-requires-2
-allowed-requires-2 c κs = search needs
 
 returns-2 : tie.Need-returns-2
 unfolding madeOf
 returns-2 c = simp (sym (c .before .before .before .allowed .ensures) ∙ c .before .before .if1 .left, sym (c .before .allowed2 .ensures) ∙ c .if2 .taken)
 
-allowed-requires-3 : tie.Need-allowed-requires-3
-allowed-requires-3 c κs = search needs
-
 returns-3 : tie.Need-returns-3
 unfolding madeOf
 returns-3 c = simp (sym (c .before .before .before .before .before .allowed .ensures) ∙ c .before .before .before .before .if1 .left, sym (c .before .before .before .allowed2 .ensures) ∙ c .before .before .if2 .left, sym (c .before .allowed3 .ensures) ∙ c .if3 .taken)
-
-allowed-requires-4 : tie.Need-allowed-requires-4
-allowed-requires-4 c κs = search needs
 
 returns-4 : tie.Need-returns-4
 unfolding madeOf
@@ -38,14 +26,5 @@ returns-5 c = simp (sym (c .before .before .before .before .before .before .befo
 
 pub made-spec : {M : Type 1} → statement M
 made-spec =
-    tie.close
-    (tie.spec
-    allowed-requires
-    returns
-    allowed-requires-2
-    returns-2
-    allowed-requires-3
-    returns-3
-    allowed-requires-4
-    returns-4
-    returns-5)
+    tie.close (tie.spec (λ c κs. search needs) returns (λ c κs. search needs) returns-2
+    (λ c κs. search needs) returns-3 (λ c κs. search needs) returns-4 returns-5)

@@ -4,7 +4,7 @@ use mathlib.Core.List.{List, _++_}
 use native.Mathlib.Omega.{arith}
 use lib.ListN.{length, drop}
 use borrow.Author.Needs.{needs}
-use Rattle.selection.specs.Selection.{Made}
+use Rattle.selection.specs.Maker.{Made}
 use Rattle.selection.specs.Computed.{listFrom, madeAt}
 use Rattle.laws.proofs.Lists.{filled-length}
 use Rattle.selection.proofs.MadeTables.{list-length, fill-more, make-done, make-refused}
@@ -23,33 +23,12 @@ abbrev μ-loop : tie.MeasureT-loop
 returns : tie.Need-returns Inv-loop μ-loop
 returns c = make-refused _ (c .if1 .taken)
 
-all-limits-requires : tie.Need-all-limits-requires Inv-loop μ-loop
-all-limits-requires c κs = search needs
-
 loop-holds : tie.Need-loop-holds Inv-loop μ-loop
 unfolding listFrom
 loop-holds c = (omega arith, c .before .if1 .left, refl)
 
-mul-l : tie.Need-mul-l Inv-loop μ-loop
-mul-l c = omega arith
-
-array-copy-out-l : tie.Need-array-copy-out-l Inv-loop μ-loop
-array-copy-out-l c = omega arith
-
-cast-digit-at : tie.Need-cast-digit-at Inv-loop μ-loop
-cast-digit-at c = omega arith
-
-digit-at-requires : tie.Need-digit-at-requires Inv-loop μ-loop
-digit-at-requires c κs = search needs
-
 slice-write-buffer : tie.Need-slice-write-buffer Inv-loop μ-loop
 slice-write-buffer c = let inv = c .before .before .before .loop .inv in let e = same _ _ _ inv in omega arith
-
-add-k : tie.Need-add-k Inv-loop μ-loop
-add-k c = omega arith
-
-loop-less : tie.Need-loop-less Inv-loop μ-loop
-loop-less c = omega arith
 
 loop-again : tie.Need-loop-again Inv-loop μ-loop
 loop-again c =
@@ -68,20 +47,6 @@ returns-2 c = let inv = c .before .loop .inv in make-done _ _ (c .before .loop .
 
 pub make-table-spec : {M : Type 1} → statement M
 make-table-spec =
-    tie.close
-    (tie.spec
-    Inv-loop
-    μ-loop
-    returns
-    all-limits-requires
-    loop-holds
-    mul-l
-    array-copy-out-l
-    cast-digit-at
-    digit-at-requires
-    slice-write-buffer
-    add-k
-    loop-less
-    loop-again
-    same-length
-    returns-2)
+    tie.close (tie.spec Inv-loop μ-loop returns (λ c κs. search needs) loop-holds (λ c. omega arith)
+    (λ c. omega arith) (λ c. omega arith) (λ c κs. search needs) slice-write-buffer
+    (λ c. omega arith) (λ c. omega arith) loop-again same-length returns-2)

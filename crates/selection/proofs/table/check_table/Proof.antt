@@ -12,18 +12,9 @@ use Rattle.selection.proofs.table.check_table.Tie as tie
 table-ok : (c : tie.Else2) → Table (now (c .before .before .before .before .args .table))
 table-ok c = is-table _ (c .before .before .if1 .left) (rw (← c .before .first-above .ensures) (c .if2 .left))
 
-refused-requires : tie.Need-refused-requires
-refused-requires c κs = search needs
-
 returns : tie.Need-returns
 unfolding reportOf
 returns c = report-is (rw (c .refused .ensures) (simp (ne-eqb _ _ (c .before .if1 .taken))))
-
-first-above-requires : tie.Need-first-above-requires
-first-above-requires c κs = search needs
-
-refused-requires-2 : tie.Need-refused-requires-2
-refused-requires-2 c κs = search needs
 
 returns-2 : tie.Need-returns-2
 unfolding reportOf
@@ -45,14 +36,5 @@ returns-4 c = report-is (simp (eq-eqb _ _ (c .before .before .before .before .if
 
 pub check-table-spec : {M : Type 1} → statement M
 check-table-spec =
-    tie.close
-    (tie.spec
-    refused-requires
-    returns
-    first-above-requires
-    refused-requires-2
-    returns-2
-    first-bad-requires
-    bad-report-requires
-    returns-3
-    returns-4)
+    tie.close (tie.spec (λ c κs. search needs) returns (λ c κs. search needs) (λ c κs. search needs)
+    returns-2 first-bad-requires bad-report-requires returns-3 returns-4)

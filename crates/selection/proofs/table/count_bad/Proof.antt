@@ -23,12 +23,6 @@ is-bad-requires c κs = (c .before .before .before .pre, omega arith)
 add-count : tie.Need-add-count Inv-loop μ-loop
 add-count c = omega (arith, count-most (isBad (c .before .before .before .before .before .args .table .now)) (c .before .before .before .loop .i))
 
-add-i : tie.Need-add-i Inv-loop μ-loop
-add-i c = omega arith
-
-loop-less : tie.Need-loop-less Inv-loop μ-loop
-loop-less c = omega arith
-
 loop-again : tie.Need-loop-again Inv-loop μ-loop
 loop-again c =
     let inv = c .before .before .before .loop .inv in
@@ -45,14 +39,5 @@ returns c = let e : c .before .loop .i ≡ 2048 = omega arith in c .before .loop
 
 pub count-bad-spec : {M : Type 1} → statement M
 count-bad-spec =
-    tie.close
-    (tie.spec
-    Inv-loop
-    μ-loop
-    loop-holds
-    is-bad-requires
-    add-count
-    add-i
-    loop-less
-    loop-again
-    returns)
+    tie.close (tie.spec Inv-loop μ-loop loop-holds is-bad-requires add-count (λ c. omega arith)
+    (λ c. omega arith) loop-again returns)

@@ -22,12 +22,6 @@ is-bad-requires c κs = (c .before .before .before .pre, omega arith)
 returns : tie.Need-returns Inv-loop μ-loop
 returns c = sym (c .before .before .before .loop .inv .1 ∙ first-here _ _ 2048 (omega arith) (sym (c .before .is-bad .ensures) ∙ c .if1 .taken))
 
-add-k : tie.Need-add-k Inv-loop μ-loop
-add-k c = omega arith
-
-loop-less : tie.Need-loop-less Inv-loop μ-loop
-loop-less c = omega arith
-
 loop-again : tie.Need-loop-again Inv-loop μ-loop
 loop-again c = (omega arith, c .before .before .before .loop .inv .1 ∙ first-on _ _ 2048 (omega arith) (sym (c .before .is-bad .ensures) ∙ c .if1 .left))
 
@@ -36,14 +30,5 @@ returns-2 c = let e : c .before .loop .k ≡ 2048 = omega arith in sym (c .befor
 
 pub first-bad-spec : {M : Type 1} → statement M
 first-bad-spec =
-    tie.close
-    (tie.spec
-    Inv-loop
-    μ-loop
-    loop-holds
-    is-bad-requires
-    returns
-    add-k
-    loop-less
-    loop-again
-    returns-2)
+    tie.close (tie.spec Inv-loop μ-loop loop-holds is-bad-requires returns (λ c. omega arith)
+    (λ c. omega arith) loop-again returns-2)

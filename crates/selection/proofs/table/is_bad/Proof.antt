@@ -5,9 +5,6 @@ use borrow.Author.Needs.{needs}
 use Rattle.selection.proofs.table.is_bad.Statement.{statement}
 use Rattle.selection.proofs.table.is_bad.Tie as tie
 
-shared-slice-read-allowed : tie.Need-shared-slice-read-allowed
-shared-slice-read-allowed c = search needs
-
 allowed-requires : tie.Need-allowed-requires
 allowed-requires c κs = (omega arith, omega arith, c .before .before .pre .0 .digits _)
 
@@ -15,4 +12,4 @@ returns : tie.Need-returns
 returns c = ap not (c .allowed .ensures)
 
 pub is-bad-spec : {M : Type 1} → statement M
-is-bad-spec = tie.close (tie.spec shared-slice-read-allowed allowed-requires returns)
+is-bad-spec = tie.close (tie.spec (λ c. search needs) allowed-requires returns)

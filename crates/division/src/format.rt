@@ -1,0 +1,115 @@
+// The binary64 format: fields, classes, significands, flags, and a result.
+ghost use mathlib.Core.Path.{_≡_};
+ghost use Prim.Native.Nat.{_-_, _*_, _^_, _<_};
+ghost use Rattle.division.specs.Format.{classOf, signOf, signBit};
+ghost use Rattle.division.specs.Significands.{significandOf, FiniteNonzero, Normalized};
+ghost use Rattle.division.specs.WholeSteps.{shiftTo};
+
+// The weight of a significand's leading one, which a normal pattern leaves out: below it stands the fraction field, from it on the exponent field.
+pub(crate) const HIDDEN_BIT: u64 = 0x10_0000_0000_0000;
+
+pub(crate) const SIGN_BIT: u64 = 0x8000_0000_0000_0000;
+
+pub(crate) const INFINITY: u64 = 0x7FF0_0000_0000_0000;
+
+pub(crate) const LARGEST_FINITE: u64 = 0x7FEF_FFFF_FFFF_FFFF;
+
+pub(crate) const QUIET_NAN: u64 = 0x7FF8_0000_0000_0000;
+
+// The flags.
+pub(crate) const INEXACT: u8 = 1;
+
+pub(crate) const UNDERFLOW: u8 = 2;
+
+pub(crate) const OVERFLOW: u8 = 4;
+
+pub(crate) const DIVISION_BY_ZERO: u8 = 8;
+
+pub(crate) const INVALID: u8 = 16;
+
+// The pattern, and the sum of the flags, which is below 32.
+pub struct Binary64Result {
+    pub pattern: u64,
+    pub flags: u8,
+}
+
+// The class of a pattern.
+pub enum Class {
+    Zero,
+    Subnormal,
+    Normal,
+    Infinite,
+    Nan,
+}
+
+// A finite magnitude other than 0, its significand moved up to 53 bits: sig * 2^exp units of 2^-1126.
+pub(crate) struct Scaled {
+    pub(crate) sig: u64,
+    pub(crate) exp: u64,
+}
+
+pub(crate) fn sign_bit(negative: bool) -> u64
+    ensures { λ r. ⌜ r ≡ signBit negative ⌝ }
+{
+    if negative { SIGN_BIT } else { 0 }
+}
+
+// The exclusive or of the signs.
+pub(crate) fn sign_of(a: u64, b: u64) -> bool
+    ensures { λ r. ⌜ r ≡ signOf a b ⌝ }
+{
+    (SIGN_BIT <= a) != (SIGN_BIT <= b)
+}
+
+// The operand's class, by its exponent field.
+pub(crate) fn class_of(p: u64) -> Class
+    ensures { λ r. ⌜ r ≡ classOf p ⌝ }
+{
+    let exponent = p / HIDDEN_BIT % 2048;
+    let fraction = p % HIDDEN_BIT;
+    match exponent {
+        0 => {
+            if fraction == 0 {
+                Class::Zero
+            } else {
+                Class::Subnormal
+            }
+        }
+        1..=2046 => Class::Normal,
+        _ => {
+            if fraction == 0 {
+                Class::Infinite
+            } else {
+                Class::Nan
+            }
+        }
+    }
+}
+
+// A subnormal's fraction, moved up until the leading one is bit 52.
+fn scaled_up(fraction: u64) -> Scaled
+    requires { ⌜ (0 < fraction) × (fraction < 2 ^ 52) ⌝ }
+    ensures { λ r. ⌜ r ≡ record { sig = fraction * 2 ^ shiftTo 52 fraction; exp = 52 - shiftTo 52 fraction } ⌝ }
+{
+    let s = u64::leading_zeros(fraction) - 11;
+    Scaled {
+        sig: fraction << s,
+        exp: (52 - s) as u64,
+    }
+}
+
+// The significand and the exponent of a finite pattern that is not a zero.
+pub(crate) fn significand(p: u64) -> Scaled
+    requires { ⌜ FiniteNonzero p ⌝ }
+    ensures { λ r. ⌜ (r ≡ significandOf p) × (Normalized r) ⌝ }
+{
+    let exponent = p / HIDDEN_BIT % 2048;
+    let fraction = p % HIDDEN_BIT;
+    if exponent == 0 {
+        return scaled_up(fraction);
+    }
+    Scaled {
+        sig: HIDDEN_BIT + fraction,
+        exp: exponent + 51,
+    }
+}

@@ -1,0 +1,33 @@
+-- `printing::text::append_number` meets its contract: what `io::decimal` makes is the number in decimal, of at most 20 digits.
+use Prim.Native.Nat.{_≤_}
+use mathlib.Core.Path.{_∙_}
+use native.Mathlib.Omega.{arith}
+use Rattle.printing.proofs.Decimals.{decimal-count, decimal-is}
+use Rattle.printing.proofs.Texts.{appended-then, appended-as}
+use borrow.Author.Needs.{needs}
+use Rattle.printing.proofs.text.append_number.Statement.{statement}
+use Rattle.printing.proofs.text.append_number.Tie as tie
+
+few : (c : tie.After-decimal) → c .decimal .result ≤ 20
+few c = decimal-count _ (c .before .before .before .before .args .number) (c .decimal .ensures .1 .0) (omega arith)
+
+append-requires : tie.Need-append-requires
+append-requires c κs = omega (arith, c .before .before .decimal .ensures .0 .1, few (c .before .before))
+
+append-requires-2 : tie.Need-append-requires-2
+append-requires-2 c κs =
+    let d = c .before .before .before .before .before .before in
+    omega (arith, c .before .before .before .append .ensures .past, d .decimal .ensures .0 .1, few d)
+
+returns : tie.Need-returns
+returns c =
+    let d = c .before .before .before .before .before .before .before .before .before in
+    let a = c .before .before .before .before .before .before .append .ensures in
+    let b = c .before .before .append2 .ensures in
+    let h = few d in
+    (appended-then (appended-as a (d .decimal .ensures .1 .1 ∙ decimal-is _ _ (d .decimal .ensures .1 .0) h)) b (omega (arith, a .past, d .decimal .ensures .0 .1)), omega (arith, a .past, b .past, d .decimal .ensures .0 .1))
+
+pub append-number-spec : {M : Type 1} → statement M
+append-number-spec =
+    tie.close (tie.spec (λ c κs. search needs) (λ c. search needs) (λ c. search needs)
+    append-requires append-requires-2 (λ c. search needs) returns)

@@ -1,0 +1,105 @@
+-- The estimate ahead: the column of the next words, from the top bits of these words and of the multiple.
+use mathlib.Core.Path.{_≡_, refl, _∙_}
+use mathlib.Core.List.{List}
+use Prim.Native.Nat.{ℕ, zero, suc, _+_, _-_, _*_, _/_, _%_, _^_, _≤_, _<_}
+use native.Mathlib.Omega.{arith}
+use native.Mathlib.Nat.{mod-add-mod, add-mod-mod}
+use lib.Dec.{ltb}
+use lib.ListN.{getD}
+use lib.Bits.{bitAnd, bitXor, and-high}
+use Rattle.laws.proofs.Tests.{by-cond, up-to-four}
+use Rattle.laws.proofs.Words.{same-mod, mod-sum}
+use Rattle.selection.specs.Cell.{column}
+use Rattle.recurrence.specs.CarrySave.{sum3, maj3, multiple, lowestCarry}
+use Rattle.recurrence.specs.Recurrence.{State, stepBy}
+use Rattle.recurrence.specs.FastRun.{withColumn, topBitsOf, multiplesOf, allTopBits}
+use Rattle.recurrence.specs.declared.RunState.{RunState}
+use Rattle.recurrence.proofs.CarrySave.{tops, majority}
+
+shifted : (n : ℕ) → n * 4 % 2 ^ 64 / 2 ^ 57 ≡ n / 2 ^ 55 % 128
+shifted n = omega arith
+
+halves : (σ μ k t : ℕ) → k ≤ 1 → σ / 2 ^ 54 + μ / 2 ^ 54 * 2 ≡ t → σ / 2 ^ 55 + (μ * 2 + k) / 2 ^ 55 ≡ t / 2
+halves σ μ k t h e = omega arith
+
+-- the next column needs the tops of the words and of the multiple, and neither of the next words
+pub ahead : (a b x k : ℕ) → k ≤ 1
+    → column (sum3 a b x * 4 % 2 ^ 64) ((maj3 a b x * 2 + k) * 4 % 2 ^ 64) ≡ ((a / 2 ^ 54 + b / 2 ^ 54 + x / 2 ^ 54) / 2 + 64) % 128
+ahead a b x k h =
+    rw (
+      shifted (sum3 a b x),
+      shifted (maj3 a b x * 2 + k),
+      mod-sum (sum3 a b x / 2 ^ 55) ((maj3 a b x * 2 + k) / 2 ^ 55) 64 128,
+      halves (sum3 a b x) (maj3 a b x) k _ h (tops a b x 54),
+    )
+
+-- the eight bits of a word that count
+top : (n : ℕ) → bitAnd (n % 2 ^ 62) (2 ^ 64 - 2 ^ 54) ≡ n / 2 ^ 54 % 256 * 2 ^ 54
+top n = and-high (n % 2 ^ 62) 10 54 ∙ omega arith
+
+moved-up : (u v : ℕ) → (u % 256 * 2 ^ 54 + v % 256 * 2 ^ 54) % 2 ^ 64 * 4 % 2 ^ 64 ≡ (u % 256 + v % 256) * 2 ^ 56 % 2 ^ 64
+moved-up u v = omega arith
+
+-- only one addend has bits below them
+added : (u l : ℕ) → (u * 2 ^ 56 % 2 ^ 64 + l) % 2 ^ 64 / 2 ^ 57 ≡ (u + l / 2 ^ 56) % 256 / 2
+added u l = rw mod-add-mod (low (u + l / 2 ^ 56) (u * 2 ^ 56 + l) (omega arith))
+  where
+    low : (v w : ℕ) → w / 2 ^ 56 ≡ v → w % 2 ^ 64 / 2 ^ 57 ≡ v % 256 / 2
+    low v w e = omega arith
+
+turned : (a b x : ℕ) → (a % 256 + b % 256 + (x + 128) % 256) % 256 / 2 ≡ ((a + b + x) / 2 + 64) % 128
+turned a b x = rw (add-mod-mod, mod-sum a b (x + 128) 256) (half (a + b + x) (omega arith))
+  where
+    half : (t : ℕ) {u : ℕ} → u ≡ t + 128 → u % 256 / 2 ≡ (t / 2 + 64) % 128
+    half t e = omega arith
+
+-- the code's column
+pub ahead-code : (a b x k l : ℕ) → k ≤ 1 → l / 2 ^ 56 ≡ topBitsOf x
+    → ((bitAnd (a % 2 ^ 62) (2 ^ 64 - 2 ^ 54) + bitAnd (b % 2 ^ 62) (2 ^ 64 - 2 ^ 54)) % 2 ^ 64 * 4 % 2 ^ 64 + l) % 2 ^ 64 / 2 ^ 57
+    ≡ column (sum3 a b x * 4 % 2 ^ 64) ((maj3 a b x * 2 + k) * 4 % 2 ^ 64)
+ahead-code a b x k l h e =
+    rw (top a, top b, moved-up (a / 2 ^ 54) (b / 2 ^ 54), added, e, ahead a b x k h) (turned (a / 2 ^ 54) (b / 2 ^ 54) (x / 2 ^ 54))
+
+-- the top bits of each come to the top by its shift
+pub top-bits-at : (ms : List ℕ) (d : ℕ) → d ≤ 4 → allTopBits ms * 2 ^ (9 * d) % 2 ^ 64 / 2 ^ 56 ≡ topBitsOf (getD ms d 0)
+top-bits-at ms = joined (λ d. topBitsOf (getD ms d 0)) (λ d. omega arith)
+  where
+    joined : (f : ℕ → ℕ) → ((d : ℕ) → f d < 256) → (d : ℕ) → d ≤ 4
+        → ((((f 0 * 512 + f 1) * 512 + f 2) * 512 + f 3) * 512 + f 4) * 2 ^ 20 * 2 ^ (9 * d) % 2 ^ 64 / 2 ^ 56 ≡ f d
+    joined f s zero h = omega (arith, s 0, s 1, s 2, s 3, s 4)
+    joined f s (suc zero) h = omega (arith, s 0, s 1, s 2, s 3, s 4)
+    joined f s (suc (suc zero)) h = omega (arith, s 0, s 1, s 2, s 3, s 4)
+    joined f s (suc (suc (suc zero))) h = omega (arith, s 0, s 1, s 2, s 3, s 4)
+    joined f s (suc (suc (suc (suc zero)))) h = omega (arith, s 0, s 1, s 2, s 3, s 4)
+    joined f s (suc (suc (suc (suc (suc d))))) h = absurd (omega arith)
+
+pub multiple-at : (D d : ℕ) → d ≤ 4 → getD (multiplesOf D) d 0 ≡ multiple d D
+multiple-at D zero h = refl
+multiple-at D (suc zero) h = omega arith
+multiple-at D (suc (suc zero)) h = omega arith
+multiple-at D (suc (suc (suc zero))) h = omega arith
+multiple-at D (suc (suc (suc (suc zero)))) h = refl
+multiple-at D (suc (suc (suc (suc (suc d))))) h = absurd (omega arith)
+
+-- bits that the additions and shifts drop on the way, the last shift would have dropped
+carry-word : (m k : ℕ) → (m % 2 ^ 64 * 2 % 2 ^ 64 + k) * 4 % 2 ^ 64 ≡ (m * 2 + k) * 4 % 2 ^ 64
+carry-word m k = same-mod _ _ (2 ^ 64) (8 * (m / 2 ^ 64) + 4 * (m % 2 ^ 64 * 2 / 2 ^ 64)) 0 (omega arith)
+
+-- one for the bytes 3 and 4
+pub lowest-at : (d : ℕ) → d ≤ 4 → (d + 5) / 8 ≡ lowestCarry d
+lowest-at = up-to-four (λ d. (d + 5) / 8 ≡ lowestCarry d) refl refl refl refl refl
+
+one-bit : (d : ℕ) → lowestCarry d ≤ 1
+one-bit d = by-cond (λ n. n ≤ 1) (ltb 2 d) 1 0 (λ t. omega arith) (λ t. omega arith)
+
+-- the words and the column that the code forms are those of the step
+pub step-code : (p : State) (d x l : ℕ) → x ≡ multiple d (p .divisor) → l / 2 ^ 56 ≡ topBitsOf x
+    → _≡_ {A = RunState} (record {
+      sum = bitXor (bitXor (p .sum) (p .carry)) x * 4 % 2 ^ 64;
+      carry = ((bitAnd (p .sum) (p .carry) + bitAnd (bitXor (p .sum) (p .carry)) x) % 2 ^ 64 * 2 % 2 ^ 64 + lowestCarry d) * 4 % 2 ^ 64;
+      divisor = p .divisor;
+      column = ((bitAnd (p .sum % 2 ^ 62) (2 ^ 64 - 2 ^ 54) + bitAnd (p .carry % 2 ^ 62) (2 ^ 64 - 2 ^ 54)) % 2 ^ 64 * 4 % 2 ^ 64 + l) % 2 ^ 64 / 2 ^ 57;
+      digit = d;
+    }) (withColumn (stepBy d p))
+step-code p d x l e h =
+    rw (majority, carry-word, ahead-code (p .sum) (p .carry) x (lowestCarry d) l (one-bit d) h, e)

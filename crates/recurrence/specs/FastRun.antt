@@ -1,0 +1,51 @@
+-- Working definitions of private functions: no public contract cites this file. What the code holds besides a state: the column of
+-- its two words, the multiples of the divisor and their top bits, from which the next column is known ahead of the next words.
+use mathlib.Core.Path.{_≡_}
+use mathlib.Core.List.{List, [], _∷_}
+use Prim.Native.Nat.{ℕ, _+_, _-_, _*_, _/_, _%_, _^_, _≤_, _<_}
+use lib.ListN.{length, getD}
+use Rattle.selection.specs.Cell.{column}
+use Rattle.recurrence.specs.Recurrence.{State}
+use Rattle.recurrence.specs.declared.RunState.{RunState}
+use Rattle.recurrence.specs.declared.RunResult.{RunResult}
+
+-- a state with its column, and without it
+abbrev pub withColumn : State → RunState
+withColumn p = record { sum = p .sum; carry = p .carry; divisor = p .divisor; column = column (p .sum) (p .carry); digit = p .digit }
+
+abbrev pub stateOf : RunState → State
+stateOf p = record { sum = p .sum; carry = p .carry; divisor = p .divisor; digit = p .digit }
+
+-- the multiple of the divisor for each digit byte
+abbrev pub multiplesOf : ℕ → List ℕ
+multiplesOf D = 2 * D ∷ D ∷ 0 ∷ (2 ^ 64 - 1 - D) ∷ (2 ^ 64 - 1 - 2 * D) ∷ []
+
+-- the eight bits of a multiple that the next column needs, plus 128: one bit up, the column's 64
+abbrev pub topBitsOf : ℕ → ℕ
+topBitsOf x = (x / 2 ^ 54 + 128) % 256
+
+-- the top bits of five multiples, one in each nine bits, the first highest
+abbrev pub allTopBits : List ℕ → ℕ
+allTopBits ms =
+    ((((topBitsOf (getD ms 0 0) * 512 + topBitsOf (getD ms 1 0)) * 512 + topBitsOf (getD ms 2 0)) * 512 + topBitsOf (getD ms 3 0)) * 512 + topBitsOf (getD ms 4 0)) * 2 ^ 20
+
+-- 128 digit bytes
+pub record DigitBytes (bytes : List ℕ) : Type 0 where
+  pub size : length bytes ≡ 128
+  pub small : (c : ℕ) → c < 128 → getD bytes c 0 ≤ 4
+
+-- what a step asks of the row's bytes, the multiples, their top bits and the state
+pub record StepReady (bytes ms : List ℕ) (tops : ℕ) (p : RunState) : Type 0 where
+  pub digits : DigitBytes bytes
+  pub multiples : ms ≡ multiplesOf (p .divisor)
+  pub top-bits : tops ≡ allTopBits ms
+  pub current : p .column ≡ column (p .sum) (p .carry)
+
+-- the answer from S, the divisor and the sum w of the last two words: a quarter of the remainder, and one divisor added where the sign is set
+abbrev pub resultFromWord : ℕ → ℕ → ℕ → ℕ → RunResult
+resultFromWord S D w n = record { quotient = S - w / 2 ^ 63; remainder = (w / 4 + w / 2 ^ 63 * (D + 3 * 2 ^ 62)) % 2 ^ 64; count = n }
+
+-- what the correction asks of them: with the sign set, S is not 0
+pub record CorrectionReady (S D w : ℕ) : Type 0 where
+  pub most : D < 2 ^ 61
+  pub less : w / 2 ^ 63 ≤ S

@@ -1,0 +1,99 @@
+-- Refused exactly when a point leaves the range: demand 3's words on the check.
+use mathlib.Core.Path.{_≡_, refl, sym, subst, ap, _∙_}
+use mathlib.Core.Logic.{_↔_}
+use mathlib.Core.List.{List}
+use Prim.Native.Nat.{ℕ, zero, suc, _+_, _*_, _/_, _%_, _<_}
+use native.Mathlib.Omega.{arith}
+use lib.IntN.{ℤ, pos, _-ℤ_, _*ℤ_}
+use lib.ListN.{getD}
+use Rattle.laws.proofs.Diff.{diffs, by-diff}
+use Rattle.selection.specs.Word.{Within}
+use Rattle.selection.specs.Cell.{Against, LeastWitness, digit}
+use Rattle.selection.specs.Table.{Table, Tally, BadAt, FirstBad, Passes, Checked, ReportMeaning}
+use Rattle.selection.specs.Table.Tally.{none, one, other}
+use Rattle.selection.specs.Demand.{Leaves, SomeLeaves, FirstLeaves, RefusedExactly}
+use Rattle.selection.specs.declared.table.Outcome.{Outcome}
+use Rattle.selection.specs.declared.table.Outcome.the-variants.{Passed, Bad, Refused}
+use Rattle.selection.specs.declared.table.Report.{Report}
+use Rattle.selection.specs.declared.table.BadCell.{BadCell}
+use Rattle.selection.proofs.Tables.{no-table, cell-row, cell-column}
+
+-- -2D ≤ 3z ≤ 2D exactly if -8D ≤ 3·4z ≤ 8D
+four : (D : ℕ) (z : ℤ) → Within 2 D (pos 3 *ℤ z) ↔ Within 8 D (pos 3 *ℤ (pos 4 *ℤ z))
+four D =
+    by-diff (λ z. Within 2 D (pos 3 *ℤ z) ↔ Within 8 D (pos 3 *ℤ (pos 4 *ℤ z)))
+    (λ a b. (
+      (λ w. record { low = simp diffs (omega (arith, simp diffs at (w .low))); high = simp diffs (omega (arith, simp diffs at (w .high))) }),
+      λ w. record { low = simp diffs (omega (arith, simp diffs at (w .low))); high = simp diffs (omega (arith, simp diffs at (w .high))) },
+    ))
+
+module _ {t : List ℕ} {k : ℕ} where
+  -- a witness is a point that leaves
+  of-against : {D : ℕ} {P : ℤ} → Against (k / 128) (k % 128) (digit (getD t k 0)) D P → Leaves t k D P
+  of-against {D} {P} a = record { point = a .point; out = λ w. a .broken (four D (P -ℤ pos D *ℤ digit (getD t k 0)) .1 w) }
+
+  to-against : {D : ℕ} {P : ℤ} → Leaves t k D P → Against (k / 128) (k % 128) (digit (getD t k 0)) D P
+  to-against {D} {P} l = record { point = l .point; broken = λ w. l .out (four D (P -ℤ pos D *ℤ digit (getD t k 0)) .0 w) }
+
+  of-bad : BadAt t k → SomeLeaves t k
+  of-bad b = record { divisor = b .divisor; remainder = b .remainder; leaves = of-against (b .against) }
+
+  to-bad : SomeLeaves t k → BadAt t k
+  to-bad s = record { divisor = s .divisor; remainder = s .remainder; against = to-against (s .leaves) }
+
+tally-as : {t : List ℕ} {m n : ℕ} → Tally (BadAt t) m n → Tally (SomeLeaves t) m n
+tally-as none = none
+tally-as (one p x) = one (of-bad p) (tally-as x)
+tally-as (other p x) = other (λ s. p (to-bad s)) (tally-as x)
+
+tally-none : {P : ℕ → Type 0} (m : ℕ) → ((k : ℕ) → k < m → P k → ⊥) → Tally P m 0
+tally-none zero h = none
+tally-none (suc m) h = other (h m (omega arith)) (tally-none m (λ k l. h k (omega arith)))
+
+kept : {t : List ℕ} → Passes t → (k : ℕ) → k < 2048 → SomeLeaves t k → ⊥
+kept p k h s = let a = to-against (s .leaves) in a .broken (p .allowed k h _ _ (a .point))
+
+first-leaves : {t : List ℕ} (b : BadCell) → FirstBad t (b .row) (b .column) (b .witness .divisor) (b .witness .remainder) → FirstLeaves t b
+first-leaves {t} b f =
+    let k = 128 * b .row + b .column in
+    let w : LeastWitness (k / 128) (k % 128) (digit (getD t k 0)) (b .witness .divisor) (b .witness .remainder) =
+    subst (λ (r : ℕ). LeastWitness r (k % 128) (digit (getD t k 0)) (b .witness .divisor) (b .witness .remainder)) (sym (cell-row (b .row) (b .column) (f .column)))
+    (subst (λ (c : ℕ). LeastWitness (b .row) c (digit (getD t k 0)) (b .witness .divisor) (b .witness .remainder)) (sym (cell-column (b .row) (b .column) (f .column))) (f .witness)) in
+    record {
+      cell = record { here = of-bad (f .first .here); before = λ j h s. f .first .before j h (to-bad s) };
+      leaves = of-against (w .against);
+      divisor-least = λ D P l. w .divisor-least D P (to-against l);
+      remainder-least = λ P l. w .remainder-least P (to-against l);
+    }
+
+pub refused-exactly : {t : List ℕ} {a : Report} → Table t → Checked t a → RefusedExactly t a
+refused-exactly {t} {a} h x = go (a .outcome) refl (x .means)
+  where
+    go : (o : Outcome) → a .outcome ≡ o → ReportMeaning t (a .count) o → RefusedExactly t a
+    go Passed e w =
+        record {
+          when = ((λ b. absurd (clash (sym e ∙ b .1))), λ l. absurd (kept (w .0) (l .0) (l .1) (l .2)));
+          count = subst (Tally (SomeLeaves t) 2048) (sym (w .1)) (tally-none 2048 (kept (w .0)));
+          first = λ b f. absurd (clash (sym e ∙ f));
+        }
+      where
+        clash : {b : BadCell} → Passed ≡ Bad b → ⊥
+        clash f = let z : _≡_ {A = ℕ} 0 1 = cc in omega arith
+    go (Bad b) e w =
+        record {
+          when = (
+            (λ c. let f = w .2 in let hr = f .row in let hc = f .column in (128 * b .row + b .column, omega arith, of-bad (f .first .here))),
+            λ l. (b, e),
+          );
+          count = tally-as (w .1);
+          first = λ c f. subst (FirstLeaves t) (bad-same (sym e ∙ f)) (first-leaves b (w .2));
+        }
+      where
+        given : BadCell → Outcome → BadCell
+        given d Passed = d
+        given d (Bad c) = c
+        given d (Refused f) = d
+
+        bad-same : {c : BadCell} → Bad b ≡ Bad c → b ≡ c
+        bad-same f = ap (given b) f
+    go (Refused f) e w = no-table h (w .0)
