@@ -166,7 +166,7 @@ fn run_line(fd: i32) -> Verdict {
     verdict_of(&line, length)
 }
 
-// A counts with one more line, which agrees or differs.
+// The counts with one more line, which agrees or differs.
 fn counted(counts: Counts, agrees: bool) -> Counts
     requires { ⌜ (counts .differ ≤ counts .run) × (counts .run < 1000000) ⌝ }
     ensures { λ r. ⌜ r ≡ countedIn counts agrees ⌝ }
@@ -199,7 +199,7 @@ fn run_lines(fd: i32) -> Counts
 }
 
 // A file's name, the number of its lines and how many of them differ.
-fn print_tally(name: &[u8], counts: Counts) {
+fn print_counts(name: &[u8], counts: Counts) {
     print_text(name);
     print_text(b" ");
     print_number(counts.run, b" ");
@@ -218,7 +218,7 @@ fn run_file(name: &[u8], total: Counts) -> Counts
     }
     let counts = run_lines(fd);
     libc::close(fd);
-    print_tally(name, counts);
+    print_counts(name, counts);
     Counts {
         run: total.run + counts.run,
         differ: total.differ + counts.differ,
@@ -233,5 +233,5 @@ fn main() {
     let three = run_file(b"div-llvm.txt", two);
     let four = run_file(b"div-mpfr.txt", three);
     let five = run_file(b"div-nan.txt", four);
-    print_tally(b"total", five);
+    print_counts(b"total", five);
 }
