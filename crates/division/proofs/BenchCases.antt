@@ -8,11 +8,12 @@ use Rattle.selection.specs.Word.{signed}
 use Rattle.selection.specs.Answer.{refusal}
 use Rattle.selection.specs.Cell.{digit, estimate}
 use Rattle.selection.specs.Maker.{MadeTable}
-use Rattle.selection.specs.Computed.{madeTable, listFrom, madeOf, allowsOf}
+use Rattle.laws.specs.Lists.{listFrom}
+use Rattle.selection.specs.Computed.{madeTable, madeOf, allowsOf}
 use Rattle.selection.proofs.CellCases.{case-1, case-2, case-3, case-4, case-5, case-6, case-7}
 use Rattle.selection.proofs.MadeTables.{made-bytes, kept-passes}
 use Rattle.selection.proofs.Orders.{passed-last}
-use Rattle.recurrence.specs.Recurrence.{digits, after, nextOf, value, endRemainder, resultOf}
+use Rattle.recurrence.specs.Recurrence.{after, nextOf, value, endRemainder, resultOf}
 use Rattle.division.specs.Whole.{wholeRungs, wholeValues, wholeOf}
 use Rattle.division.specs.Computed.{finiteRounded}
 use Rattle.division.specs.Binary64.{binary64Rungs, binary64Values, binary64Of}
@@ -22,11 +23,11 @@ use Rattle.division.proofs.WholeThrough.{whole-divides}
 use Rattle.division.proofs.Binary64Through.{binary64-through}
 
 case-8 : Case8 madeTable
-unfolding madeTable listFrom madeOf allowsOf digits after nextOf value endRemainder resultOf digit estimate signed
+unfolding madeTable listFrom madeOf allowsOf after nextOf value endRemainder resultOf digit estimate signed
 case-8 = record { shown = refl; result = refl; second-estimate = refl; second-remainder = refl }
 
 case-9 : Case9 madeTable
-unfolding madeTable listFrom madeOf allowsOf digits after nextOf value endRemainder resultOf digit
+unfolding madeTable listFrom madeOf allowsOf after nextOf value endRemainder resultOf digit
 case-9 = record { shown = refl; total = refl; result = refl }
 
 case-10 : wholeOf madeTable 4195835 3145727 ≡ record { refusal = refusal 0 0; quotient = 1; remainder = 1050108 }

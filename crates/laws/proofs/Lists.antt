@@ -1,19 +1,50 @@
--- A list filled from the front, and a part of a list lent and put back.
-use mathlib.Core.Path.{_≡_, sym, subst}
+-- A list by its index, a lent list filled from the front, and a part of a list lent and put back.
+use mathlib.Core.Path.{_≡_, refl, sym, ap, subst, _∙_}
 use mathlib.Core.Logic.{⊎-elim}
-use mathlib.Core.List.{List, [], _∷_, _++_, append-assoc}
-use Prim.Native.Nat.{ℕ, suc, _+_, _-_, _≤_, _<_}
-use native.Mathlib.Nat.{eq-or-lt-of-le}
+use mathlib.Core.List.{List, [], _∷_, _++_, append-assoc, append-nil}
+use Prim.Native.Nat.{ℕ, zero, suc, _+_, _-_, _≤_, _<_}
+use native.Mathlib.Nat.{add-zero, add-suc, suc-add, zero-add, not-suc-le-zero, le-of-suc-le-suc, eq-or-lt-of-le}
+use native.Mathlib.Numerals.{add-one}
 use native.Mathlib.Omega.{arith}
-use lib.ListN.{length, getD, take, drop, set, length-append, length-take, length-drop}
+use lib.ListN.{length, getD, take, drop, set, length-append, length-take, length-drop, drop-of-length-le}
 use lib.Seq.{drop-drop, drop-cons, set-at, getD-set-same, getD-set-other}
+use Rattle.laws.specs.Lists.{listFrom, filled}
 
--- the first i entries are ds, the others those of o: entry i is stored
-pub store : (ds o : List ℕ) (i d : ℕ) → length ds ≡ i → i < length o → set (ds ++ drop i o) i d ≡ (ds ++ (d ∷ [])) ++ drop (suc i) o
-store ds o i d e h = rw (drop-cons o i 0 h, set-at ds (getD o i 0) (drop (suc i) o) d i e, append-assoc)
+module _ {X : Type 0} (f : ℕ → X) where
+  pub list-length : (i n : ℕ) → length (listFrom f i n) ≡ n
+  unfolding listFrom
+  list-length i zero = refl
+  list-length i (suc n) = ap suc (list-length (suc i) n)
 
-pub filled-length : (ds o : List ℕ) (i : ℕ) → length ds ≡ i → i ≤ length o → length (ds ++ drop i o) ≡ length o
-filled-length ds o i e h = rw (length-append, length-drop, e) (omega arith)
+  pub list-at : (d : X) (i n k : ℕ) → k < n → getD (listFrom f i n) k d ≡ f (i + k)
+  unfolding listFrom
+  list-at d i zero k h = absurd (not-suc-le-zero h)
+  list-at d i (suc n) zero h = ap f (sym (add-zero i))
+  list-at d i (suc n) (suc k) h = list-at d (suc i) n k (le-of-suc-le-suc h) ∙ ap f (suc-add i k ∙ sym (add-suc i k))
+
+  list-more : (i n : ℕ) → listFrom f i (suc n) ≡ listFrom f i n ++ (f (i + n) ∷ [])
+  unfolding listFrom
+  list-more i zero = ap (λ (m : ℕ). f m ∷ []) (sym (add-zero i))
+  list-more i (suc n) = ap (λ (l : List X). f i ∷ l) (list-more (suc i) n ∙ ap (λ (m : ℕ). listFrom f (suc i) n ++ (f m ∷ [])) (suc-add i n ∙ sym (add-suc i n)))
+
+  -- one value more
+  pub list-snoc : (n : ℕ) → listFrom f 0 (suc n) ≡ listFrom f 0 n ++ (f n ∷ [])
+  list-snoc n = list-more 0 n ∙ ap (λ (m : ℕ). listFrom f 0 n ++ (f m ∷ [])) (zero-add n)
+
+  -- a loop that fills the list o from the front: nothing is filled, place i is stored, every place is
+  module _ (o : List X) where
+    pub fill-none : filled f 0 o ≡ o
+    unfolding listFrom
+    fill-none = refl
+
+    pub fill-more : (i : ℕ) → i < length o → set (filled f i o) i (f i) ≡ filled f (i + 1) o
+    fill-more i h = rw (add-one, list-snoc, drop-cons o i (f i) h, set-at (listFrom f 0 i) (getD o i (f i)) (drop (suc i) o) (f i) i (list-length 0 i), append-assoc)
+
+    pub fill-length : (i : ℕ) → i ≤ length o → length (filled f i o) ≡ length o
+    fill-length i h = rw (length-append, length-drop, list-length 0 i) (omega arith)
+
+    pub fill-all : (n : ℕ) → length o ≤ n → filled f n o ≡ listFrom f 0 n
+    fill-all n h = rw (drop-of-length-le o {i = n} h, append-nil)
 
 -- n entries from a on, lent and put back
 pub part-length : (b : List ℕ) (a n : ℕ) → a + n ≤ length b → length (take (a + n - a) (drop a b)) ≡ n

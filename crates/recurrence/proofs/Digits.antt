@@ -1,32 +1,20 @@
--- The digits of a run: how many, where each comes from, and the number S that they make.
-use mathlib.Core.Path.{_≡_, refl, sym, ap, _∙_}
-use mathlib.Core.Logic.{⊎-elim}
+-- The digits of a run: where each comes from, and the number S that they make.
+use mathlib.Core.Path.{_≡_, ap, _∙_}
 use mathlib.Core.List.{List, [], _∷_, _++_}
-use Prim.Native.Nat.{ℕ, zero, suc, _*_, _^_, _<_}
+use Prim.Native.Nat.{ℕ, _*_, _^_, _<_}
 use native.Mathlib.Omega.{arith}
-use native.Mathlib.Nat.{pow-suc, eq-or-lt-of-le}
-use lib.ListN.{length, getD, length-append, List·getD-append}
-use lib.Seq.{getD-at}
+use native.Mathlib.Nat.{pow-suc, zero-add}
+use lib.ListN.{length, getD, length-append}
 use lib.IntN.{ℤ, pos, _+ℤ_, _*ℤ_}
+use Rattle.laws.proofs.Lists.{list-at}
 use Rattle.laws.proofs.Diff.{diff, diffs, by-diff}
 use Rattle.selection.specs.Cell.{digit}
-use Rattle.recurrence.specs.Recurrence.{cellAt, nextOf, after, digits, value}
+use Rattle.recurrence.specs.Recurrence.{cellAt, nextOf, after, digitOf, digits, value}
 
-module _ (t : List ℕ) (N D : ℕ) where
-  pub length-digits : (i : ℕ) → length (digits t N D i) ≡ i
-  unfolding digits
-  length-digits zero = refl
-  length-digits (suc i) = length-append (digits t N D i) (after t N D (suc i) .digit ∷ []) ∙ omega (arith, length-digits i)
-
-  -- each is the table's digit at the cell of the state that the steps have reached
-  pub digit-at : (n i : ℕ) → i < n → getD (digits t N D n) i 0 ≡ getD t (cellAt (after t N D i)) 0
-  unfolding digits after nextOf
-  digit-at zero i h = absurd (omega arith)
-  digit-at (suc n) i h =
-      ⊎-elim
-      (λ e. getD-at (digits t N D n) (after t N D (suc n) .digit) [] 0 i (length-digits n ∙ omega arith) ∙ ap (λ (k : ℕ). after t N D k .digit) (sym e))
-      (λ l. List·getD-append (digits t N D n) (after t N D (suc n) .digit ∷ []) 0 i (omega (arith, length-digits n)) ∙ digit-at n i (omega arith))
-      (eq-or-lt-of-le h)
+-- each digit is the table's at the cell of the state that the steps have reached
+pub digit-at : (t : List ℕ) (N D n i : ℕ) → i < n → getD (digits t N D n) i 0 ≡ getD t (cellAt (after t N D i)) 0
+unfolding after nextOf
+digit-at t N D n i h = list-at (digitOf t N D) 0 0 n i h ∙ ap (digitOf t N D) (zero-add i)
 
 -- ---- a digit more: S′ = 4S + q
 

@@ -6,10 +6,12 @@ use native.Mathlib.Omega.{arith}
 use native.Mathlib.Nat.{pow-suc, mul-assoc}
 use lib.ListN.{getD}
 use lib.IntN.{pos}
+use Rattle.laws.specs.Lists.{listFrom}
 use Rattle.laws.proofs.Diff.{diffs}
+use Rattle.laws.proofs.Lists.{list-snoc}
 use Rattle.selection.specs.Table.{Passes}
 use Rattle.selection.proofs.BiasedPoints.{digit-diff}
-use Rattle.recurrence.specs.Recurrence.{State, Operands, cellAt, stepBy, nextOf, after, digits, value}
+use Rattle.recurrence.specs.Recurrence.{State, Operands, cellAt, stepBy, nextOf, after, digitOf, digits, value}
 use Rattle.recurrence.proofs.Steps.{biased, InRange, AllowedAt, table-digit-allowed, step-law, step-in-range}
 use Rattle.recurrence.proofs.Digits.{value-append}
 
@@ -55,7 +57,7 @@ pub record NextStep (t : List ℕ) (N D i S : ℕ) : Type 0 where
 
 module _ (t : List ℕ) (N D : ℕ) (ok : Passes t) where
   pub invariant-next : (i S : ℕ) → Invariant t N D i S → NextStep t N D i S
-  unfolding after digits nextOf
+  unfolding after nextOf
   invariant-next i S h =
       let p = after t N D i in
       let d = getD t (cellAt p) 0 in
@@ -68,14 +70,14 @@ module _ (t : List ℕ) (N D : ℕ) (ok : Passes t) where
         next = record {
           in-range = step-in-range d p (h .in-range) f;
           divisor = h .divisor;
-          makes = value-append (digits t N D i) d ∙ rw (h .makes, digit-diff d) (simp diffs (omega arith));
+          makes = ap value (list-snoc (digitOf t N D) i) ∙ value-append (digits t N D i) d ∙ rw (h .makes, digit-diff d) (simp diffs (omega arith));
           meets = m .1 ∙ ap (λ (x : ℕ). x + 2 ^ 63) (sym (quad N i));
           size = omega (arith, f .byte, h .size);
         };
       }
 
   pub invariant-start : Operands N D → Invariant t N D 0 0
-  unfolding after digits value
+  unfolding after value listFrom
   invariant-start o = record {
     in-range = record { least = o .least; most = o .most; above = omega arith; below = omega arith };
     divisor = refl;

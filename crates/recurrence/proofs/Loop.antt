@@ -1,23 +1,23 @@
 -- The code's loop: where it stands after i turns, and what one turn does.
 use mathlib.Core.Path.{_≡_, refl, sym, ap, _∙_}
-use mathlib.Core.List.{List, _++_, append-nil}
+use mathlib.Core.List.{List}
 use Prim.Native.Nat.{ℕ, suc, _+_, _-_, _*_, _^_, _≤_, _<_}
 use native.Mathlib.Omega.{arith}
 use native.Mathlib.Nat.{pow-le-pow-right}
 use native.Mathlib.Numerals.{add-one}
-use lib.ListN.{length, drop, set, length-append, length-drop, drop-of-length-le}
-use Rattle.laws.proofs.Lists.{store}
+use lib.ListN.{length, set}
+use Rattle.laws.specs.Lists.{filled}
+use Rattle.laws.proofs.Lists.{fill-more, fill-length, fill-all}
 use Rattle.selection.specs.Table.{Passes}
-use Rattle.recurrence.specs.Recurrence.{nextOf, after, digits}
+use Rattle.recurrence.specs.Recurrence.{nextOf, after, digitOf, digits}
 use Rattle.recurrence.specs.FastRun.{withColumn, stateOf}
 use Rattle.recurrence.specs.declared.RunState.{RunState}
-use Rattle.recurrence.proofs.Digits.{length-digits}
 use Rattle.recurrence.proofs.Invariant.{Invariant, invariant-next}
 
 pub record Reached (t : List ℕ) (N D : ℕ) (out₀ out : List ℕ) (state : RunState) (total i : ℕ) : Type 0 where
   pub within : i ≤ length out₀
   pub stands : state ≡ withColumn (after t N D i)
-  pub wrote : out ≡ digits t N D i ++ drop i out₀
+  pub wrote : out ≡ filled (digitOf t N D) i out₀
   pub invariant : Invariant t N D i total
 
 -- what one turn asks, and where the loop stands after it
@@ -32,10 +32,9 @@ after-suc t N D i = refl
 
 module _ (t : List ℕ) (N D : ℕ) (out₀ out : List ℕ) (p : RunState) (S i : ℕ) (r : Reached t N D out₀ out p S i) where
   pub reached-length : length out ≡ length out₀
-  reached-length = let h = r .within in rw (r .wrote, length-append, length-digits, length-drop) (omega arith)
+  reached-length = let h = r .within in rw (r .wrote) (fill-length (digitOf t N D) out₀ i h)
 
   pub move : (q : RunState) → Passes t → length out₀ ≤ 31 → i < length out → q ≡ withColumn (nextOf t (stateOf p)) → Moved t N D out₀ out q S i
-  unfolding digits
   move q ok small l e =
       let h : i < length out₀ = omega (arith, reached-length) in
       let f : q ≡ withColumn (after t N D (suc i)) = e ∙ ap (λ (p : RunState). withColumn (nextOf t (stateOf p))) (r .stands) ∙ ap withColumn (sym (after-suc t N D i)) in
@@ -44,16 +43,16 @@ module _ (t : List ℕ) (N D : ℕ) (out₀ out : List ℕ) (p : RunState) (S i 
       (record {
         enough = u .enough;
         fits = omega (arith, r .invariant .size, u .byte, pow-le-pow-right {n = 4} (omega arith) {i = i} {j = 30} (omega arith));
-        reached = rw add-one (record {
-          within = h;
-          stands = refl;
-          wrote = store (digits t N D i) out₀ i (after t N D (suc i) .digit) (length-digits t N D i) h;
-          invariant = u .next;
-        });
+        reached = record {
+          within = omega arith;
+          stands = rw add-one refl;
+          wrote = fill-more (digitOf t N D) out₀ i h;
+          invariant = rw add-one (u .next);
+        };
       })
 
   -- every byte is written
   pub done : length out ≤ i → (i ≡ length out₀) × (out ≡ digits t N D i)
   done h =
       let e : i ≡ length out₀ = omega (arith, r .within, reached-length) in
-      (e, r .wrote ∙ rw (drop-of-length-le out₀ {i = i} (omega arith), append-nil))
+      (e, r .wrote ∙ fill-all (digitOf t N D) out₀ i (omega arith))

@@ -6,6 +6,7 @@ use native.Mathlib.Omega.{arith}
 use lib.ListN.{length, getD}
 use lib.IntN.{pos, _-ℤ_, _*ℤ_}
 use Rattle.laws.proofs.Diff.{diffs}
+use Rattle.laws.proofs.Lists.{list-length}
 use Rattle.selection.specs.Answer.{answerBy}
 use Rattle.selection.specs.Refusals.{ladder}
 use Rattle.selection.specs.Cell.{row, column, digit}
@@ -14,13 +15,13 @@ use Rattle.selection.specs.Word.{Within}
 use Rattle.selection.specs.declared.Admission.{Admission}
 use Rattle.selection.specs.declared.Admission.the-variants.{Admitted, Refused}
 use Rattle.selection.proofs.Orders.{passed-last}
-use Rattle.recurrence.specs.Recurrence.{Operands, residue, cellAt, nextOf, after, digits, value, endRemainder, correctedQuotient, correctedRemainder, resultOf}
+use Rattle.recurrence.specs.Recurrence.{Operands, residue, cellAt, nextOf, after, digitOf, digits, value, endRemainder, correctedQuotient, correctedRemainder, resultOf}
 use Rattle.recurrence.specs.Run.{runRungs, written, runZeros, runValues, runOf}
 use Rattle.recurrence.specs.Demand.{RunAnswered, RunClaim}
 use Rattle.recurrence.specs.declared.RunAnswer.{RunAnswer}
 use Rattle.recurrence.specs.declared.RunResult.{RunResult}
 use Rattle.recurrence.proofs.Steps.{residue-biased, range-of, table-digit-allowed, step-residue}
-use Rattle.recurrence.proofs.Digits.{length-digits, digit-at}
+use Rattle.recurrence.proofs.Digits.{digit-at}
 use Rattle.recurrence.proofs.Invariant.{Invariant, invariant-after, quarter}
 use Rattle.recurrence.proofs.Correction.{divided, corrected-run, end-remainder, result-from-word, result-divided}
 use Rattle.recurrence.proofs.Refusals.{spans, no-refusal}
@@ -82,7 +83,7 @@ run-claim t p N D n b place o h l r =
     let e = result-parts t N D n S k h in
     record {
       written = ap (answerBy (λ f. b) (written b place (digits t N D n) n)) g;
-      many = length-digits t N D n;
+      many = list-length (digitOf t N D) 0 n;
       selected = λ i m. digit-at t N D n i m ∙ ap (λ (x : ℕ). getD t (128 * row x + column (after t N D i .sum) (after t N D i .carry)) 0) (invariant-after t N D p o i .1 .divisor);
       step = λ i m. step t N D i _ (invariant-after t N D p o i .1) p ∙ ap (λ (d : ℕ). pos 4 *ℤ (residue (after t N D i) -ℤ digit d *ℤ pos D)) (sym (digit-at t N D n i m));
       exact = λ i m. exact t N D i _ (invariant-after t N D p o i .1);

@@ -1,10 +1,11 @@
 -- The digit recurrence: document 01, "The run". One step, the states, the digits, the number S that they make, the correction of the last digit.
 use mathlib.Core.Bool.{cond}
-use mathlib.Core.List.{List, [], _∷_, _++_}
+use mathlib.Core.List.{List, [], _∷_}
 use Prim.Native.Nat.{ℕ, zero, suc, _+_, _-_, _*_, _%_, _^_, _≤_, _<_}
 use lib.ListN.{length, getD}
 use lib.IntN.{ℤ, pos, natAbs, _+ℤ_, _-ℤ_, _*ℤ_}
 use lib.Signed.{nonNeg}
+use Rattle.laws.specs.Lists.{listFrom}
 use Rattle.selection.specs.Word.{signed}
 use Rattle.selection.specs.Cell.{row, column, digit}
 use Rattle.recurrence.specs.CarrySave.{sum3, maj3, multiple, lowestCarry}
@@ -53,10 +54,13 @@ unfoldable pub after : List ℕ → ℕ → ℕ → ℕ → State
 after t N D zero = startOf N D
 after t N D (suc i) = nextOf t (after t N D i)
 
--- the first n digits, as bytes
-unfoldable pub digits : List ℕ → ℕ → ℕ → ℕ → List ℕ
-digits t N D zero = []
-digits t N D (suc i) = digits t N D i ++ (after t N D (suc i) .digit ∷ [])
+-- the digit of step i, counted from 0, as a byte
+abbrev pub digitOf : List ℕ → ℕ → ℕ → ℕ → ℕ
+digitOf t N D i = after t N D (suc i) .digit
+
+-- the first n digits
+abbrev pub digits : List ℕ → ℕ → ℕ → ℕ → List ℕ
+digits t N D n = listFrom (digitOf t N D) 0 n
 
 -- S, the sum of q_i·4^(n−1−i)
 unfoldable pub value : List ℕ → ℤ

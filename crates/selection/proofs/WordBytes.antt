@@ -1,64 +1,56 @@
--- Bytes packed into words are written out one after the other: the turns of `bytes_of`'s loop.
-use mathlib.Core.Path.{_≡_, refl, ap, _∙_}
-use mathlib.Core.List.{List, [], _∷_, _++_, append-assoc, append-nil}
-use Prim.Native.Nat.{ℕ, suc, _+_, _*_, _%_, _≤_, _<_}
+-- Words are written out byte by byte, eight stores a turn: the turns of `bytes_of`'s loop.
+use mathlib.Core.Path.{_≡_, sym, ap, _∙_}
+use mathlib.Core.List.{List, [], _∷_}
+use Prim.Native.Nat.{ℕ, zero, suc, _+_, _*_, _/_, _%_, _^_, _≤_, _<_}
 use native.Mathlib.Omega.{arith}
-use native.Mathlib.Numerals.{add-one}
-use lib.ListN.{length, getD, take, drop, set, length-append, drop-of-length-le}
-use lib.Seq.{take-suc, take-all, length-take-le}
-use Rattle.laws.proofs.Lists.{store}
-use Rattle.selection.specs.WordBytes.{bytesOf, wordsBytes}
+use lib.ListN.{length, getD, set}
+use Rattle.laws.specs.Lists.{listFrom, filled}
+use Rattle.laws.proofs.Lists.{list-at, fill-more, fill-all}
+use Rattle.selection.specs.WordBytes.{byteOf, wordsBytes}
 
--- the bytes bs stored from i + j on
-abbrev pub stored : List ℕ → ℕ → ℕ → List ℕ → List ℕ
+-- bs stored from i + j on
+abbrev stored : List ℕ → ℕ → ℕ → List ℕ → List ℕ
 stored o i j [] = o
 stored o i j (b ∷ bs) = stored (set o (i + j) b) i (suc j) bs
 
-stored-is : (bs ds z : List ℕ) (i j : ℕ) → length ds ≡ i + j → i + j + length bs ≤ length z
-    → stored (ds ++ drop (i + j) z) i j bs ≡ (ds ++ bs) ++ drop (i + j + length bs) z
-stored-is [] ds z i j e h = let k : i + j + 0 ≡ i + j = omega arith in rw (append-nil, k)
-stored-is (b ∷ bs) ds z i j e h =
-    let k : suc (i + j) ≡ i + suc j = omega arith in
-    let l : i + suc j + length bs ≡ i + j + suc (length bs) = omega arith in
-    ap (λ (o : List ℕ). stored o i (suc j) bs) (store ds z (i + j) b e (omega arith) ∙ ap (λ (m : ℕ). (ds ++ (b ∷ [])) ++ drop m z) k)
-    ∙ stored-is bs (ds ++ (b ∷ [])) z i (suc j) (length-append ds (b ∷ []) ∙ omega arith) (omega arith)
-    ∙ ap (λ (x : List ℕ). x ++ drop (i + suc j + length bs) z) (append-assoc ds (b ∷ []) bs)
-    ∙ ap (λ (m : ℕ). (ds ++ (b ∷ bs)) ++ drop m z) l
+-- where they are the values of f there, the list is filled so much further
+stored-fills : (f : ℕ → ℕ) (o : List ℕ) (bs : List ℕ) (i j : ℕ) → ((m : ℕ) → m < length bs → getD bs m 0 ≡ f (i + (j + m))) → i + (j + length bs) ≤ length o
+    → stored (filled f (i + j) o) i j bs ≡ filled f (i + (j + length bs)) o
+stored-fills f o [] i j is h = ap (λ (n : ℕ). filled f n o) (omega arith)
+stored-fills f o (b ∷ bs) i j is h =
+    let e : i + (j + 0) ≡ i + j = omega arith in
+    let k : i + j + 1 ≡ i + suc j = omega arith in
+    let n : i + (suc j + length bs) ≡ i + (j + suc (length bs)) = omega arith in
+    ap (λ (o : List ℕ). stored o i (suc j) bs) (rw (is 0 (omega arith), e) (fill-more f o (i + j) (omega arith)) ∙ ap (λ (m : ℕ). filled f m o) k)
+    ∙ stored-fills f o bs i (suc j) (λ m l. is (suc m) (omega arith) ∙ ap (λ (m : ℕ). f (i + m)) (omega arith)) (omega arith)
+    ∙ ap (λ (m : ℕ). filled f m o) n
 
-words-bytes-append : (v w : List ℕ) → wordsBytes (v ++ w) ≡ wordsBytes v ++ wordsBytes w
+byte-at : (w : List ℕ) (k m : ℕ) → m < 8 → byteOf w (8 * k + m) ≡ getD w k 0 / 2 ^ (8 * m) % 256
+byte-at w k m h =
+    let q : (8 * k + m) / 8 ≡ k = omega arith in
+    let r : (8 * k + m) % 8 ≡ m = omega arith in
+    rw (q, r)
+
+-- bytes 1 to 7 of a word
+abbrev pub laterBytes : ℕ → List ℕ
+laterBytes x = x / 2 ^ 8 % 256 ∷ x / 2 ^ 16 % 256 ∷ x / 2 ^ 24 % 256 ∷ x / 2 ^ 32 % 256 ∷ x / 2 ^ 40 % 256 ∷ x / 2 ^ 48 % 256 ∷ x / 2 ^ 56 % 256 ∷ []
+
+later-at : (x m : ℕ) → m < 7 → getD (laterBytes x) m 0 ≡ x / 2 ^ (8 * (1 + m)) % 256
+unfolding listFrom
+later-at x m h = list-at (λ m. x / 2 ^ (8 * m) % 256) 0 1 7 m h
+
+pub word-more : (w o : List ℕ) {b : List ℕ} (k : ℕ) → b ≡ filled (byteOf w) (8 * k) o → 8 * (k + 1) ≤ length o
+    → stored (set b (8 * k) (getD w k 0 % 256)) (8 * k) 1 (laterBytes (getD w k 0)) ≡ filled (byteOf w) (8 * (k + 1)) o
+word-more w o k e h =
+    let x = getD w k 0 in
+    let first : x % 256 ≡ byteOf w (8 * k) = sym (ap (byteOf w) z ∙ byte-at w k 0 (omega arith) ∙ ap (λ (n : ℕ). n % 256) (omega arith)) in
+    let n : 8 * k + (1 + length (laterBytes x)) ≡ 8 * (k + 1) = omega arith in
+    rw (e, first, fill-more (byteOf w) o (8 * k) (omega arith))
+    (stored-fills (byteOf w) o (laterBytes x) (8 * k) 1 (λ m l. later-at x m l ∙ sym (byte-at w k (1 + m) (omega arith))) (omega (arith, n)) ∙ ap (λ (m : ℕ). filled (byteOf w) m o) n)
+  where
+    z : 8 * k ≡ 8 * k + 0
+    z = omega arith
+
+pub words-all : (w o : List ℕ) {b : List ℕ} (k : ℕ) → b ≡ filled (byteOf w) (8 * k) o → 8 * k ≡ 128 → length o ≡ 128 → b ≡ wordsBytes w
 unfolding wordsBytes
-words-bytes-append [] w = refl
-words-bytes-append (x ∷ v) w = rw (words-bytes-append v w, append-assoc)
-
-words-bytes-length : (w : List ℕ) → length (wordsBytes w) ≡ 8 * length w
-unfolding wordsBytes
-words-bytes-length [] = refl
-words-bytes-length (x ∷ w) = length-append (bytesOf x) (wordsBytes w) ∙ omega (arith, words-bytes-length w)
-
--- k words are written out, and the other bytes are as they were
-pub record Unpacked (w o b : List ℕ) (k : ℕ) : Type 0 where
-  pub within : k ≤ 16
-  pub bytes : b ≡ wordsBytes (take k w) ++ drop (8 * k) o
-
-module _ (w o b : List ℕ) (k : ℕ) (words : length w ≡ 16) (size : length o ≡ 128) (u : Unpacked w o b k) where
-  pub words-bytes-more : k < 16 → Unpacked w o (stored (set b (8 * k) (getD w k 0 % 256)) (8 * k) 1 (drop 1 (bytesOf (getD w k 0)))) (k + 1)
-  unfolding wordsBytes
-  words-bytes-more h =
-      let x = getD w k 0 in
-      let a = wordsBytes (take k w) in
-      let l : length a ≡ 8 * k = words-bytes-length (take k w) ∙ ap (λ (n : ℕ). 8 * n) (length-take-le k w (omega arith)) in
-      let t : wordsBytes (take (k + 1) w) ≡ a ++ bytesOf x = rw (add-one, take-suc w k 0 (omega arith)) (words-bytes-append (take k w) (x ∷ [])) in
-      let m : 8 * k + 1 + 7 ≡ 8 * (k + 1) = omega arith in
-      record {
-        within = omega arith;
-        bytes = rw (u .bytes, t, store a o (8 * k) (x % 256) l (omega arith), ← add-one (8 * k))
-            (stored-is (drop 1 (bytesOf x)) (a ++ (x % 256 ∷ [])) o (8 * k) 1 (length-append a (x % 256 ∷ []) ∙ omega arith) (omega arith)
-            ∙ ap (λ (l : List ℕ). l ++ drop (8 * k + 1 + 7) o) (append-assoc a (x % 256 ∷ []) (drop 1 (bytesOf x)))
-            ∙ ap (λ (n : ℕ). (a ++ bytesOf x) ++ drop n o) m);
-      }
-
-  pub words-bytes-all : 16 ≤ k → b ≡ wordsBytes w
-  words-bytes-all h =
-      let n = u .within in
-      let t : take k w ≡ w = take-all k w (omega arith) in
-      u .bytes ∙ rw (drop-of-length-le o {i = 8 * k} (omega arith), append-nil, t)
+words-all w o k e n size = rw n at e ∙ fill-all (byteOf w) o 128 (omega arith)

@@ -6,6 +6,7 @@ use mathlib.Core.List.{List, [], _∷_, _++_}
 use Prim.Native.Nat.{ℕ, zero, suc, _+_, _*_, _-_, _/_, _%_}
 use lib.Dec.{ltb, leb, eqb}
 use lib.ListN.{length, getD, drop}
+use Rattle.laws.specs.Lists.{listFrom}
 use Rattle.selection.specs.Answer.{refusal, answerBy}
 use Rattle.selection.specs.Cell.{cellRungs}
 use Rattle.selection.specs.Table.{BadAt, formRungs}
@@ -46,11 +47,6 @@ madeOf r c =
     let three : ℕ = cond (allowsOf r c 3) 3 zero in
     let one : ℕ = cond (allowsOf r c 1) 1 three in
     cond (allowsOf r c 2) 2 one
-
--- the values of f from i on, n of them
-unfoldable pub listFrom : (ℕ → ℕ) → ℕ → ℕ → List ℕ
-listFrom f i zero = []
-listFrom f i (suc n) = f i ∷ listFrom f (suc i) n
 
 abbrev pub madeAt : ℕ → ℕ
 madeAt k = madeOf (k / 128) (k % 128)

@@ -1,11 +1,13 @@
--- Working definitions of bytes packed into words: no public contract cites this file.
-use mathlib.Core.List.{List, [], _∷_, _++_}
-use Prim.Native.Nat.{ℕ, _/_, _%_, _^_}
+-- The bytes of words: working definitions of the row form of the kept table, and no public contract cites this file.
+use mathlib.Core.List.{List}
+use Prim.Native.Nat.{ℕ, _*_, _/_, _%_, _^_}
+use lib.ListN.{getD}
+use Rattle.laws.specs.Lists.{listFrom}
 
--- the eight bytes of a word, the lowest first
-abbrev pub bytesOf : ℕ → List ℕ
-bytesOf x = x % 256 ∷ x / 2 ^ 8 % 256 ∷ x / 2 ^ 16 % 256 ∷ x / 2 ^ 24 % 256 ∷ x / 2 ^ 32 % 256 ∷ x / 2 ^ 40 % 256 ∷ x / 2 ^ 48 % 256 ∷ x / 2 ^ 56 % 256 ∷ []
+-- byte j of a list of words, each of eight bytes, the lowest first
+abbrev pub byteOf : List ℕ → ℕ → ℕ
+byteOf w j = getD w (j / 8) 0 / 2 ^ (8 * (j % 8)) % 256
 
+-- the bytes of sixteen words
 unfoldable pub wordsBytes : List ℕ → List ℕ
-wordsBytes [] = []
-wordsBytes (w ∷ ws) = bytesOf w ++ wordsBytes ws
+wordsBytes w = listFrom (byteOf w) 0 128

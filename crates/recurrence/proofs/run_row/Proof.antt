@@ -1,12 +1,13 @@
 use borrow.Author.Needs.{needs}
-use mathlib.Core.Path.{_≡_, refl, _∙_}
+use mathlib.Core.Path.{_≡_, refl, sym, _∙_}
 use native.Mathlib.Omega.{arith}
 use Prim.Native.Nat.{ℕ, _-_}
 use mathlib.Core.List.{List}
 use Rattle.selection.specs.Cell.{row}
 use Rattle.selection.specs.Table.{Passes, rowBytes}
 use lib.ListN.{length}
-use Rattle.recurrence.specs.Recurrence.{after, digits}
+use Rattle.laws.proofs.Lists.{fill-none}
+use Rattle.recurrence.specs.Recurrence.{after}
 use Rattle.recurrence.proofs.Invariant.{invariant-start}
 use Rattle.recurrence.proofs.Correction.{correction-ready, result-from-word}
 use Rattle.recurrence.proofs.Loop.{Reached, Moved, move, reached-length, done}
@@ -45,13 +46,13 @@ multiples-of-requires : tie.Need-multiples-of-requires Inv-loop μ-loop
 multiples-of-requires c κs = c .before .before .pre .1 .most
 
 loop-holds : tie.Need-loop-holds Inv-loop μ-loop
-unfolding after digits
+unfolding after
 loop-holds c t ok is =
     let s = c .before .before .before .before .before .before in
     record {
       within = omega arith;
       stands = c .new .ensures;
-      wrote = refl;
+      wrote = sym (fill-none _ _);
       invariant = invariant-start t (s .args .dividend) (s .args .divisor) ok (s .pre .1);
     }
 

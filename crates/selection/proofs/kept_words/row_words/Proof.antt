@@ -1,7 +1,8 @@
 use mathlib.Core.Path.{_≡_, refl}
 use native.Mathlib.Omega.{arith}
 use Prim.Native.Nat.{ℕ, _+_, _%_, _≤_}
-use Rattle.selection.specs.Computed.{madeTable, listFrom, madeOf, allowsOf}
+use Rattle.laws.specs.Lists.{listFrom}
+use Rattle.selection.specs.Computed.{madeTable, madeOf, allowsOf}
 use Rattle.selection.specs.WordBytes.{wordsBytes}
 use Rattle.selection.proofs.kept_words.row_words.Statement.{statement}
 use Rattle.selection.proofs.kept_words.row_words.Tie as tie
