@@ -1,15 +1,12 @@
 -- Bench cases 1 to 12: one collection, one result.
-use mathlib.Core.Path.{_≡_, refl, sym, ap, subst}
-use mathlib.Core.List.{List}
-use Prim.Native.Nat.{ℕ}
-use native.Mathlib.Omega.{arith}
-use lib.Dec.{lit<}
+use Rattle.laws.proofs.Basics.{_≡_, refl, sym, ap, subst, List, ℕ, arith, lit<}
 use Rattle.selection.specs.Word.{signed}
 use Rattle.selection.specs.Answer.{refusal}
 use Rattle.selection.specs.Cell.{digit, estimate}
 use Rattle.selection.specs.Maker.{MadeTable}
 use Rattle.laws.specs.Lists.{listFrom}
-use Rattle.selection.specs.Computed.{madeTable, madeOf, allowsOf}
+use Rattle.selection.specs.Allowed.{allowsOf}
+use Rattle.selection.specs.Computed.{madeTable, madeOf}
 use Rattle.selection.proofs.CellCases.{case-1, case-2, case-3, case-4, case-5, case-6, case-7}
 use Rattle.selection.proofs.MadeTables.{made-bytes, kept-passes}
 use Rattle.selection.proofs.Orders.{passed-last}

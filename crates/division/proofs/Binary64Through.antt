@@ -1,14 +1,7 @@
 -- Binary64 through a table that passes: the run's digits give the definition's quotient.
-use mathlib.Core.Path.{_≡_, refl, sym}
-use mathlib.Core.Bool.{Bool}
-use mathlib.Core.Logic.{⊎-elim}
-use mathlib.Core.List.{List}
-use Prim.Native.Nat.{ℕ, _+_, _-_, _*_, _/_, _%_, _^_, _≤_, _<_}
+use Rattle.laws.proofs.Basics.{_≡_, refl, sym, Bool, ⊎-elim, List, ℕ, _+_, _-_, _*_, _/_, _%_, _^_, _≤_, _<_, arith, lit<, ne-eqb, le-leb, lt-leb}
 use native.Mathlib.Nat.{div-add-mod', mod-lt, mul-assoc, eq-zero-or-pos}
-use native.Mathlib.Omega.{arith}
-use lib.Dec.{lit<}
 use lib.Pow.{pow-add}
-use borrow.Author.Tests.{ne-eqb, le-leb, lt-leb}
 use Rattle.laws.proofs.Division.{le-or-lt}
 use Rattle.laws.proofs.Powers.{lifted}
 use Rattle.selection.specs.Table.{Passes}

@@ -1,15 +1,10 @@
 -- Demand 1: the answers of all calls are those of their ladders.
-use mathlib.Core.Path.{_≡_, refl, sym, ap, subst, _∙_}
-use mathlib.Core.List.{List, _++_}
-use mathlib.Core.Logic.{⊎-elim}
-use Prim.Native.Nat.{ℕ, _+_, _*_, _<_}
-use native.Mathlib.Omega.{arith}
-use lib.ListN.{length, getD}
+use Rattle.laws.proofs.Basics.{_≡_, refl, sym, ap, subst, _∙_, List, _++_, ⊎-elim, ℕ, _+_, _*_, _<_, arith, length, getD}
 use Rattle.selection.specs.Answer.{refusal, answerBy, admissionOf, outcomeNumbers, reportNumbers, reportZeros}
 use Rattle.selection.specs.Refusals.{Rung, Wrongs, ladder, RefusedBy}
 use Rattle.selection.specs.Cell.{LeastWitness, digit}
-use Rattle.selection.specs.Table.{ReportMeaning}
-use Rattle.selection.specs.Computed.{madeTable, reportOf, tableRungs}
+use Rattle.selection.specs.Table.{ReportMeaning, tableRungs}
+use Rattle.selection.specs.Computed.{madeTable, reportOf}
 use Rattle.selection.specs.declared.Admission.{Admission}
 use Rattle.selection.specs.declared.Admission.the-variants.{Refused}
 use Rattle.selection.specs.declared.table.Outcome.{Outcome}

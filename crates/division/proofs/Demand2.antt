@@ -1,7 +1,5 @@
 -- Demand 2.
-use mathlib.Core.Path.{refl, sym}
-use mathlib.Core.List.{List}
-use Prim.Native.Nat.{ℕ, _^_, _≤_, _<_}
+use Rattle.laws.proofs.Basics.{refl, sym, List, ℕ, _^_, _≤_, _<_}
 use native.Mathlib.Nat.{div-add-mod', mod-lt}
 use Rattle.laws.proofs.Division.{quotient}
 use Rattle.selection.specs.Table.{Passes}

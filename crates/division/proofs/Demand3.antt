@@ -1,8 +1,5 @@
 -- Demand 3, whole.
-use mathlib.Core.Path.{_≡_, refl, sym, ap, subst, _∙_}
-use mathlib.Core.List.{List}
-use mathlib.Core.Logic.{_↔_}
-use Prim.Native.Nat.{ℕ}
+use Rattle.laws.proofs.Basics.{_≡_, refl, sym, ap, subst, _∙_, List, _↔_, ℕ}
 use Rattle.selection.specs.Answer.{answerBy}
 use Rattle.selection.specs.Refusals.{ladder}
 use Rattle.selection.specs.Computed.{reportOf, madeTable}

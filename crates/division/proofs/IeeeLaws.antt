@@ -1,13 +1,7 @@
 -- Binary64 division means what document 01 says, for every pair of operands and through every table that passes.
-use mathlib.Core.Path.{_≡_, refl, sym, ap, ap₂, subst, _∙_}
-use mathlib.Core.Logic.{⊎-elim}
-use Prim.Native.Nat.{ℕ, zero, _-_, _^_, _<_}
+use Rattle.laws.proofs.Basics.{_≡_, refl, sym, ap, ap₂, subst, _∙_, ⊎-elim, ℕ, zero, _-_, _^_, _<_, arith, lit≤, List, ne-eqb}
 use native.Mathlib.Nat.{eq-zero-or-pos, lt-of-lt-of-le, mul-le-mul-left, mul-lt-mul-of-pos-right}
-use native.Mathlib.Omega.{arith}
-use lib.Dec.{lit≤}
-use mathlib.Core.List.{List}
 use lib.Pow.{pow-pos, pow-mono}
-use borrow.Author.Tests.{ne-eqb}
 use Rattle.division.specs.Format.{magnitude, field, classOf, signOf}
 use Rattle.division.specs.Computed.{finiteQuotient, caseOf, decided, orRounded, quotientOf}
 use Rattle.division.specs.Binary64Steps.{binary64Through}

@@ -1,7 +1,5 @@
 -- Of two answers that `Ieee` accepts for the same operands, one is the other: nothing of a quotient is left to chance.
-use mathlib.Core.Path.{_≡_, refl, sym, _∙_}
-use mathlib.Core.Logic.{inl, inr}
-use Prim.Native.Nat.{ℕ}
+use Rattle.laws.proofs.Basics.{_≡_, refl, sym, _∙_, inl, inr, ℕ}
 use Rattle.division.specs.Format.{magnitude, classOf, signOf}
 use Rattle.division.specs.Ieee.{quotientScale, quotientPlace, IsNonzero, Ieee}
 use Rattle.division.specs.declared.format.Binary64Result.{Binary64Result}

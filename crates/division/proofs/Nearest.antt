@@ -1,11 +1,7 @@
 -- What rounding means. An exact magnitude x is given by an increasing scale f and a number m: half a unit taken j times lies at f j, and x at m.
 -- A quotient n / u has f j = j * u and m = 2 * n; a root has squares. Rounding is stated and shown once, for every scale.
-use mathlib.Core.Path.{_≡_, sym, ap}
-use mathlib.Core.Logic.{inl, inr, ⊎-elim}
-use Prim.Native.Nat.{ℕ, suc, min, _+_, _-_, _*_, _/_, _%_, _≤_, _<_}
+use Rattle.laws.proofs.Basics.{_≡_, sym, ap, inl, inr, ⊎-elim, ℕ, suc, min, _+_, _-_, _*_, _/_, _%_, _≤_, _<_, arith, lt-ltb, le-ltb, eq-eqb, ne-eqb}
 use native.Mathlib.Nat.{le-of-lt, lt-of-lt-of-le, eq-zero-or-pos, eq-or-lt-of-le, le-refl, le-of-eq, lt-of-not-le, not-le-of-lt, le-trans}
-use native.Mathlib.Omega.{arith}
-use borrow.Author.Tests.{lt-ltb, le-ltb, eq-eqb, ne-eqb}
 use Rattle.division.specs.declared.rounding.Mode.{Mode}
 use Rattle.division.specs.declared.rounding.Mode.the-variants.{Nearest, Toward, Away}
 use Rattle.division.specs.Rounding.{AwayFromZero, ToNearest, Rounds}

@@ -1,9 +1,6 @@
 -- The quotient of two magnitudes: the exponent and the rounded part that the definition names are those of any sticky quotient in range.
-use mathlib.Core.Path.{_≡_, refl, ap, _∙_}
-use mathlib.Core.Bool.{Bool}
-use Prim.Native.Nat.{ℕ, min, _+_, _-_, _*_, _/_, _%_, _^_, _≤_, _<_}
+use Rattle.laws.proofs.Basics.{_≡_, refl, ap, _∙_, Bool, ℕ, min, _+_, _-_, _*_, _/_, _%_, _^_, _≤_, _<_, arith}
 use native.Mathlib.Nat.{div-add-mod', mod-lt, mul-lt-mul-of-pos-right, mul-le-mul-right, mul-pos, zero-mul, pow-suc}
-use native.Mathlib.Omega.{arith}
 use lib.Pow.{pow-add, pow-pos}
 use Rattle.division.specs.Rounding.{modeOf}
 use Rattle.division.specs.Binary64Steps.{sticky}

@@ -1,9 +1,6 @@
 -- The meaning over a scale, at a quotient's scale, says what document 01 says of a/b: exponent, exactness, and what is below 2^-1022.
-use mathlib.Core.Path.{_≡_}
-use mathlib.Core.Logic.{_↔_}
-use Prim.Native.Nat.{ℕ, suc, _*_, _^_, _≤_, _<_}
+use Rattle.laws.proofs.Basics.{_≡_, _↔_, ℕ, suc, _*_, _^_, _≤_, _<_, arith}
 use native.Mathlib.Nat.{pow-suc}
-use native.Mathlib.Omega.{arith}
 use Rattle.division.specs.Rounded.{IsExponent}
 use Rattle.division.specs.Ieee.{quotientScale, quotientPlace}
 

@@ -1,12 +1,6 @@
 -- The answer that the definition gives for an exact magnitude is that magnitude rounded once, with document 01's overflow value, sign and flags: shown once for every scale.
-use mathlib.Core.Path.{_≡_, refl, sym, ap, ap₂, subst, _∙_}
-use mathlib.Core.Bool.{Bool, false, cond, _&&_}
-use mathlib.Core.Logic.{⊎-elim}
-use Prim.Native.Nat.{ℕ, min, _+_, _-_, _*_, _/_, _%_, _^_, _≤_, _<_}
+use Rattle.laws.proofs.Basics.{_≡_, refl, sym, ap, ap₂, subst, _∙_, Bool, false, cond, _&&_, ⊎-elim, ℕ, min, _+_, _-_, _*_, _/_, _%_, _^_, _≤_, _<_, arith, ltb, eqb, le-leb, eq-eqb, ne-eqb, lt-ltb, le-ltb}
 use native.Mathlib.Nat.{le-of-eq, le-trans, lt-of-lt-of-le}
-use native.Mathlib.Omega.{arith}
-use lib.Dec.{ltb, eqb}
-use borrow.Author.Tests.{le-leb, eq-eqb, ne-eqb, lt-ltb, le-ltb}
 use Rattle.division.specs.declared.rounding.Mode.{Mode}
 use Rattle.division.specs.declared.rounding.Mode.the-variants.{Nearest, Toward, Away}
 use Rattle.division.specs.Rounding.{modeOf}

@@ -1,12 +1,7 @@
 -- Of two answers that `Rounded` accepts for one exact magnitude, one is the other, on every scale.
-use mathlib.Core.Path.{_≡_, refl, sym, ap, ap₂, subst, _∙_}
-use mathlib.Core.Bool.{Bool, true, false}
-use mathlib.Core.Logic.{⊎-elim}
-use Prim.Native.Nat.{ℕ, suc, _+_, _-_, _*_, _/_, _^_, _≤_, _<_}
+use Rattle.laws.proofs.Basics.{_≡_, refl, sym, ap, ap₂, subst, _∙_, Bool, true, false, ⊎-elim, ℕ, suc, _+_, _-_, _*_, _/_, _^_, _≤_, _<_, arith, ne-eqb, leb-true, leb-false}
 use native.Mathlib.Nat.{mul-le-mul-left, mul-lt-mul-of-pos-right, eq-zero-or-pos, pow-suc, mul-div-cancel}
-use native.Mathlib.Omega.{arith}
 use lib.Pow.{pow-pos, pow-mono}
-use borrow.Author.Tests.{ne-eqb, leb-true, leb-false}
 use Rattle.laws.proofs.Division.{le-or-lt}
 use Rattle.division.specs.Rounding.{modeOf, Rounds}
 use Rattle.division.specs.Format.{negative, field, fraction, magnitude}

@@ -1,10 +1,6 @@
 -- The scale of an exact magnitude: the exponent that the definition finds is the largest, and there is one; so are the whole units, and they have 53 bits.
-use mathlib.Core.Path.{_≡_, sym, ap}
-use mathlib.Core.Logic.{⊎-elim}
-use Prim.Native.Nat.{ℕ, zero, suc, min, _+_, _*_, _^_, _≤_, _<_}
+use Rattle.laws.proofs.Basics.{_≡_, sym, ap, ⊎-elim, ℕ, zero, suc, min, _+_, _*_, _^_, _≤_, _<_, arith, le-leb, lt-leb}
 use native.Mathlib.Nat.{pow-suc, le-of-eq, le-trans, eq-or-lt-of-le}
-use native.Mathlib.Omega.{arith}
-use borrow.Author.Tests.{le-leb, lt-leb}
 use Rattle.laws.proofs.Division.{le-or-lt}
 use Rattle.division.specs.Rounded.{IsExponent}
 use Rattle.division.specs.Computed.{largest, greatest}

@@ -1,10 +1,6 @@
 -- Whole numbers through a table that passes: the run's digits give a / b and a % b.
-use mathlib.Core.Path.{_≡_}
-use mathlib.Core.List.{List}
-use Prim.Native.Nat.{ℕ, _+_, _-_, _*_, _/_, _%_, _^_, _≤_, _<_}
+use Rattle.laws.proofs.Basics.{_≡_, List, ℕ, _+_, _-_, _*_, _/_, _%_, _^_, _≤_, _<_, arith, lit<}
 use native.Mathlib.Nat.{mul-assoc, mul-div-cancel, mul-le-mul-left}
-use native.Mathlib.Omega.{arith}
-use lib.Dec.{lit<}
 use lib.Pow.{pow-mono, pow-pos}
 use Rattle.laws.proofs.Division.{scaled}
 use Rattle.laws.proofs.Powers.{by-digits, lifted}

@@ -8,8 +8,8 @@ use Rattle.selection.specs.Answer.{refusal, cellNumbers, cellZeros, ReportNumbe
 use Rattle.selection.specs.Refusals.{Wrongs, FirstRefusal, RefusedBy, Refuses}
 use Rattle.selection.specs.Cell.{LeastWitness, cellRungs, digit}
 use Rattle.selection.specs.Maker.{limitsRungs, limitsZeros, makeRungs}
-use Rattle.selection.specs.Table.{BadAt, Tally}
-use Rattle.selection.specs.Computed.{cellOf, rowLimitsOf, makeOf, madeBuffer, madeTable, reportOf, tableRungs}
+use Rattle.selection.specs.Table.{BadAt, Tally, tableRungs}
+use Rattle.selection.specs.Computed.{cellOf, rowLimitsOf, makeOf, madeBuffer, madeTable, reportOf}
 use Rattle.recurrence.specs.Run.{runRungs, runZeros, runOf, bufferOf}
 use Rattle.division.specs.Whole.{wholeRungs, wholeZeros, wholeOf}
 use Rattle.division.specs.Binary64.{binary64Rungs, binary64Zeros, binary64Of}

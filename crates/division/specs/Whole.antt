@@ -2,7 +2,7 @@
 use mathlib.Core.List.{List, [], _∷_, _++_}
 use Prim.Native.Nat.{ℕ, _^_}
 use Rattle.selection.specs.Answer.{refusal, answerBy}
-use Rattle.selection.specs.Computed.{tableRungs}
+use Rattle.selection.specs.Table.{tableRungs}
 use Rattle.selection.specs.Refusals.{Rung, atMost, same, eitherOf, number, ladder}
 use Rattle.selection.specs.declared.Refusal.{Refusal}
 use Rattle.division.specs.WholeSteps.{wholeThrough}

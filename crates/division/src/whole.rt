@@ -11,6 +11,10 @@ ghost use Rattle.division.specs.WholeSteps.{shiftTo, shiftedThrough, who
 ghost use Rattle.division.specs.Whole.{wholeRungs, wholeZeros, wholeValues, wholeOf};
 use selection::Admission;
 use selection::Refusal;
+use selection::refused;
+
+// Operands are below 2^60.
+const OPERAND_END: u64 = 0x1000_0000_0000_0000;
 
 pub struct WholeResult {
     pub quotient: u64,
@@ -40,7 +44,7 @@ fn shifted(row: &[u8], a: u64, d: u64, s: u32) -> WholeResult
 {
     let n = a << (s % 2);
     let count = (s / 2 + 1) as usize;
-    let mut digits = [2u8; 31];
+    let mut digits = [2u8; recurrence::LONGEST];
     let ran = recurrence::run_row(row, n, d, &mut digits[0..count]);
     WholeResult {
         quotient: ran.quotient,
@@ -55,7 +59,7 @@ fn divide(table: &[u8], a: u64, b: u64) -> WholeResult
 {
     let s = shift_of(b);
     let d = b << s;
-    let start = 128 * ((d >> 56) - 16) as usize;
+    let start = selection::table::row_start(d);
     shifted(&table[start..start + 128], a, d, s)
 }
 
@@ -66,7 +70,7 @@ fn divide_kept(a: u64, b: u64) -> WholeResult
 {
     let s = shift_of(b);
     let d = b << s;
-    let row = selection::kept::kept_row(d >> 56);
+    let row = selection::kept::kept_row(d);
     shifted(&row, a, d, s)
 }
 
@@ -74,21 +78,14 @@ fn divide_kept(a: u64, b: u64) -> WholeResult
 fn refusal_of(a: u64, b: u64) -> Admission
     ensures { λ r. ⌜ r ≡ ladder (wholeRungs a b) ⌝ }
 {
-    let outside = Admission::Refused(Refusal {
-        number: 4,
-        place: 0,
-    });
-    if 0x1000_0000_0000_0000 <= a {
-        return outside;
+    if OPERAND_END <= a {
+        return refused(4);
     }
-    if 0x1000_0000_0000_0000 <= b {
-        return outside;
+    if OPERAND_END <= b {
+        return refused(4);
     }
     if b == 0 {
-        return Admission::Refused(Refusal {
-            number: 5,
-            place: 0,
-        });
+        return refused(5);
     }
     Admission::Admitted
 }

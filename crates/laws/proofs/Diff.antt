@@ -1,13 +1,7 @@
 -- ℤ as differences of naturals: `diff a b` is a − b. Each law turns a statement on ℤ into one on ℕ, which
 -- `omega` reads: `simp diffs (omega arith)` proves an equation or an order of sums and products of such differences, and
 -- `simp diffs at h` reads one.
-use mathlib.Core.Path.{_≡_, refl, sym, ap, subst}
-use mathlib.Core.Logic.{_↔_}
-use Prim.Native.Nat.{ℕ, zero, suc, _+_, _-_, _*_, _≤_}
-use native.Mathlib.Omega.{arith}
-use lib.Dec.{ltb, ltb→lt, nltb→le, leb→le, le→leb}
-use lib.IntN.{ℤ, pos, negsuc, negℤ, subℕ, _+ℤ_, _*ℤ_}
-use lib.Signed.{_≤ℤ_}
+use Rattle.laws.proofs.Basics.{_≡_, refl, sym, ap, subst, _↔_, ℕ, zero, suc, _+_, _-_, _*_, _≤_, arith, ltb, ltb→lt, nltb→le, leb→le, le→leb, ℤ, pos, negsuc, negℤ, subℕ, _+ℤ_, _*ℤ_, _≤ℤ_}
 use Rattle.laws.proofs.Tests.{by-cond}
 
 unfoldable pub diff : ℕ → ℕ → ℤ

@@ -1,12 +1,6 @@
 -- A list by its index, a lent list filled from the front, and a part of a list lent and put back.
-use mathlib.Core.Path.{_≡_, refl, sym, ap, subst, _∙_}
-use mathlib.Core.Logic.{⊎-elim}
-use mathlib.Core.List.{List, [], _∷_, _++_, append-assoc, append-nil}
-use Prim.Native.Nat.{ℕ, zero, suc, _+_, _-_, _≤_, _<_}
+use Rattle.laws.proofs.Basics.{_≡_, refl, sym, ap, subst, _∙_, ⊎-elim, List, [], _∷_, _++_, append-assoc, append-nil, ℕ, zero, suc, _+_, _-_, _≤_, _<_, add-one, arith, length, getD, take, drop, set, length-append, length-take, length-drop, drop-of-length-le}
 use native.Mathlib.Nat.{add-zero, add-suc, suc-add, zero-add, not-suc-le-zero, le-of-suc-le-suc, eq-or-lt-of-le}
-use native.Mathlib.Numerals.{add-one}
-use native.Mathlib.Omega.{arith}
-use lib.ListN.{length, getD, take, drop, set, length-append, length-take, length-drop, drop-of-length-le}
 use lib.Seq.{drop-drop, drop-cons, set-at, getD-set-same, getD-set-other}
 use Rattle.laws.specs.Lists.{listFrom, filled}
 

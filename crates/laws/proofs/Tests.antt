@@ -1,13 +1,9 @@
 -- Tests that antt computes, and what a passed one says: one test over all entries of a table, and a law that carries it to each.
-use mathlib.Core.Path.{_≡_, refl, _∙_, subst, sym}
-use mathlib.Core.Bool.{Bool, true, false, not, cond}
-use mathlib.Core.Logic.{⊎-elim}
-use mathlib.Core.List.{List, [], _∷_}
-use Prim.Native.Nat.{ℕ, zero, suc, _+_, _≤_, _<_}
-use native.Mathlib.Omega.{arith}
+use Rattle.laws.proofs.Basics.{_≡_, refl, _∙_, subst, sym, Bool, true, false, not, cond, ⊎-elim, List, [], _∷_, ℕ, zero, suc, _+_, _≤_, _<_, arith, needs, lt-ltb, le-ltb, le-leb, lt-leb, eq-eqb, ne-eqb, T, length, getD}
 use native.Mathlib.Nat.{add-zero, zero-add, add-suc, suc-add, le-of-suc-le-suc, not-suc-le-zero, eq-or-lt-of-le}
-use lib.Dec.{T}
-use lib.ListN.{length, getD}
+
+-- what code that climbs a ladder of tests asks at each way out: `search tests`
+pub ruleset tests = (needs, lt-ltb, le-ltb, le-leb, lt-leb, eq-eqb, ne-eqb)
 
 -- a choice by a test, by its two cases
 pub by-cond : {X : Type 0} (P : X → Type 0) (c : Bool) (x y : X) → (T c → P x) → (T (not c) → P y) → P (cond c x y)

@@ -1,8 +1,6 @@
 -- Numbers modulo n.
-use mathlib.Core.Path.{_≡_, sym, ap, _∙_}
-use Prim.Native.Nat.{ℕ, _+_, _*_, _/_, _%_}
+use Rattle.laws.proofs.Basics.{_≡_, sym, ap, _∙_, ℕ, _+_, _*_, _/_, _%_, arith}
 use native.Mathlib.Nat.{mod-add-div', add-mul-mod-self-right}
-use native.Mathlib.Omega.{arith}
 
 -- equal but for multiples of n
 pub same-mod : (x y n j k : ℕ) → x + j * n ≡ y + k * n → x % n ≡ y % n

@@ -11,7 +11,8 @@ use lib.ListN.{length, getD, set, length-set}
 use lib.Seq.{getD-set-same, getD-set-other}
 use Rattle.selection.specs.Cell.{Allows, digit}
 use Rattle.laws.specs.Lists.{listFrom}
-use Rattle.selection.specs.Computed.{cellOf, allowsOf, madeOf, madeTable}
+use Rattle.selection.specs.Allowed.{allowsOf}
+use Rattle.selection.specs.Computed.{cellOf, madeOf, madeTable}
 use Rattle.selection.specs.Table.{Table, Passes}
 use Rattle.selection.specs.declared.Witness.{Witness}
 use Rattle.selection.proofs.MadeTables.{kept-passes}

@@ -1,7 +1,5 @@
 -- The sum word and twice the majority word add up to the three words.
-use mathlib.Core.Path.{_≡_, refl}
-use Prim.Native.Nat.{ℕ, zero, suc, _+_, _*_, _/_, _%_, _^_, _<_}
-use native.Mathlib.Omega.{arith}
+use Rattle.laws.proofs.Basics.{_≡_, refl, ℕ, zero, suc, _+_, _*_, _/_, _%_, _^_, _<_, arith}
 use lib.Arith.{bin-ind}
 use lib.Bits.{bitAnd, bitXor, xor-add-and, xor-shr, and-shr, or-shr, xor-mod, and-mod, or-mod}
 use Rattle.recurrence.specs.CarrySave.{sum3, maj3}

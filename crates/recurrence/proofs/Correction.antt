@@ -1,13 +1,7 @@
 -- The correction of the last digit: the sign of the last remainder says whether S is one too large. The code corrects by the words;
 -- S and the end remainder, corrected, are the same numbers, and they are quotient and remainder of N·4^(n−1) by D.
-use mathlib.Core.Path.{_≡_, sym, ap, ap₂, subst, _∙_}
-use mathlib.Core.Bool.{false}
-use mathlib.Core.List.{List}
-use Prim.Native.Nat.{ℕ, zero, suc, _+_, _-_, _*_, _/_, _%_, _^_, _≤_, _<_}
-use native.Mathlib.Omega.{arith}
+use Rattle.laws.proofs.Basics.{_≡_, sym, ap, ap₂, subst, _∙_, false, List, ℕ, zero, suc, _+_, _-_, _*_, _/_, _%_, _^_, _≤_, _<_, arith, ℤ, pos, negsuc, natAbs, _+ℤ_, _-ℤ_, nonNeg}
 use lib.Arith.{digits-div, digits-mod}
-use lib.IntN.{ℤ, pos, negsuc, natAbs, _+ℤ_, _-ℤ_}
-use lib.Signed.{nonNeg}
 use Rattle.laws.proofs.Diff.{diff, diffs}
 use Rattle.recurrence.specs.Recurrence.{State, after, correctedQuotient, correctedRemainder, endRemainder, resultOf}
 use Rattle.recurrence.specs.FastRun.{resultFromWord, CorrectionReady}

@@ -1,11 +1,6 @@
 -- The digits of a run: where each comes from, and the number S that they make.
-use mathlib.Core.Path.{_≡_, ap, _∙_}
-use mathlib.Core.List.{List, [], _∷_, _++_}
-use Prim.Native.Nat.{ℕ, _*_, _^_, _<_}
-use native.Mathlib.Omega.{arith}
+use Rattle.laws.proofs.Basics.{_≡_, ap, _∙_, List, [], _∷_, _++_, ℕ, _*_, _^_, _<_, arith, length, getD, length-append, ℤ, pos, _+ℤ_, _*ℤ_}
 use native.Mathlib.Nat.{pow-suc, zero-add}
-use lib.ListN.{length, getD, length-append}
-use lib.IntN.{ℤ, pos, _+ℤ_, _*ℤ_}
 use Rattle.laws.proofs.Lists.{list-at}
 use Rattle.laws.proofs.Diff.{diff, diffs, by-diff}
 use Rattle.selection.specs.Cell.{digit}

@@ -1,11 +1,6 @@
 -- The invariant of the recurrence: after i steps the digits make S, a natural number, and P = 4^i N − 4 S D, in range.
-use mathlib.Core.Path.{_≡_, refl, sym, ap, _∙_}
-use mathlib.Core.List.{List}
-use Prim.Native.Nat.{ℕ, zero, suc, _+_, _-_, _*_, _^_, _≤_, _<_}
-use native.Mathlib.Omega.{arith}
+use Rattle.laws.proofs.Basics.{_≡_, refl, sym, ap, _∙_, List, ℕ, zero, suc, _+_, _-_, _*_, _^_, _≤_, _<_, arith, getD, pos}
 use native.Mathlib.Nat.{pow-suc, mul-assoc}
-use lib.ListN.{getD}
-use lib.IntN.{pos}
 use Rattle.laws.specs.Lists.{listFrom}
 use Rattle.laws.proofs.Diff.{diffs}
 use Rattle.laws.proofs.Lists.{list-snoc}

@@ -1,14 +1,10 @@
 -- The code's loop: where it stands after i turns, and what one turn does.
-use mathlib.Core.Path.{_≡_, refl, sym, ap, _∙_}
-use mathlib.Core.List.{List}
-use Prim.Native.Nat.{ℕ, suc, _+_, _-_, _*_, _^_, _≤_, _<_}
-use native.Mathlib.Omega.{arith}
+use Rattle.laws.proofs.Basics.{_≡_, refl, sym, ap, _∙_, List, ℕ, suc, _+_, _-_, _*_, _^_, _≤_, _<_, arith, add-one, length, set}
 use native.Mathlib.Nat.{pow-le-pow-right}
-use native.Mathlib.Numerals.{add-one}
-use lib.ListN.{length, set}
 use Rattle.laws.specs.Lists.{filled}
 use Rattle.laws.proofs.Lists.{fill-more, fill-length, fill-all}
 use Rattle.selection.specs.Table.{Passes}
+use Rattle.recurrence.specs.Run.{longest}
 use Rattle.recurrence.specs.Recurrence.{nextOf, after, digitOf, digits}
 use Rattle.recurrence.specs.FastRun.{withColumn, stateOf}
 use Rattle.recurrence.specs.declared.RunState.{RunState}
@@ -34,7 +30,7 @@ module _ (t : List ℕ) (N D : ℕ) (out₀ out : List ℕ) (p : RunState) (S i 
   pub reached-length : length out ≡ length out₀
   reached-length = let h = r .within in rw (r .wrote) (fill-length (digitOf t N D) out₀ i h)
 
-  pub move : (q : RunState) → Passes t → length out₀ ≤ 31 → i < length out → q ≡ withColumn (nextOf t (stateOf p)) → Moved t N D out₀ out q S i
+  pub move : (q : RunState) → Passes t → length out₀ ≤ longest → i < length out → q ≡ withColumn (nextOf t (stateOf p)) → Moved t N D out₀ out q S i
   move q ok small l e =
       let h : i < length out₀ = omega (arith, reached-length) in
       let f : q ≡ withColumn (after t N D (suc i)) = e ∙ ap (λ (p : RunState). withColumn (nextOf t (stateOf p))) (r .stands) ∙ ap withColumn (sym (after-suc t N D i)) in

@@ -1,11 +1,6 @@
 -- The estimate ahead: the column of the next words, from the top bits of these words and of the multiple.
-use mathlib.Core.Path.{_≡_, refl, _∙_}
-use mathlib.Core.List.{List}
-use Prim.Native.Nat.{ℕ, zero, suc, _+_, _-_, _*_, _/_, _%_, _^_, _≤_, _<_}
-use native.Mathlib.Omega.{arith}
+use Rattle.laws.proofs.Basics.{_≡_, refl, _∙_, List, ℕ, zero, suc, _+_, _-_, _*_, _/_, _%_, _^_, _≤_, _<_, arith, ltb, getD}
 use native.Mathlib.Nat.{mod-add-mod, add-mod-mod}
-use lib.Dec.{ltb}
-use lib.ListN.{getD}
 use lib.Bits.{bitAnd, bitXor, and-high}
 use Rattle.laws.proofs.Tests.{by-cond, up-to-four}
 use Rattle.laws.proofs.Words.{same-mod, mod-sum}

@@ -1,19 +1,14 @@
 -- The refusals of the arguments, and what the two calls make of them.
-use mathlib.Core.Path.{_≡_, refl, sym, ap, _∙_}
-use mathlib.Core.List.{List, _++_}
-use mathlib.Core.Logic.{inl, inr, ⊎-elim}
-use Prim.Native.Nat.{ℕ, _+_, _-_, _^_, _≤_, _<_}
-use native.Mathlib.Omega.{arith}
-use lib.ListN.{length}
+use Rattle.laws.proofs.Basics.{_≡_, refl, sym, ap, _∙_, List, _++_, inl, inr, ⊎-elim, ℕ, _+_, _-_, _^_, _≤_, _<_, arith, length}
 use Rattle.selection.specs.Answer.{answerBy}
-use Rattle.selection.specs.Computed.{tableRungs}
+use Rattle.selection.specs.Table.{tableRungs}
 use Rattle.selection.specs.Refusals.{rank, ladder}
 use Rattle.selection.specs.declared.Admission.{Admission}
 use Rattle.selection.specs.declared.Admission.the-variants as A
 use Rattle.selection.proofs.Ladders.{Ladder, not-below, clear, admits}
 use Rattle.selection.proofs.Orders.{lent}
 use Rattle.recurrence.specs.Recurrence.{Operands, digits, resultOf}
-use Rattle.recurrence.specs.Run.{runRungs, written, runZeros, runValues, runOf, bufferOf}
+use Rattle.recurrence.specs.Run.{longest, runRungs, written, runZeros, runValues, runOf, bufferOf}
 use Rattle.recurrence.specs.declared.RunAnswer.{RunAnswer}
 
 module _ (N D n len place : ℕ) where
@@ -26,7 +21,7 @@ module _ (N D n len place : ℕ) where
   run-lent t = lent (runRungs N D n len place) t run-ladder tt
 
   -- arguments without a refusal of their own are in their spans
-  pub spans : ladder (runRungs N D n len place) ≡ A.Admitted → (Operands N D) × (1 ≤ n) × (n ≤ 31) × (place + n ≤ len)
+  pub spans : ladder (runRungs N D n len place) ≡ A.Admitted → (Operands N D) × (1 ≤ n) × (n ≤ longest) × (place + n ≤ len)
   unfolding runRungs
   spans e =
       let a = clear run-ladder e in
@@ -40,7 +35,7 @@ module _ (N D n len place : ℕ) where
       )
 
   -- and the other way round
-  pub no-refusal : Operands N D → 1 ≤ n → n ≤ 31 → place + n ≤ len → ladder (runRungs N D n len place) ≡ A.Admitted
+  pub no-refusal : Operands N D → 1 ≤ n → n ≤ longest → place + n ≤ len → ladder (runRungs N D n len place) ≡ A.Admitted
   unfolding runRungs
   no-refusal o h l r =
       admits run-ladder (λ m p.

@@ -1,9 +1,5 @@
 -- The row of a divisor in a table that passes: what `run_row` asks of the bytes that it is lent, and how its callers have it.
-use mathlib.Core.Path.{_≡_}
-use mathlib.Core.List.{List}
-use Prim.Native.Nat.{ℕ, _+_, _-_, _*_, _/_, _%_, _^_, _≤_, _<_}
-use native.Mathlib.Omega.{arith}
-use lib.ListN.{getD, take, drop, length-take, length-drop}
+use Rattle.laws.proofs.Basics.{_≡_, List, ℕ, _+_, _-_, _*_, _^_, _<_, arith, getD, take, drop, length-take, length-drop}
 use lib.Seq.{getD-take, getD-drop}
 use Rattle.selection.specs.Cell.{row}
 use Rattle.selection.specs.Table.{Passes, rowBytes}
@@ -12,13 +8,9 @@ use Rattle.selection.proofs.MadeTables.{kept-passes}
 use Rattle.recurrence.specs.Row.{Row}
 use Rattle.recurrence.specs.FastRun.{DigitBytes}
 
--- the row of a table, as it is lent: `&table[start..start + 128]` with `start = 128 * ((divisor >> 56) - 16)`
-pub lent-row : (t : List ℕ) (D : ℕ) → take (128 * row D + 128 - 128 * row D) (drop (128 * row D) t) ≡ rowBytes t (row D)
-lent-row t D = let e : 128 * row D + 128 - 128 * row D ≡ 128 = omega arith in rw e
-
--- the row of the kept table, by the divisor's top bits: `kept_row(divisor >> 56)`
-pub kept-row : (D : ℕ) {bytes : List ℕ} → 2 ^ 60 ≤ D → D < 2 ^ 61 → bytes ≡ rowBytes madeTable (D / 2 ^ 56 % 16) → bytes ≡ rowBytes madeTable (row D)
-kept-row D l h e = let r : D / 2 ^ 56 % 16 ≡ row D = omega arith in rw r at e
+-- the row of a divisor in a table, as it is lent: `&table[start..start + 128]`
+pub lent-row : (t : List ℕ) (D : ℕ) {start : ℕ} → start ≡ 128 * row D → take (start + 128 - start) (drop start t) ≡ rowBytes t (row D)
+lent-row t D {start} e = let n : start + 128 - start ≡ 128 = omega arith in rw (n, e)
 
 pub row-of : {t : List ℕ} {D : ℕ} {bytes : List ℕ} → Passes t → bytes ≡ rowBytes t (row D) → Row D bytes
 row-of {t} p e = record { table = t; passes = p; is = e }

@@ -1,11 +1,6 @@
 -- One step: with a digit that is allowed, P′ = 4 (P − qD), and P′ is in range again. A remainder P is handled as P + 2^63, a
 -- natural number below 2^64, which `omega` reads.
-use mathlib.Core.Path.{_≡_}
-use mathlib.Core.List.{List}
-use Prim.Native.Nat.{ℕ, zero, suc, _+_, _-_, _*_, _/_, _%_, _^_, _≤_, _<_}
-use native.Mathlib.Omega.{arith}
-use lib.ListN.{getD}
-use lib.IntN.{pos, _-ℤ_, _*ℤ_}
+use Rattle.laws.proofs.Basics.{_≡_, List, ℕ, zero, suc, _+_, _-_, _*_, _/_, _%_, _^_, _≤_, _<_, arith, getD, pos, _-ℤ_, _*ℤ_}
 use Rattle.laws.proofs.Diff.{diff, diffs}
 use Rattle.laws.proofs.Words.{same-mod}
 use Rattle.selection.specs.Word.{Within}

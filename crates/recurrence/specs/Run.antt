@@ -3,17 +3,21 @@ use mathlib.Core.List.{List, [], _∷_, _++_}
 use Prim.Native.Nat.{ℕ, _+_, _-_, _^_}
 use lib.ListN.{length, take, drop}
 use Rattle.selection.specs.Answer.{refusal, answerBy}
-use Rattle.selection.specs.Computed.{tableRungs}
+use Rattle.selection.specs.Table.{tableRungs}
 use Rattle.selection.specs.Refusals.{Rung, below, same, eitherOf, number, ladder}
 use Rattle.selection.specs.declared.Refusal.{Refusal}
 use Rattle.recurrence.specs.Recurrence.{digits, resultOf}
 use Rattle.recurrence.specs.declared.RunResult.{RunResult}
 use Rattle.recurrence.specs.declared.RunAnswer.{RunAnswer}
 
--- what a run refuses of its arguments. 2: n is 0 or above 31. 3: D or N outside its span, from 2^60 to 2^61 - 1 and from 0 to 2^61 - 1. 7: the buffer ends before the last byte to write
+-- the most digits that a run gives
+abbrev pub longest : ℕ
+longest = 31
+
+-- what a run refuses of its arguments. 2: n is 0 or above the most. 3: D or N outside its span, from 2^60 to 2^61 - 1 and from 0 to 2^61 - 1. 7: the buffer ends before the last byte to write
 unfoldable pub runRungs : ℕ → ℕ → ℕ → ℕ → ℕ → List Rung
 runRungs N D n len place =
-    number 2 (eitherOf (same n 0) (below 31 n))
+    number 2 (eitherOf (same n 0) (below longest n))
     ∷ number 3 (eitherOf (below D (2 ^ 60)) (eitherOf (below (2 ^ 61 - 1) D) (below (2 ^ 61 - 1) N)))
     ∷ number 7 (below len (place + n))
     ∷ []

@@ -1,14 +1,13 @@
 // The digit recurrence, the middle layer: a quotient digit a step, read from a table by the truncated estimate of a carry-save partial remainder.
 use selection::Admission;
 use selection::Refusal;
+use selection::refused;
 use std::num::wrapping_add_u64;
 ghost use mathlib.Core.Path.{_≡_};
 ghost use mathlib.Core.List.{List};
 ghost use Prim.Native.Nat.{ℕ, _+_, _%_, _^_, _≤_, _<_};
 ghost use lib.ListN.{length, getD};
-ghost use Rattle.selection.specs.Answer.{refusal};
 ghost use Rattle.selection.specs.Refusals.{ladder};
-ghost use Rattle.selection.specs.declared.Admission.the-variants as Told;
 ghost use Rattle.selection.specs.Cell.{column};
 ghost use Rattle.selection.specs.Cell as Cell;
 ghost use Rattle.selection.specs.Table.{Passes, rowBytes};
@@ -16,13 +15,16 @@ ghost use Rattle.selection.specs.Computed.{madeTable};
 ghost use Rattle.recurrence.specs.CarrySave.{lowestCarry};
 ghost use Rattle.recurrence.specs.Recurrence.{Operands, nextOf, startOf, digits, resultOf};
 ghost use Rattle.recurrence.specs.Row.{Row};
-ghost use Rattle.recurrence.specs.Run.{runRungs, written, runZeros, runValues, runOf, bufferOf};
+ghost use Rattle.recurrence.specs.Run.{longest, runRungs, written, runZeros, runValues, runOf, bufferOf};
 ghost use Rattle.recurrence.specs.FastRun.{withColumn, stateOf, multiplesOf, topBitsOf, allTopBits, DigitBytes, StepReady, resultFromWord, CorrectionReady};
 
 // The next column needs the bits 61 to 54 of a word: what is left of it by 2^62, without the bits below 2^54.
 const TOP_END: u64 = 0x4000_0000_0000_0000;
 
 const TOP_BITS: u64 = 0xffc0_0000_0000_0000;
+
+// The most digits that a run gives.
+pub const LONGEST: usize = 31;
 
 // The state of a run: the partial remainder in carry-save form, the divisor, the column of the two words, and the digit of the last step.
 struct RunState {
@@ -153,7 +155,7 @@ fn corrected(state: RunState, total: u64, count: usize) -> RunResult
 // One digit byte a step, in each byte of out, through the 128 bytes of the divisor's row in a table that passes. Only our own crates
 // call it: it has a `requires`, so that a table checked once is not checked again, and the kept table is not copied.
 pub fn run_row(row: &[u8], dividend: u64, divisor: u64, out: &mut [u8]) -> RunResult
-    requires { ⌜ (Row divisor (now row)) × (Operands dividend divisor) × (1 ≤ length (now out)) × (length (now out) ≤ 31) ⌝ }
+    requires { ⌜ (Row divisor (now row)) × (Operands dividend divisor) × (1 ≤ length (now out)) × (length (now out) ≤ longest) ⌝ }
     ensures { λ r. ⌜ ((t : List ℕ) → Passes t → now (row .entry) ≡ rowBytes t (Cell.row divisor) → (now (out .exit) ≡ digits t dividend divisor (length (now (out .entry)))) × (r ≡ resultOf t dividend divisor (length (now (out .entry))))) ⌝ }
 {
     let multiples = multiples_of(divisor);
@@ -180,7 +182,7 @@ fn run_part(
     buffer: &mut [u8],
     place: usize,
 ) -> RunResult
-    requires { ⌜ (Row divisor (now row)) × (Operands dividend divisor) × (1 ≤ n) × (n ≤ 31) × (place + n ≤ length (now buffer)) ⌝ }
+    requires { ⌜ (Row divisor (now row)) × (Operands dividend divisor) × (1 ≤ n) × (n ≤ longest) × (place + n ≤ length (now buffer)) ⌝ }
     ensures { λ r. ⌜ ((t : List ℕ) → Passes t → now (row .entry) ≡ rowBytes t (Cell.row divisor) → (now (buffer .exit) ≡ written (now (buffer .entry)) place (digits t dividend divisor n) n) × (r ≡ resultOf t dividend divisor n)) ⌝ }
 {
     run_row(row, dividend, divisor, &mut buffer[place..place + n])
@@ -195,10 +197,10 @@ fn run_admitted(
     buffer: &mut [u8],
     place: usize,
 ) -> RunResult
-    requires { ⌜ (Passes (now table)) × (Operands dividend divisor) × (1 ≤ n) × (n ≤ 31) × (place + n ≤ length (now buffer)) ⌝ }
+    requires { ⌜ (Passes (now table)) × (Operands dividend divisor) × (1 ≤ n) × (n ≤ longest) × (place + n ≤ length (now buffer)) ⌝ }
     ensures { λ r. ⌜ (now (buffer .exit) ≡ written (now (buffer .entry)) place (digits (now (table .entry)) dividend divisor n) n) × (r ≡ resultOf (now (table .entry)) dividend divisor n) ⌝ }
 {
-    let start = 128 * ((divisor >> 56) - 16) as usize;
+    let start = selection::table::row_start(divisor);
     run_part(
         &table[start..start + 128],
         dividend,
@@ -209,13 +211,6 @@ fn run_admitted(
     )
 }
 
-// A refusal whose place is 0.
-fn refused(number: u64) -> Admission
-    ensures { λ r. ⌜ r ≡ Told.Refused (refusal number 0) ⌝ }
-{
-    Admission::Refused(Refusal { number, place: 0 })
-}
-
 // The first refusal of the arguments alone.
 fn argument_refusal(dividend: u64, divisor: u64, n: usize, len: usize, place: usize) -> Admission
     ensures { λ r. ⌜ r ≡ ladder (runRungs dividend divisor n len place) ⌝ }
@@ -223,7 +218,7 @@ fn argument_refusal(dividend: u64, divisor: u64, n: usize, len: usize, place: us
     if n == 0 {
         return refused(2);
     }
-    if 31 < n {
+    if LONGEST < n {
         return refused(2);
     }
     if divisor < 1152921504606846976 {
@@ -311,7 +306,7 @@ pub fn run_kept(
     match admission {
         Admission::Refused(f) => zeros(f),
         Admission::Admitted => {
-            let row = selection::kept::kept_row(divisor >> 56);
+            let row = selection::kept::kept_row(divisor);
             values(run_part(&row, dividend, divisor, digits, buffer, place))
         }
     }

@@ -1,17 +1,11 @@
 -- The rule in small numbers and the search agree: one test that antt computes over all cells and bytes, and one law that carries it to
 -- each. So the rule says which digits are allowed, and which cells of a table are bad.
-use mathlib.Core.Path.{_≡_, refl}
-use mathlib.Core.Bool.{Bool, true, false, not}
-use mathlib.Core.List.{List}
-use Prim.Native.Nat.{ℕ, _/_, _%_, _<_}
-use native.Mathlib.Omega.{arith}
-use lib.Dec.{T}
-use lib.ListN.{getD}
+use Rattle.laws.proofs.Basics.{_≡_, refl, Bool, true, false, not, List, ℕ, _/_, _%_, _<_, arith, T, getD}
 use Rattle.laws.proofs.Tests.{upto, upto-at, alike, alike-eq}
 use Rattle.selection.specs.Cell.{Allows, IsCell, CellChecked, digit}
 use Rattle.selection.specs.Table.{Table, BadAt}
 use Rattle.selection.specs.Search.{searchOf, cellVerdictOf}
-use Rattle.selection.specs.Computed.{allowsOf, isBad}
+use Rattle.selection.specs.Allowed.{allowsOf, isBad}
 use Rattle.selection.specs.declared.SearchResult.{SearchResult}
 use Rattle.selection.specs.declared.SearchResult.the-variants.{NoWitness, LeastAt}
 use Rattle.selection.proofs.BiasedPoints.{verdict-checked, not-allowed}

@@ -1,11 +1,5 @@
 -- Document 01's points over the integers, and those over natural numbers, are the same: P is W - 2^63.
-use mathlib.Core.Path.{_≡_, refl, sym, subst, ap, _∙_}
-use mathlib.Core.Logic.{_⊎_, inl, inr, ⊎-elim}
-use Prim.Native.Nat.{ℕ, _+_, _*_, _-_, _%_, _^_, _≤_}
-use native.Mathlib.Omega.{arith}
-use lib.Dec.{ltb, ltb→lt, nltb→le}
-use lib.IntN.{ℤ, pos, _-ℤ_, _*ℤ_}
-use borrow.Author.Tests.{le-ltb}
+use Rattle.laws.proofs.Basics.{_≡_, refl, sym, subst, ap, _∙_, _⊎_, inl, inr, ⊎-elim, ℕ, _+_, _*_, _-_, _%_, _^_, _≤_, arith, ltb, ltb→lt, nltb→le, ℤ, pos, _-ℤ_, _*ℤ_, le-ltb}
 use Rattle.laws.proofs.Tests.{by-cond}
 use Rattle.laws.proofs.Diff.{diff, diffs, diff-sub, diff-eq}
 use Rattle.laws.proofs.Division.{le-or-lt}

@@ -1,6 +1,5 @@
 -- The points of a cell that break a digit, over natural numbers: W is P + 2^63, b is the digit plus 2.
-use mathlib.Core.Logic.{_⊎_}
-use Prim.Native.Nat.{ℕ, _+_, _*_, _^_, _≤_, _<_}
+use Rattle.laws.proofs.Basics.{_⊎_, ℕ, _+_, _*_, _^_, _≤_, _<_}
 use Rattle.selection.specs.Cell.{span}
 use Rattle.selection.specs.declared.SearchResult.{SearchResult}
 use Rattle.selection.specs.declared.SearchResult.the-variants.{NoWitness, LeastAt}

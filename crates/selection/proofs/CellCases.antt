@@ -1,17 +1,11 @@
 -- Bench cases 1 to 7: the cells. antt computes the five digits of a cell and the limits of a row.
-use mathlib.Core.Path.{_≡_, refl, sym, subst, ap}
-use mathlib.Core.Bool.{Bool, true, false, cond}
-use mathlib.Core.List.{List, [], _∷_}
-use mathlib.Core.Logic.{_↔_, inl, inr, ⊎-elim}
-use Prim.Native.Nat.{ℕ, _+_, _*_, _^_}
-use native.Mathlib.Omega.{arith}
-use lib.IntN.{ℤ, pos, negsuc}
-use lib.Dec.{T, leb, eqb, leb→le, eqb→eq, eqb-refl, lit≤}
+use Rattle.laws.proofs.Basics.{_≡_, refl, sym, subst, ap, Bool, true, false, cond, List, [], _∷_, _↔_, inl, inr, ⊎-elim, ℕ, _+_, _*_, _^_, arith, ℤ, pos, negsuc, T, leb, eqb, leb→le, eqb→eq, eqb-refl, lit≤}
 use Rattle.laws.proofs.Tests.{upto, upto-at, alike, alike-eq}
 use Rattle.selection.specs.Refusals.{firstFrom}
 use Rattle.selection.specs.Cell.{Allows, OneOf, AllowedDigits, LeastWitness, IsCell, digit}
 use Rattle.selection.specs.Maker.{Limits}
-use Rattle.selection.specs.Computed.{allowsOf, limitsOf, madeOf}
+use Rattle.selection.specs.Allowed.{allowsOf}
+use Rattle.selection.specs.Computed.{limitsOf, madeOf}
 use Rattle.selection.proofs.BiasedPoints.{cell-checked}
 use Rattle.selection.proofs.Allowed.{allows-decides}
 use Rattle.selection.proofs.Making.{limits-right}

@@ -1,13 +1,7 @@
 -- The row of a divisor; the column of a sum word and a carry word, and what their truncated estimate leaves out.
-use mathlib.Core.Path.{_≡_, sym, ap, ap₂, _∙_}
-use mathlib.Core.Logic.{_↔_}
-use Prim.Native.Nat.{ℕ, _+_, _*_, _-_, _/_, _%_, _^_, _≤_, _<_, min}
+use Rattle.laws.proofs.Basics.{_≡_, sym, ap, ap₂, _∙_, _↔_, ℕ, _+_, _*_, _-_, _/_, _%_, _^_, _≤_, _<_, min, arith, ltb, ltb→lt, nltb→le, ℤ, pos, negℤ, _+ℤ_, _-ℤ_, _*ℤ_, _≤ℤ_}
 use native.Mathlib.Nat.{mul-add-mod-self-right, lt-of-not-le}
 use native.Mathlib.Decide.{decLt}
-use native.Mathlib.Omega.{arith}
-use lib.Dec.{ltb, ltb→lt, nltb→le}
-use lib.IntN.{ℤ, pos, negℤ, _+ℤ_, _-ℤ_, _*ℤ_}
-use lib.Signed.{_≤ℤ_}
 use Rattle.laws.proofs.Tests.{by-cond}
 use Rattle.laws.proofs.Diff.{diff, diffs, by-diff, diff-sub, diff-eq}
 use Rattle.laws.proofs.Words.{same-mod}

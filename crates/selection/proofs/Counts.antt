@@ -1,13 +1,6 @@
 -- The first number that passes a test and how many pass: the turns of the code's loops, and what both say of a property that the test decides.
-use mathlib.Core.Path.{_≡_, refl, sym, subst}
-use mathlib.Core.Bool.{Bool, true, false, cond}
-use mathlib.Core.Logic.{_⊎_, inl, inr, ⊎-elim}
-use Prim.Native.Nat.{ℕ, zero, suc, _+_, _-_, _≤_, _<_}
+use Rattle.laws.proofs.Basics.{_≡_, refl, sym, subst, Bool, true, false, cond, _⊎_, inl, inr, ⊎-elim, ℕ, zero, suc, _+_, _-_, _≤_, _<_, add-one, arith, T, ltb, ltb-true, ltb-false}
 use native.Mathlib.Nat.{zero-add, eq-or-lt-of-le, not-le-of-lt}
-use native.Mathlib.Numerals.{add-one}
-use native.Mathlib.Omega.{arith}
-use lib.Dec.{T, ltb}
-use borrow.Author.Tests.{ltb-true, ltb-false}
 use Rattle.laws.proofs.Tests.{by-cond}
 use Rattle.selection.specs.Refusals.{First, firstFrom}
 use Rattle.selection.specs.Table.{Tally}

@@ -1,12 +1,6 @@
 -- The kept table holds the made digits: one test that antt computes over all cells, and one law that carries it to each entry.
-use mathlib.Core.Path.{_≡_, sym, subst}
-use mathlib.Core.Bool.{Bool}
-use mathlib.Core.List.{List}
-use Prim.Native.Nat.{ℕ, _/_, _%_}
+use Rattle.laws.proofs.Basics.{_≡_, sym, subst, Bool, List, ℕ, _/_, _%_, arith, T, eqb, eqb→eq, length, getD}
 use native.Mathlib.Nat.{not-le-of-lt}
-use native.Mathlib.Omega.{arith}
-use lib.Dec.{T, eqb, eqb→eq}
-use lib.ListN.{length, getD}
 use Rattle.selection.specs.Maker.{Made, MadeTable}
 use Rattle.selection.specs.Computed.{madeOf}
 use Rattle.selection.specs.Table.{Passes}

@@ -1,13 +1,6 @@
 -- The computed made table, and the buffer that the maker fills.
-use mathlib.Core.Path.{_≡_, refl, sym, ap, subst, _∙_}
-use mathlib.Core.List.{List, [], _∷_, _++_}
-use mathlib.Core.Logic.{inl}
-use Prim.Native.Nat.{ℕ, zero, suc, _+_, _/_, _%_, _≤_, _<_}
-use native.Mathlib.Nat.{add-zero, add-suc, suc-add, zero-add, not-suc-le-zero, le-of-suc-le-suc}
-use native.Mathlib.Numerals.{add-one}
-use native.Mathlib.Omega.{arith}
-use lib.ListN.{length, getD, drop, set}
-use borrow.Author.Tests.{lt-ltb, le-ltb}
+use Rattle.laws.proofs.Basics.{_≡_, refl, sym, ap, subst, _∙_, List, _++_, inl, ℕ, _+_, _/_, _%_, _≤_, _<_, arith, length, drop, lt-ltb, le-ltb}
+use native.Mathlib.Nat.{zero-add}
 use Rattle.laws.proofs.Lists.{list-length, list-at}
 use Rattle.selection.specs.Maker.{Made, MadeTable, Limits, limitsRungs, limitsZeros, makeRungs, Limited, Makes}
 use Rattle.selection.specs.Answer.{refusal, answerBy}

@@ -1,18 +1,11 @@
 -- The made digits and their limits, at all cells by one test that antt computes.
-use mathlib.Core.Path.{_≡_, refl, sym, subst}
-use mathlib.Core.Bool.{Bool, true, false, cond}
-use mathlib.Core.List.{List}
-use mathlib.Core.Logic.{_⊎_, inl, inr}
-use Prim.Native.Nat.{ℕ, _+_, _≤_, _<_}
-use native.Mathlib.Omega.{arith}
-use lib.Dec.{T, ltb, leb, eqb, eqb→eq, ltb→lt, leb→le}
-use lib.ListN.{length, getD}
-use borrow.Author.Tests.{eqb-true}
+use Rattle.laws.proofs.Basics.{_≡_, refl, sym, subst, Bool, true, false, cond, List, _⊎_, inl, inr, ℕ, _+_, _≤_, _<_, arith, T, ltb, leb, eqb, eqb→eq, ltb→lt, leb→le, length, getD, eqb-true}
 use Rattle.laws.proofs.Tests.{both, both-left, both-right, upto, upto-at, is-true}
 use Rattle.selection.specs.Refusals.{firstFrom}
 use Rattle.selection.specs.Cell.{Allows, IsCell, digit}
 use Rattle.selection.specs.Maker.{Made, Limits, distance, stepAt}
-use Rattle.selection.specs.Computed.{allowsOf, madeOf, limitsOf}
+use Rattle.selection.specs.Allowed.{allowsOf}
+use Rattle.selection.specs.Computed.{madeOf, limitsOf}
 use Rattle.selection.proofs.Allowed.{allows-decides}
 
 -- ---- the made digit

@@ -1,13 +1,9 @@
 -- What a call makes of its arguments' refusal and the table's.
-use mathlib.Core.Path.{_≡_, refl, sym, ap, _∙_}
-use mathlib.Core.List.{List, _++_}
-use Prim.Native.Nat.{ℕ}
-use native.Mathlib.Omega.{arith}
-use lib.Dec.{T}
+use Rattle.laws.proofs.Basics.{_≡_, refl, sym, ap, _∙_, List, _++_, ℕ, arith, T}
 use Rattle.selection.specs.Answer.{firstOf, answerBy}
-use Rattle.selection.specs.Computed.{madeTable, tableRungs}
+use Rattle.selection.specs.Table.{tableRungs, Passes}
+use Rattle.selection.specs.Computed.{madeTable}
 use Rattle.selection.specs.Refusals.{Rung, ladder}
-use Rattle.selection.specs.Table.{Passes}
 use Rattle.selection.specs.declared.Refusal.{Refusal}
 use Rattle.selection.specs.declared.Admission.{Admission}
 use Rattle.selection.specs.declared.Admission.the-variants.{Admitted, Refused}

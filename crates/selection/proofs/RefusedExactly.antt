@@ -1,11 +1,5 @@
 -- Refused exactly when a point leaves the range: demand 3's words on the check.
-use mathlib.Core.Path.{_≡_, refl, sym, subst, ap, _∙_}
-use mathlib.Core.Logic.{_↔_}
-use mathlib.Core.List.{List}
-use Prim.Native.Nat.{ℕ, zero, suc, _+_, _*_, _/_, _%_, _<_}
-use native.Mathlib.Omega.{arith}
-use lib.IntN.{ℤ, pos, _-ℤ_, _*ℤ_}
-use lib.ListN.{getD}
+use Rattle.laws.proofs.Basics.{_≡_, refl, sym, subst, ap, _∙_, _↔_, List, ℕ, zero, suc, _+_, _*_, _/_, _%_, _<_, arith, ℤ, pos, _-ℤ_, _*ℤ_, getD}
 use Rattle.laws.proofs.Diff.{diffs, by-diff}
 use Rattle.selection.specs.Word.{Within}
 use Rattle.selection.specs.Cell.{Against, LeastWitness, digit}

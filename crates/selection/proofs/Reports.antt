@@ -1,19 +1,13 @@
 -- The computed report is the check's answer in document 01's words, and a table is admitted exactly if it passes.
-use mathlib.Core.Path.{_≡_, refl, sym, subst, ap, _∙_}
-use mathlib.Core.Bool.{Bool, true, false, not}
-use mathlib.Core.List.{List, [], _∷_}
-use mathlib.Core.Logic.{_⊎_, inl, inr, ⊎-elim}
-use Prim.Native.Nat.{ℕ, _+_, _*_, _/_, _%_, _≤_, _<_}
+use Rattle.laws.proofs.Basics.{_≡_, refl, sym, subst, ap, _∙_, List, [], _∷_, _⊎_, inl, inr, ⊎-elim, ℕ, _+_, _*_, _/_, _%_, _≤_, _<_, arith, ltb, ltb→lt, nltb→le, length, getD}
 use native.Mathlib.Nat.{not-le-of-lt}
-use native.Mathlib.Omega.{arith}
-use lib.Dec.{T, ltb, eqb, ltb→lt, nltb→le, eqb→eq}
-use lib.ListN.{length, getD}
-use Rattle.laws.proofs.Tests.{by-cond, is-true}
-use Rattle.selection.specs.Refusals.{First, firstFrom, numberFirst, ladder, rank}
+use Rattle.laws.proofs.Tests.{by-cond}
+use Rattle.selection.specs.Refusals.{First, Wrongs, firstFrom, numberFirst, ladder, rank}
 use Rattle.selection.specs.Cell.{Allows, CellChecked, digit}
-use Rattle.selection.specs.Table.{Table, BadAt, Passes, formRungs, Checked, ReportMeaning}
-use Rattle.selection.specs.Computed.{cellOf, countBelow, aboveFour, isBad, badReport, passedReport, reportOf, tableRungs}
-use Rattle.selection.specs.Answer.{refusal, admission, admissionOf, firstOf}
+use Rattle.selection.specs.Table.{Table, BadAt, Passes, formRungs, Checked, ReportMeaning, tableRungs}
+use Rattle.selection.specs.Allowed.{aboveFour, isBad}
+use Rattle.selection.specs.Computed.{cellOf, countBelow, badReport, passedReport, refusedReport, tableReport, reportOf}
+use Rattle.selection.specs.Answer.{admission, admissionOf, firstOf, answerBy}
 use Rattle.selection.specs.declared.Admission.{Admission}
 use Rattle.selection.specs.declared.Admission.the-variants as A
 use Rattle.selection.specs.declared.CellVerdict.{CellVerdict}
@@ -26,7 +20,7 @@ use Rattle.selection.proofs.BiasedPoints.{not-allowed, known-not-refuse
 use Rattle.selection.proofs.Counts.{less-decides, count-tally, first-below}
 use Rattle.selection.proofs.Allowed.{bad-decides}
 use Rattle.selection.proofs.Tables.{table-of, no-table, cell-at, cell-row, cell-column, first-bad-of}
-use Rattle.selection.proofs.Ladders.{Ladder, ladder-meets, first-is, admits, ladder-append, equal}
+use Rattle.selection.proofs.Ladders.{Ladder, Meets, ladder-meets, first-is, admits, ladder-append, equal}
 
 module _ (t : List ℕ) where
   above-first : let f = firstFrom (aboveFour t) 0 2048 in ((f ≡ 2048) × ((k : ℕ) → k < 2048 → 4 < getD t k 0 → ⊥)) ⊎ ((f < 2048) × First (λ k. 4 < getD t k 0) f)
@@ -59,20 +53,20 @@ pub form-ladder : (t : List ℕ) → Ladder (formRungs t)
 unfolding rank
 form-ladder t = record { sound = (tt, λ _. ((λ k h. less-decides 4 (getD t k 0)), λ _. tt)); in-order = tt }
 
-is-false : (x : Bool) → T (not x) → x ≡ false
-is-false true t = absurd t
-is-false false t = refl
+-- what no rung of the form refuses is a table
+form-table : (t : List ℕ) → ((n p : ℕ) → Wrongs (formRungs t) n p → ⊥) → Table t
+form-table t a = table-of t (equal (length t) 2048 (λ n. a 8 0 (inl (refl, (refl, n))))) (⊎-elim (λ l. l .1) (λ r. absurd (a 9 _ (inr (inl (refl, r))))) (above-first t))
 
 -- the computed report is the check's answer
 pub report-checked : (t : List ℕ) → Checked t (reportOf t)
 unfolding reportOf
-report-checked t =
-    by-cond (Checked t) (eqb (length t) 2048) _ _
-    (λ e. by-cond (Checked t) (ltb (firstFrom (aboveFour t) 0 2048) 2048) _ _
-    (λ l. record { means = (ladder-meets (form-ladder t) (A.Refused (refusal 9 (firstFrom (aboveFour t) 0 2048))) (rw (is-true (eqb (length t) 2048) e, is-true (ltb (firstFrom (aboveFour t) 0 2048) 2048) l) refl), refl) })
-    (λ l. let a = is-table t (eqb→eq _ _ e) (nltb→le _ _ l) in
-    by-cond (Checked t) (ltb (firstFrom (isBad t) 0 2048) 2048) _ _ (λ h. bad t a (ltb→lt _ _ h)) (λ h. passed t a (nltb→le _ _ h))))
-    (λ e. record { means = (ladder-meets (form-ladder t) (A.Refused (refusal 8 0)) (rw (is-false (eqb (length t) 2048) e) refl), refl) })
+report-checked t = go (ladder (formRungs t)) (ladder-meets (form-ladder t) _ refl)
+  where
+    go : (v : Admission) → Meets (Wrongs (formRungs t)) v → Checked t (answerBy refusedReport (tableReport t) v)
+    go (A.Refused f) m = record { means = (m, refl) }
+    go A.Admitted m =
+        let a = form-table t m in
+        by-cond (Checked t) (ltb (firstFrom (isBad t) 0 2048) 2048) _ _ (λ h. bad t a (ltb→lt _ _ h)) (λ h. passed t a (nltb→le _ _ h))
 
 -- what the code of `check_table` asks
 pub report-is : {t : List ℕ} {a : Report} → a ≡ reportOf t → (a ≡ reportOf t) × Checked t a
@@ -103,14 +97,9 @@ admitted-passes {t} e = go (reportOf t .outcome) (report-checked t .means) e
 pub table-ladder : (t : List ℕ) → Ladder (tableRungs t)
 unfolding tableRungs rank
 table-ladder t = record {
-  sound = (tt, λ a. ((λ k h. less-decides 4 (getD t k 0)), λ b. (bad-decides (form-table a b), λ _. tt)));
+  sound = (tt, λ a. ((λ k h. less-decides 4 (getD t k 0)), λ b. (bad-decides (form-table t (λ n p. ⊎-elim (λ x. a p (x .1)) (⊎-elim (λ x. b p (x .1)) (λ z. z)))), λ _. tt)));
   in-order = tt;
 }
-  where
-    form-table : ((p : ℕ) → (p ≡ 0) × (length t ≡ 2048 → ⊥) → ⊥) → ((p : ℕ) → (p < 2048) × First (λ k. 4 < getD t k 0) p → ⊥) → Table t
-    form-table a b =
-        let e = equal (length t) 2048 (λ n. a 0 (refl, n)) in
-        table-of t e (⊎-elim (λ l. l .1) (λ r. absurd (b _ r)) (above-first t))
 
 pub admission-ladder : (t : List ℕ) → admission (reportOf t) ≡ ladder (tableRungs t)
 unfolding tableRungs

@@ -1,11 +1,5 @@
 -- The search finds the least point of a cell that breaks a digit.
-use mathlib.Core.Path.{_≡_, refl}
-use mathlib.Core.Bool.{Bool, true, false, cond}
-use mathlib.Core.Logic.{inl, inr, ⊎-elim}
-use Prim.Native.Nat.{ℕ, _≤_}
-use native.Mathlib.Omega.{arith}
-use lib.Dec.{ltb}
-use borrow.Author.Tests.{ltb-true, ltb-false}
+use Rattle.laws.proofs.Basics.{_≡_, refl, Bool, true, false, cond, inl, inr, ⊎-elim, ℕ, _≤_, arith, ltb, ltb-true, ltb-false}
 use Rattle.selection.specs.Search.{tooLow, tooHigh, lesserOf, searchOf}
 use Rattle.selection.specs.declared.SearchResult.{SearchResult}
 use Rattle.selection.specs.declared.SearchResult.the-variants.{NoWitness, LeastAt}

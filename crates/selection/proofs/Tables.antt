@@ -1,13 +1,7 @@
 -- Tables, and a table's index as a row and a column.
-use mathlib.Core.Path.{_≡_, subst}
-use mathlib.Core.List.{List}
-use mathlib.Core.Logic.{⊎-elim}
-use Prim.Native.Nat.{ℕ, _+_, _*_, _/_, _%_, _≤_, _<_}
+use Rattle.laws.proofs.Basics.{_≡_, subst, List, ⊎-elim, ℕ, _+_, _*_, _/_, _%_, _≤_, _<_, arith, ℤ, length, getD, List·getD-eq-default}
 use native.Mathlib.Nat.{lt-of-not-le, le-of-suc-le-suc, not-le-of-lt}
 use native.Mathlib.Decide.{decLt}
-use native.Mathlib.Omega.{arith}
-use lib.IntN.{ℤ}
-use lib.ListN.{length, getD, List·getD-eq-default}
 use Rattle.selection.specs.Refusals.{First}
 use Rattle.selection.specs.Cell.{LeastWitness, IsCell, digit}
 use Rattle.selection.specs.Table.{Table, BadAt, FirstBad, NoTable}

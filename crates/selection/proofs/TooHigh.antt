@@ -1,11 +1,6 @@
 -- The search from above finds the least point of a cell that is too high for a digit.
-use mathlib.Core.Path.{_≡_, refl}
-use mathlib.Core.Bool.{Bool, true, false, cond}
-use Prim.Native.Nat.{ℕ, _+_, _*_, _-_, _/_, _^_, _≤_, _<_, max}
+use Rattle.laws.proofs.Basics.{_≡_, refl, Bool, true, false, cond, ℕ, _+_, _*_, _-_, _/_, _^_, _≤_, _<_, max, arith, ltb, leb, ltb-true, ltb-false, leb-true, leb-false}
 use native.Mathlib.Nat.{not-le-of-lt}
-use native.Mathlib.Omega.{arith}
-use lib.Dec.{ltb, leb}
-use borrow.Author.Tests.{ltb-true, ltb-false, leb-true, leb-false}
 use Rattle.laws.proofs.Tests.{up-to-four}
 use Rattle.selection.specs.Cell.{span}
 use Rattle.selection.specs.Search.{leastDivisor, reach, tooHighAt}

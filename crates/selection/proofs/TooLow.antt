@@ -1,10 +1,5 @@
 -- The search from below finds the least point of a cell that is too low for a digit.
-use mathlib.Core.Path.{_≡_, refl}
-use mathlib.Core.Bool.{Bool, true, false, cond}
-use Prim.Native.Nat.{ℕ, _+_, _*_, _-_, _^_, _≤_, _<_, max}
-use native.Mathlib.Omega.{arith}
-use lib.Dec.{ltb}
-use borrow.Author.Tests.{ltb-true, ltb-false}
+use Rattle.laws.proofs.Basics.{_≡_, refl, Bool, true, false, cond, ℕ, _+_, _*_, _-_, _^_, _≤_, _<_, max, arith, ltb, ltb-true, ltb-false}
 use Rattle.laws.proofs.Tests.{up-to-four}
 use Rattle.selection.specs.Cell.{span}
 use Rattle.selection.specs.Search.{leastDivisor, reach, tooLowAt}

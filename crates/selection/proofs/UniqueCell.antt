@@ -1,10 +1,6 @@
 -- The single-cell call has one answer: the reported witness is one, and so is the refusal.
-use mathlib.Core.Path.{_≡_, refl, sym, subst, ap, ap₂, _∙_}
-use Prim.Native.Nat.{ℕ, _^_, _≤_}
-use native.Mathlib.Omega.{arith}
+use Rattle.laws.proofs.Basics.{_≡_, refl, sym, subst, ap, ap₂, _∙_, ℕ, _^_, _≤_, arith, ℤ, _≤ℤ_}
 use native.Mathlib.Nat.{le-antisymm}
-use lib.IntN.{ℤ}
-use lib.Signed.{_≤ℤ_}
 use Rattle.laws.proofs.Diff.{diff, diffs, diff-eq}
 use Rattle.selection.specs.Cell.{LeastWitness, CellChecked}
 use Rattle.selection.specs.declared.Witness.{Witness}

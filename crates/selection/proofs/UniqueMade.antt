@@ -1,16 +1,8 @@
 -- The made byte of a cell, the made table, the limits of a row and what the maker leaves are each one.
-use mathlib.Core.Path.{_≡_, refl, sym, ap, ap₂, _∙_}
-use mathlib.Core.Bool.{true, false, not}
-use mathlib.Core.List.{List, [], _∷_, _++_}
-use mathlib.Core.Logic.{⊎-elim}
-use Prim.Native.Nat.{ℕ, zero, suc, _+_, _≤_, _<_}
-use native.Mathlib.Omega.{arith}
+use Rattle.laws.proofs.Basics.{_≡_, refl, sym, ap, ap₂, _∙_, true, false, not, List, [], _∷_, _++_, ⊎-elim, ℕ, zero, suc, _+_, _≤_, _<_, arith, T-not, eqb, eqb-refl, ltb, length, getD, drop, lt-ltb, le-ltb}
 use native.Mathlib.Nat.{le-antisymm, lt-of-not-le, le-of-lt, le-of-suc-le-suc, eq-or-lt-of-le}
 use native.Mathlib.Decide.{decLe}
-use lib.Dec.{T-not, eqb, eqb-refl, ltb}
-use lib.ListN.{length, getD, drop}
 use lib.Seq.{ext-getD}
-use borrow.Author.Tests.{lt-ltb, le-ltb}
 use Rattle.laws.proofs.Tests.{upto-at, up-to-four}
 use Rattle.selection.specs.Maker.{Made, MadeTable, stepAt, Limits, limitsRungs, makeRungs, Limited, Makes}
 use Rattle.selection.specs.Refusals.{Wrongs, ladder, rank}

@@ -1,9 +1,5 @@
 -- The check has one answer to each table: one count, one first bad cell, one witness.
-use mathlib.Core.Path.{_≡_, refl, sym, subst, ap, ap₂, _∙_}
-use mathlib.Core.List.{List}
-use Prim.Native.Nat.{ℕ, suc, _+_, _*_, _/_, _%_}
-use native.Mathlib.Omega.{arith}
-use lib.ListN.{getD}
+use Rattle.laws.proofs.Basics.{_≡_, refl, sym, subst, ap, ap₂, _∙_, List, ℕ, suc, _+_, _*_, _/_, _%_, arith, getD}
 use Rattle.selection.specs.Cell.{LeastWitness, Allows, digit}
 use Rattle.selection.specs.Table.{Tally, BadAt, FirstBad, Checked, ReportMeaning}
 use Rattle.selection.specs.Table.Tally.{none, one, other}

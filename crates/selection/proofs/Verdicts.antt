@@ -1,7 +1,5 @@
 -- What the answers to a table and to a cell tell a caller, by their cases.
-use mathlib.Core.Path.{_≡_, refl, sym, subst}
-use mathlib.Core.List.{List}
-use Prim.Native.Nat.{ℕ, _≤_}
+use Rattle.laws.proofs.Basics.{_≡_, refl, sym, subst, List, ℕ, _≤_}
 use Rattle.selection.specs.Answer.{refusal, answerBy, cellNumbers, cellZeros}
 use Rattle.selection.specs.Refusals.{Wrongs, ladder, Refuses}
 use Rattle.selection.specs.Cell.{cellRungs, CellChecked, CellMeaning}

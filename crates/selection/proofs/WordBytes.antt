@@ -1,9 +1,5 @@
 -- Words are written out byte by byte, eight stores a turn: the turns of `bytes_of`'s loop.
-use mathlib.Core.Path.{_≡_, sym, ap, _∙_}
-use mathlib.Core.List.{List, [], _∷_}
-use Prim.Native.Nat.{ℕ, zero, suc, _+_, _*_, _/_, _%_, _^_, _≤_, _<_}
-use native.Mathlib.Omega.{arith}
-use lib.ListN.{length, getD, set}
+use Rattle.laws.proofs.Basics.{_≡_, sym, ap, _∙_, List, [], _∷_, ℕ, suc, _+_, _*_, _/_, _%_, _^_, _≤_, _<_, arith, length, getD, set}
 use Rattle.laws.specs.Lists.{listFrom, filled}
 use Rattle.laws.proofs.Lists.{list-at, fill-more, fill-all}
 use Rattle.selection.specs.WordBytes.{byteOf, wordsBytes}

@@ -1,17 +1,18 @@
 -- The answers, computed: `cellOf`, `rowLimitsOf`, `madeTable`, `makeOf`, `reportOf`. A reader need not believe them: `cell-checked`, `allows-decides`, `limits-right`,
 -- `made-table-is`, `report-checked` and the contracts of `row_limits` and `make_table` show that each is the answer in document 01's words, and `cell-checked-one`,
 -- `limited-one`, `made-one`, `makes-one`, `checked-one` that there is no other.
-use mathlib.Core.Bool.{Bool, true, false, cond, not}
+use mathlib.Core.Bool.{Bool, cond}
 use mathlib.Core.List.{List, [], _∷_, _++_}
-use Prim.Native.Nat.{ℕ, zero, suc, _+_, _*_, _-_, _/_, _%_}
-use lib.Dec.{ltb, leb, eqb}
+use Prim.Native.Nat.{ℕ, zero, suc, _+_, _-_, _/_, _%_}
+use lib.Dec.{ltb, eqb}
 use lib.ListN.{length, getD, drop}
 use Rattle.laws.specs.Lists.{listFrom}
 use Rattle.selection.specs.Answer.{refusal, answerBy}
 use Rattle.selection.specs.Cell.{cellRungs}
-use Rattle.selection.specs.Table.{BadAt, formRungs}
+use Rattle.selection.specs.Allowed.{allowsOf, isBad}
+use Rattle.selection.specs.Table.{formRungs}
 use Rattle.selection.specs.Maker.{limitsRungs, limitsZeros, makeRungs}
-use Rattle.selection.specs.Refusals.{firstFrom, Rung, numberFirst, ladder}
+use Rattle.selection.specs.Refusals.{firstFrom, ladder}
 use Rattle.selection.specs.Search.{searchOf, cellVerdictOf}
 use Rattle.selection.specs.declared.Refusal.{Refusal}
 use Rattle.selection.specs.declared.CellVerdict.{CellVerdict}
@@ -22,23 +23,6 @@ use Rattle.selection.specs.declared.maker.RowLimits.{RowLimits}
 
 abbrev pub cellOf : ℕ → ℕ → ℕ → CellVerdict
 cellOf r c b = answerBy Refused (cellVerdictOf (searchOf r c b)) (ladder (cellRungs r c b))
-
--- Whether a digit is allowed, in small numbers: in units of 2^56 the divisors of the row r lie from u = 16 + r to w = 17 + r, and 3P of the
--- column c from v - 384 to v - 372, where v = 6c. No point breaks the digit q from below if v - 384 is at least (3q - 2)D for each D; none from
--- above if v - 372 is at most (3q + 2)D. So v has a least and a greatest value for each byte (0: no least; 768: no greatest)
-abbrev pub leastOf : ℕ → ℕ → ℕ → ℕ
-leastOf u w b = getD (0 ∷ (384 - 5 * u) ∷ (384 - 2 * u) ∷ (384 + w) ∷ (384 + 4 * w) ∷ []) b 0
-
-abbrev pub greatestOf : ℕ → ℕ → ℕ → ℕ
-greatestOf u w b = getD ((372 - 4 * w) ∷ (372 - w) ∷ (372 + 2 * u) ∷ (372 + 5 * u) ∷ 768 ∷ []) b 0
-
--- the first two tests find the cells that have no point
-unfoldable pub allowsOf : ℕ → ℕ → ℕ → Bool
-allowsOf r c b =
-    let v = 6 * c in
-    let u = 16 + r in
-    let w = 17 + r in
-    cond (leb v (372 - 8 * w)) true (cond (leb (384 + 8 * w) v) true (cond (ltb v (leastOf u w b)) false (leb v (greatestOf u w b))))
 
 -- the first allowed of 0, -1, 1, -2 and 2, as a byte
 unfoldable pub madeOf : ℕ → ℕ → ℕ
@@ -83,12 +67,6 @@ unfoldable pub countBelow : (ℕ → Bool) → ℕ → ℕ
 countBelow f zero = 0
 countBelow f (suc m) = cond (f m) (countBelow f m + 1) (countBelow f m)
 
-abbrev pub aboveFour : List ℕ → ℕ → Bool
-aboveFour t k = ltb 4 (getD t k 0)
-
-abbrev pub isBad : List ℕ → ℕ → Bool
-isBad t k = not (allowsOf (k / 128) (k % 128) (getD t k 0))
-
 abbrev pub passedReport : Report
 passedReport = record { count = 0; outcome = O.Passed }
 
@@ -98,19 +76,15 @@ badReport n k Allowed = passedReport
 badReport n k (Disallowed w) = record { count = n; outcome = O.Bad (record { row = k / 128; column = k % 128; witness = w }) }
 badReport n k (Refused f) = record { count = 0; outcome = O.Refused f }
 
-abbrev pub refusedReport : ℕ → ℕ → Report
-refusedReport n p = record { count = 0; outcome = O.Refused (record { number = n; place = p }) }
+abbrev pub refusedReport : Refusal → Report
+refusedReport f = record { count = 0; outcome = O.Refused f }
+
+-- the report of 2,048 bytes from 0 to 4
+abbrev pub tableReport : List ℕ → Report
+tableReport t =
+    let bad = firstFrom (isBad t) 0 2048 in
+    cond (ltb bad 2048) (badReport (countBelow (isBad t) 2048) bad (cellOf (bad / 128) (bad % 128) (getD t bad 0))) passedReport
 
 -- the check's answer
 unfoldable pub reportOf : List ℕ → Report
-reportOf t =
-    let above = firstFrom (aboveFour t) 0 2048 in
-    let bad = firstFrom (isBad t) 0 2048 in
-    let verdict = cellOf (bad / 128) (bad % 128) (getD t bad 0) in
-    cond (eqb (length t) 2048)
-    (cond (ltb above 2048) (refusedReport 9 above) (cond (ltb bad 2048) (badReport (countBelow (isBad t) 2048) bad verdict) passedReport))
-    (refusedReport 8 0)
-
--- what each call refuses that is lent a table, after its arguments: then 10, a bad cell; the place is the first
-unfoldable pub tableRungs : List ℕ → List Rung
-tableRungs t = formRungs t ++ (numberFirst 10 (BadAt t) (isBad t) 2048 ∷ [])
+reportOf t = answerBy refusedReport (tableReport t) (ladder (formRungs t))

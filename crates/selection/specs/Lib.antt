@@ -1,5 +1,6 @@
 pub mod Word
 pub mod Cell
+pub mod Allowed
 pub mod Table
 pub mod Maker
 pub mod Answer

@@ -1,11 +1,11 @@
 -- Tables and their check: document 01, "Cells" and "Check". A table is the list of its bytes.
 use mathlib.Core.Path.{_≡_}
-use mathlib.Core.List.{List, [], _∷_}
+use mathlib.Core.List.{List, [], _∷_, _++_}
 use Prim.Native.Nat.{ℕ, suc, _+_, _*_, _/_, _%_, _≤_, _<_}
-use lib.Dec.{ltb}
 use lib.IntN.{ℤ}
 use lib.ListN.{length, getD, take, drop}
 use Rattle.selection.specs.Refusals.{First, Rung, differ, number, numberFirst, Wrongs, FirstRefusal}
+use Rattle.selection.specs.Allowed.{aboveFour, isBad}
 use Rattle.selection.specs.Cell.{Allows, Against, LeastWitness, digit}
 use Rattle.selection.specs.declared.table.Outcome.{Outcome}
 use Rattle.selection.specs.declared.table.Outcome.the-variants.{Passed, Bad, Refused}
@@ -39,7 +39,11 @@ pub data Tally (P : ℕ → Type 0) : ℕ → ℕ → Type 0 where
 
 -- refused as no table: 8, length not 2,048; 9, a byte above 4, the place is the first such index
 abbrev pub formRungs : List ℕ → List Rung
-formRungs t = number 8 (differ (length t) 2048) ∷ numberFirst 9 (λ k. 4 < getD t k 0) (λ k. ltb 4 (getD t k 0)) 2048 ∷ []
+formRungs t = number 8 (differ (length t) 2048) ∷ numberFirst 9 (λ k. 4 < getD t k 0) (aboveFour t) 2048 ∷ []
+
+-- what each call refuses that is lent a table, after its arguments: then 10, a bad cell; the place is the first
+unfoldable pub tableRungs : List ℕ → List Rung
+tableRungs t = formRungs t ++ (numberFirst 10 (BadAt t) (isBad t) 2048 ∷ [])
 
 abbrev pub NoTable : List ℕ → ℕ → ℕ → Type 0
 NoTable t n p = FirstRefusal (Wrongs (formRungs t)) n p

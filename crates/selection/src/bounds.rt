@@ -1,7 +1,12 @@
 // Whether a cell allows a digit, in small numbers: no witness is looked for. The check's count and the maker use it.
 ghost use mathlib.Core.Path.{_≡_};
 ghost use Prim.Native.Nat.{_≤_};
-ghost use Rattle.selection.specs.Computed.{allowsOf, leastOf, greatestOf};
+ghost use Rattle.selection.specs.Allowed.{allowsOf, leastOf, greatestOf};
+
+// In units of 2^56 three times the remainders of a column lie from v - LOW_EDGE to v - HIGH_EDGE, for six times its number, v.
+const LOW_EDGE: u64 = 384;
+
+const HIGH_EDGE: u64 = 372;
 
 // The least v at which no point is too low for a digit, and the greatest at which none is too high.
 struct Bounds {
@@ -16,29 +21,29 @@ fn bounds_of(u: u64, w: u64, byte: u8) -> Bounds
     match byte {
         0 => Bounds {
             least: 0,
-            greatest: 372 - 4 * w,
+            greatest: HIGH_EDGE - 4 * w,
         },
         1 => Bounds {
-            least: 384 - 5 * u,
-            greatest: 372 - w,
+            least: LOW_EDGE - 5 * u,
+            greatest: HIGH_EDGE - w,
         },
         2 => Bounds {
-            least: 384 - 2 * u,
-            greatest: 372 + 2 * u,
+            least: LOW_EDGE - 2 * u,
+            greatest: HIGH_EDGE + 2 * u,
         },
         3 => Bounds {
-            least: 384 + w,
-            greatest: 372 + 5 * u,
+            least: LOW_EDGE + w,
+            greatest: HIGH_EDGE + 5 * u,
         },
         _ => Bounds {
-            least: 384 + 4 * w,
+            least: LOW_EDGE + 4 * w,
             greatest: 768,
         },
     }
 }
 
-// Only this crate calls it, for a cell and a byte that are in range. In units of 2^56 the row's divisors lie from u to w, and 3P of the
-// column from v - 384 to v - 372; the first two tests find the cells that have no point.
+// Only this crate calls it, for a cell and a byte that are in range. In units of 2^56 the row's divisors lie from u to w; the first two
+// tests find the cells that have no point.
 pub(crate) fn allowed(row: u64, column: u64, byte: u8) -> bool
     requires { ⌜ (row ≤ 15) × (column ≤ 127) × (byte ≤ 4) ⌝ }
     ensures { λ r. ⌜ r ≡ allowsOf row column byte ⌝ }
@@ -46,10 +51,10 @@ pub(crate) fn allowed(row: u64, column: u64, byte: u8) -> bool
     let v = 6 * column;
     let u = 16 + row;
     let w = 17 + row;
-    if v <= 372 - 8 * w {
+    if v <= HIGH_EDGE - 8 * w {
         return true;
     }
-    if 384 + 8 * w <= v {
+    if LOW_EDGE + 8 * w <= v {
         return true;
     }
     let b = bounds_of(u, w, byte);

@@ -1,7 +1,7 @@
 // The kept table: 2,048 bytes, equal to what the maker writes (`made-one`), and it passes the check (`made-passes`).
 ghost use mathlib.Core.Path.{_≡_};
-ghost use Prim.Native.Nat.{_%_};
 ghost use lib.ListN.{length};
+ghost use Rattle.selection.specs.Cell as Cell;
 ghost use Rattle.selection.specs.Computed.{madeTable};
 ghost use Rattle.selection.specs.WordBytes.{wordsBytes};
 ghost use Rattle.selection.specs.Maker.{MadeTable};
@@ -72,10 +72,10 @@ fn bytes_of(words: &[u64; 16]) -> [u8; 128]
     bytes
 }
 
-// The row of the kept table whose number is the low four bits of n, as of a divisor moved down by 56 bits.
-pub fn kept_row(n: u64) -> [u8; 128]
-    ensures { λ r. ⌜ r ≡ rowBytes madeTable (n % 16) ⌝ }
+// The row of a divisor in the kept table.
+pub fn kept_row(divisor: u64) -> [u8; 128]
+    ensures { λ r. ⌜ r ≡ rowBytes madeTable (Cell.row divisor) ⌝ }
 {
-    let words = crate::kept_words::row_words(n);
+    let words = crate::kept_words::row_words(divisor >> 56);
     bytes_of(&words)
 }

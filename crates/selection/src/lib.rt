@@ -8,6 +8,8 @@ pub mod table;
 ghost use mathlib.Core.Path.{_≡_};
 ghost use Prim.Native.Nat.{_+_, _*_, _-_, _^_, _≤_, _<_, max};
 ghost use lib.IntN.{subℕ};
+ghost use Rattle.selection.specs.Answer.{refusal};
+ghost use Rattle.selection.specs.declared.Admission.the-variants as Told;
 ghost use Rattle.selection.specs.Cell.{CellChecked};
 ghost use Rattle.selection.specs.Search.{leastPast, leastDivisor, tooLowAt, tooHighAt, lesserOf, searchOf};
 ghost use Rattle.selection.specs.Computed.{cellOf};
@@ -31,10 +33,17 @@ pub enum CellVerdict {
     Refused(Refusal),
 }
 
-// Whether a call takes a table.
+// Whether a call takes what it is handed: its arguments, or a table.
 pub enum Admission {
     Admitted,
     Refused(Refusal),
+}
+
+// A refusal whose place is 0.
+pub fn refused(number: u64) -> Admission
+    ensures { λ r. ⌜ r ≡ Told.Refused (refusal number 0) ⌝ }
+{
+    Admission::Refused(Refusal { number, place: 0 })
 }
 
 // What the search of a cell finds: the least point that breaks a digit, as a divisor and a remainder plus 2^63.

@@ -1,11 +1,13 @@
-// The check of a table.
+// The check of a table, and where its rows begin.
 ghost use mathlib.Core.Path.{_≡_};
 ghost use Prim.Native.Nat.{_+_, _*_, _/_, _%_, _≤_, _<_};
 ghost use lib.ListN.{length, getD};
 ghost use Rattle.selection.specs.Refusals.{firstFrom, ladder};
-ghost use Rattle.selection.specs.Answer.{admission, firstOf};
-ghost use Rattle.selection.specs.Computed.{cellOf, countBelow, aboveFour, isBad, refusedReport, badReport, reportOf, tableRungs};
-ghost use Rattle.selection.specs.Table.{Table, Checked};
+ghost use Rattle.selection.specs.Answer.{refusal, admission, firstOf};
+ghost use Rattle.selection.specs.Cell as Cell;
+ghost use Rattle.selection.specs.Allowed.{aboveFour, isBad};
+ghost use Rattle.selection.specs.Table.{tableRungs, Table, Checked};
+ghost use Rattle.selection.specs.Computed.{cellOf, countBelow, refusedReport, badReport, reportOf};
 use crate::Admission;
 use crate::CellVerdict;
 use crate::Refusal;
@@ -27,6 +29,13 @@ pub enum Outcome {
 pub struct Report {
     pub count: u64,
     pub outcome: Outcome,
+}
+
+// Where the row of a divisor begins in a table.
+pub fn row_start(divisor: u64) -> usize
+    ensures { λ r. ⌜ r ≡ 128 * Cell.row divisor ⌝ }
+{
+    128 * ((divisor >> 56) % 16) as usize
 }
 
 // The first index of a byte above 4, or 2048.
@@ -85,7 +94,7 @@ fn count_bad(table: &[u8]) -> u64
 
 // A refusal, with no count.
 fn refused(number: u64, place: u64) -> Report
-    ensures { λ r. ⌜ r ≡ refusedReport number place ⌝ }
+    ensures { λ r. ⌜ r ≡ refusedReport (refusal number place) ⌝ }
 {
     Report {
         count: 0,

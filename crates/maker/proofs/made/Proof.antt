@@ -1,11 +1,6 @@
 -- `maker::made` meets its contract: nothing of the 2,048 zeros is left.
-use mathlib.Core.Path.{_≡_, _∙_}
-use mathlib.Core.List.{List, append-nil}
-use Prim.Native.Nat.{ℕ}
-use native.Mathlib.Omega.{arith}
-use lib.ListN.{length, drop-of-length-le, replicate, length-replicate}
+use Rattle.laws.proofs.Basics.{_≡_, _∙_, List, append-nil, ℕ, arith, length, drop-of-length-le, replicate, length-replicate, needs}
 use Rattle.selection.specs.Computed.{madeTable, madeBuffer}
-use borrow.Author.Needs.{needs}
 use Rattle.maker.proofs.made.Statement.{statement}
 use Rattle.maker.proofs.made.Tie as tie
 

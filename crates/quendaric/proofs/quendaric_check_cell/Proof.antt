@@ -1,8 +1,7 @@
-use mathlib.Core.Path.{ap, _∙_}
+use Rattle.laws.proofs.Basics.{ap, _∙_, needs}
 use Rattle.quendaric.specs.Reply.{cellReply}
 use Rattle.selection.specs.Answer.{cellNumbers}
 use Rattle.selection.specs.declared.CellVerdict.{CellVerdict}
-use borrow.Author.Needs.{needs}
 use Rattle.quendaric.proofs.quendaric_check_cell.Statement.{statement}
 use Rattle.quendaric.proofs.quendaric_check_cell.Tie as tie
 

@@ -1,9 +1,8 @@
-use mathlib.Core.Path.{ap, _∙_}
+use Rattle.laws.proofs.Basics.{ap, _∙_, needs}
 use Rattle.quendaric.specs.Reply.{tableReply}
 use Rattle.selection.specs.Answer.{reportNumbers}
 use Rattle.selection.specs.declared.table.Report.{Report}
 use Rattle.selection.proofs.Reports.{bad-cell}
-use borrow.Author.Needs.{needs}
 use Rattle.quendaric.proofs.quendaric_check_table.Statement.{statement}
 use Rattle.quendaric.proofs.quendaric_check_table.Tie as tie
 

@@ -1,9 +1,7 @@
-use mathlib.Core.Path.{sym, ap, _∙_}
-use native.Mathlib.Omega.{arith}
+use Rattle.laws.proofs.Basics.{sym, ap, _∙_, arith, needs}
 use Rattle.quendaric.specs.Reply.{tableReply}
 use Rattle.selection.specs.Answer.{outcomeNumbers}
 use Rattle.selection.specs.declared.table.Outcome.{Outcome}
-use borrow.Author.Needs.{needs}
 use Rattle.quendaric.proofs.table_reply.Statement.{statement}
 use Rattle.quendaric.proofs.table_reply.Tie as tie
 

@@ -1,7 +1,5 @@
-use native.Mathlib.Omega.{arith}
+use Rattle.laws.proofs.Basics.{arith, _+_, _*_, _/_, _^_, _≤_, needs}
 use native.Mathlib.Nat.{mul-le-mul-right}
-use Prim.Native.Nat.{_+_, _*_, _/_, _^_, _≤_}
-use borrow.Author.Needs.{needs}
 use Rattle.recurrence.proofs.corrected.Statement.{statement}
 use Rattle.recurrence.proofs.corrected.Tie as tie
 

@@ -1,5 +1,4 @@
-use mathlib.Core.Path.{refl}
-use borrow.Author.Needs.{needs}
+use Rattle.laws.proofs.Basics.{refl, needs}
 use Rattle.recurrence.proofs.digit_at.Statement.{statement}
 use Rattle.recurrence.proofs.digit_at.Tie as tie
 

@@ -1,5 +1,4 @@
-use native.Mathlib.Omega.{arith}
-use borrow.Author.Needs.{needs}
+use Rattle.laws.proofs.Basics.{arith, needs}
 use Rattle.recurrence.proofs.NextColumn.{lowest-at}
 use Rattle.recurrence.proofs.lowest_carry.Statement.{statement}
 use Rattle.recurrence.proofs.lowest_carry.Tie as tie

@@ -1,11 +1,8 @@
 -- `run` meets its contract: the arguments' refusal, then the table's, else the run through the table.
-use mathlib.Core.Path.{refl, sym, ap, _∙_}
-use denote.Ref.{now}
-use lib.ListN.{length}
+use Rattle.laws.proofs.Basics.{refl, sym, ap, _∙_, now, length, needs}
 use Rattle.selection.proofs.Orders.{admitted-both, first-lent}
 use Rattle.recurrence.specs.Run.{runRungs, runValues}
 use Rattle.recurrence.proofs.Refusals.{spans, run-answered}
-use borrow.Author.Needs.{needs}
 use Rattle.recurrence.proofs.run.Statement.{statement}
 use Rattle.recurrence.proofs.run.Tie as tie
 

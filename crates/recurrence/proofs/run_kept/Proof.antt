@@ -1,21 +1,18 @@
 -- `run_kept` meets its contract: the kept table passes, so only the arguments can be refused.
-use mathlib.Core.Path.{refl, sym, ap, _∙_}
-use denote.Ref.{now}
-use lib.ListN.{length}
+use Rattle.laws.proofs.Basics.{refl, sym, ap, _∙_, now, length, needs}
 use Rattle.selection.specs.Computed.{madeTable}
 use Rattle.selection.proofs.MadeTables.{kept-passes}
 use Rattle.selection.proofs.Orders.{first-kept}
 use Rattle.recurrence.specs.Run.{runRungs, runValues}
 use Rattle.recurrence.proofs.Refusals.{spans, run-answered}
-use Rattle.recurrence.proofs.Rows.{kept-row, row-of-kept}
-use borrow.Author.Needs.{needs}
+use Rattle.recurrence.proofs.Rows.{row-of-kept}
 use Rattle.recurrence.proofs.run_kept.Statement.{statement}
 use Rattle.recurrence.proofs.run_kept.Tie as tie
 
 run-part-requires : tie.Need-run-part-requires
 run-part-requires c κs =
     let s = spans _ _ _ _ _ (sym (c .before .before .before .before .before .argument-refusal .ensures) ∙ c .before .before .before .enum-told .given .1) in
-    (row-of-kept (kept-row _ (s .0 .least) (s .0 .most) (c .before .before .kept-row .ensures)), s .0, s .1, s .2, s .3)
+    (row-of-kept (c .before .before .kept-row .ensures), s .0, s .1, s .2, s .3)
 
 returns : tie.Need-returns
 returns c =
@@ -29,8 +26,7 @@ returns-2 c =
     let a = c .before .before .before .before .before .before .before .before .before .before .before .args in
     let e = c .before .before .before .before .before .before .before .before .before .argument-refusal .ensures in
     let g = c .before .before .before .before .before .before .before .enum-told .given .1 in
-    let s = spans _ _ _ _ _ (sym e ∙ g) in
-    let r = c .before .before .before .run-part .ensures madeTable kept-passes (kept-row _ (s .0 .least) (s .0 .most) (c .before .before .before .before .before .before .kept-row .ensures)) in
+    let r = c .before .before .before .run-part .ensures madeTable kept-passes (c .before .before .before .before .before .before .kept-row .ensures) in
     run-answered madeTable (a .dividend) (a .divisor) (a .digits) (now (a .buffer)) (a .place) (first-kept (runRungs (a .dividend) (a .divisor) (a .digits) (length (now (a .buffer))) (a .place)) e g) (c .values .ensures ∙ ap runValues (r .1), r .0)
 
 pub run-kept-spec : {M : Type 1} → statement M

@@ -1,11 +1,7 @@
-use mathlib.Core.Path.{ap, _∙_}
-use mathlib.Core.List.{List}
-use Prim.Native.Nat.{ℕ}
+use Rattle.laws.proofs.Basics.{ap, _∙_, List, ℕ, needs, arith}
 use Rattle.recurrence.specs.Recurrence.{digits, resultOf}
 use Rattle.recurrence.specs.Run.{written}
 use Rattle.laws.proofs.Lists.{part-length, put-back}
-use borrow.Author.Needs.{needs}
-use native.Mathlib.Omega.{arith}
 use Rattle.recurrence.proofs.run_part.Statement.{statement}
 use Rattle.recurrence.proofs.run_part.Tie as tie
 

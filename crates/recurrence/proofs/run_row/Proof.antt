@@ -1,11 +1,6 @@
-use borrow.Author.Needs.{needs}
-use mathlib.Core.Path.{_≡_, refl, sym, _∙_}
-use native.Mathlib.Omega.{arith}
-use Prim.Native.Nat.{ℕ, _-_}
-use mathlib.Core.List.{List}
+use Rattle.laws.proofs.Basics.{needs, _≡_, refl, sym, _∙_, arith, ℕ, _-_, List, length}
 use Rattle.selection.specs.Cell.{row}
 use Rattle.selection.specs.Table.{Passes, rowBytes}
-use lib.ListN.{length}
 use Rattle.laws.proofs.Lists.{fill-none}
 use Rattle.recurrence.specs.Recurrence.{after}
 use Rattle.recurrence.proofs.Invariant.{invariant-start}

@@ -1,9 +1,7 @@
 use mir.Syntax.{w64}
 use Rattle.selection.proofs.BiasedPoints.{verdict-checked, answers}
-use mathlib.Core.Path.{sym, _∙_}
+use Rattle.laws.proofs.Basics.{sym, _∙_, lt-ltb, le-ltb, needs}
 use mir.Facts.{toZ-ofZ}
-use borrow.Author.Tests.{lt-ltb, le-ltb}
-use borrow.Author.Needs.{needs}
 use Rattle.selection.proofs.check_cell.Statement.{statement}
 use Rattle.selection.proofs.check_cell.Tie as tie
 

@@ -1,5 +1,4 @@
-use borrow.Author.Tests.{lt-ltb, le-ltb}
-use borrow.Author.Needs.{needs}
+use Rattle.laws.proofs.Basics.{lt-ltb, le-ltb, needs}
 use Rattle.selection.proofs.lesser.Statement.{statement}
 use Rattle.selection.proofs.lesser.Tie as tie
 

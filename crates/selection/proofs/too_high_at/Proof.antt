@@ -1,7 +1,6 @@
-use native.Mathlib.Omega.{arith}
+use Rattle.laws.proofs.Basics.{arith, lt-ltb, le-ltb, le-leb, lt-leb, needs}
 use native.Mathlib.Nat.{mul-le-mul-right}
-use borrow.Author.Tests.{lt-ltb, le-ltb, le-leb, lt-leb}
-use borrow.Author.Needs.{needs}
+use Rattle.laws.proofs.Tests.{tests}
 use Rattle.selection.proofs.too_high_at.Statement.{statement}
 use Rattle.selection.proofs.too_high_at.Tie as tie
 
@@ -26,12 +25,9 @@ returns-2 c = simp (lt-ltb _ _ (c .before .before .before .if1 .taken), ← c .b
 returns-3 : tie.Need-returns-3
 returns-3 c = simp (lt-ltb _ _ (c .before .before .if1 .taken), ← c .before .larger .ensures, lt-leb _ _ (c .if2 .left))
 
-returns-4 : tie.Need-returns-4
-returns-4 c = simp (le-ltb _ _ (c .if1 .left))
-
 pub too-high-at-spec : {M : Type 1} → statement M
 too-high-at-spec =
     tie.close (tie.spec (λ c. search needs) (λ c. search needs) mul-larger-2 add-larger
     (λ c. search needs) add-larger-2 add-larger-3 (λ c κs. search needs) (λ c. search needs)
     (λ c. search needs) (λ c. search needs) (λ c. search needs) returns returns-2 returns-3
-    returns-4)
+    (λ c. search tests))

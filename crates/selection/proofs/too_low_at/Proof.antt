@@ -1,7 +1,6 @@
-use native.Mathlib.Omega.{arith}
+use Rattle.laws.proofs.Basics.{arith, lt-ltb, le-ltb, needs}
 use native.Mathlib.Nat.{mul-le-mul-right}
-use borrow.Author.Tests.{lt-ltb, le-ltb}
-use borrow.Author.Needs.{needs}
+use Rattle.laws.proofs.Tests.{tests}
 use Rattle.selection.proofs.too_low_at.Statement.{statement}
 use Rattle.selection.proofs.too_low_at.Tie as tie
 
@@ -14,11 +13,8 @@ returns c = simp (lt-ltb _ _ (c .before .before .if1 .taken), ← c .before .lar
 returns-2 : tie.Need-returns-2
 returns-2 c = simp (lt-ltb _ _ (c .before .before .if1 .taken), ← c .before .larger .ensures, le-ltb _ _ (c .if2 .left))
 
-returns-3 : tie.Need-returns-3
-returns-3 c = simp (le-ltb _ _ (c .if1 .left))
-
 pub too-low-at-spec : {M : Type 1} → statement M
 too-low-at-spec =
     tie.close (tie.spec (λ c. search needs) (λ c. search needs) (λ c. search needs)
     (λ c. search needs) (λ c κs. search needs) (λ c. search needs) mul-if2 returns returns-2
-    returns-3)
+    (λ c. search tests))

@@ -1,14 +1,8 @@
 -- `selection::unbiased` meets its contract: both ways the result is w - 2^63.
-use mathlib.Core.Path.{_≡_, refl, _∙_, subst, sym}
-use Prim.Native.Nat.{ℕ, _-_, _^_, _<_}
-use native.Mathlib.Omega.{arith}
-use lib.Dec.{ltb, ltb→lt, nltb→le}
-use lib.IntN.{negsuc, subℕ, _+ℤ_}
+use Rattle.laws.proofs.Basics.{_≡_, refl, _∙_, subst, sym, ℕ, _-_, _^_, _<_, arith, ltb, ltb→lt, nltb→le, negsuc, subℕ, _+ℤ_, needs, le-ltb}
 use mir.Facts.{toZ-ofZ, toZ-pos}
 use mir.Syntax.{w64}
 use mir.Val.{toZ, SFits}
-use borrow.Author.Needs.{needs}
-use borrow.Author.Tests.{le-ltb}
 use Rattle.laws.proofs.Tests.{by-cond}
 use Rattle.selection.proofs.unbiased.Statement.{statement}
 use Rattle.selection.proofs.unbiased.Tie as tie

@@ -1,9 +1,7 @@
 -- `rounded_result` meets its contract: the pattern overflows exactly where the magnitude does.
-use mathlib.Core.Path.{_≡_, sym}
-use native.Mathlib.Omega.{arith}
+use Rattle.laws.proofs.Basics.{_≡_, sym, arith, needs}
 use Rattle.division.specs.Computed.{roundedTo}
 use Rattle.division.proofs.RoundedResults.{rounded-near, sign-le, huge-le, result-over, result-fits}
-use borrow.Author.Needs.{needs}
 use Rattle.division.proofs.rounding.rounded_result.Statement.{statement}
 use Rattle.division.proofs.rounding.rounded_result.Tie as tie
 

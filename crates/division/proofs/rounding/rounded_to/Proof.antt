@@ -1,8 +1,6 @@
 -- `rounded_to` meets its contract, mode by mode and tail by tail.
-use mathlib.Core.Path.{_≡_}
-use native.Mathlib.Omega.{arith}
-use borrow.Author.Tests.{lt-ltb, ne-eqb}
-use borrow.Author.Needs.{needs}
+use Rattle.laws.proofs.Basics.{_≡_, arith, lt-ltb, ne-eqb, needs}
+use Rattle.laws.proofs.Tests.{tests}
 use Rattle.division.proofs.rounding.rounded_to.Statement.{statement}
 use Rattle.division.proofs.rounding.rounded_to.Tie as tie
 
@@ -15,9 +13,6 @@ returns-2 c = rw (c .before .before .enum-told .given .1, lt-ltb (c .before .bef
 returns-3 : tie.Need-returns-3
 returns-3 c = let e : c .before .before .before .before .args .tail ≡ 3 = omega arith in rw (c .before .before .enum-told .given .1, e)
 
-returns-4 : tie.Need-returns-4
-returns-4 c = rw (c .enum-told2 .given .1)
-
 returns-5 : tie.Need-returns-5
 returns-5 c = rw (c .before .enum-told3 .given .1, c .if2 .taken)
 
@@ -28,4 +23,4 @@ pub rounded-to-spec : {M : Type 1} → statement M
 rounded-to-spec =
     tie.close (tie.spec (λ c. search needs) (λ c. search needs) (λ c. search needs)
     (λ c. search needs) (λ c. search needs) (λ c. search needs) returns returns-2 returns-3
-    returns-4 returns-5 returns-6)
+    (λ c. search tests) returns-5 returns-6)

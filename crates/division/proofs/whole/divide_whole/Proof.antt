@@ -1,11 +1,9 @@
 -- `divide_whole` meets its contract: the arguments' refusal, then the table's, else the quotient through the table.
-use mathlib.Core.Path.{sym, ap, _∙_}
-use denote.Ref.{now}
+use Rattle.laws.proofs.Basics.{sym, ap, _∙_, now, needs}
 use Rattle.selection.proofs.Orders.{admitted-both, answered, first-lent}
 use Rattle.division.specs.Whole.{wholeRungs, wholeZeros, wholeValues}
 use Rattle.division.specs.WholeSteps.{wholeThrough}
 use Rattle.division.proofs.Calls.{whole-spans}
-use borrow.Author.Needs.{needs}
 use Rattle.division.proofs.whole.divide_whole.Statement.{statement}
 use Rattle.division.proofs.whole.divide_whole.Tie as tie
 

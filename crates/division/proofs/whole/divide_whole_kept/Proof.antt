@@ -1,11 +1,10 @@
 -- `divide_whole_kept` meets its contract: the kept table passes, so only the arguments can be refused.
-use mathlib.Core.Path.{sym, ap, _∙_}
+use Rattle.laws.proofs.Basics.{sym, ap, _∙_, needs}
 use Rattle.selection.specs.Computed.{madeTable}
 use Rattle.selection.proofs.Orders.{answered, first-kept}
 use Rattle.division.specs.Whole.{wholeRungs, wholeZeros, wholeValues}
 use Rattle.division.specs.WholeSteps.{wholeThrough}
 use Rattle.division.proofs.Calls.{whole-spans}
-use borrow.Author.Needs.{needs}
 use Rattle.division.proofs.whole.divide_whole_kept.Statement.{statement}
 use Rattle.division.proofs.whole.divide_whole_kept.Tie as tie
 

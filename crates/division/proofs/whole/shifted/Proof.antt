@@ -1,12 +1,8 @@
 -- `shifted` meets its contract: the words that it moves up do not wrap, and the part lent has as many bytes as the run has digits.
-use mathlib.Core.Path.{_≡_}
-use Prim.Native.Nat.{ℕ, _*_, _%_, _^_, _<_}
+use Rattle.laws.proofs.Basics.{_≡_, ℕ, _*_, _%_, _^_, _<_, arith, length-take, needs}
 use native.Mathlib.Nat.{mod-eq-of-lt}
-use native.Mathlib.Omega.{arith}
-use lib.ListN.{length-take}
 use Rattle.division.proofs.WholeThrough.{low-bit}
 use Rattle.division.proofs.Calls.{shifted-words}
-use borrow.Author.Needs.{needs}
 use Rattle.division.proofs.whole.shifted.Statement.{statement}
 use Rattle.division.proofs.whole.shifted.Tie as tie
 

@@ -1,14 +1,10 @@
-use mathlib.Core.Path.{_≡_, ap, _∙_}
-use Prim.Native.Nat.{ℕ, _*_, _/_, _%_, _^_}
-use native.Mathlib.Omega.{arith}
-use lib.ListN.{getD}
+use Rattle.laws.proofs.Basics.{_≡_, ap, _∙_, ℕ, _*_, _/_, _%_, _^_, arith, getD, needs}
 use Rattle.selection.specs.Cell.{row, column}
 use Rattle.recurrence.specs.CarrySave.{multiple}
 use Rattle.recurrence.specs.Recurrence.{cellAt, stepBy, nextOf}
 use Rattle.recurrence.specs.FastRun.{withColumn, stateOf, topBitsOf}
 use Rattle.recurrence.proofs.NextColumn.{multiple-at, top-bits-at, step-code}
 use Rattle.recurrence.proofs.Rows.{row-at}
-use borrow.Author.Needs.{needs}
 use Rattle.recurrence.proofs.RunState.next.Statement.{statement}
 use Rattle.recurrence.proofs.RunState.next.Tie as tie
 

@@ -1,16 +1,8 @@
-use borrow.Author.Needs.{needs}
-use borrow.Author.Tests.{le-leb, lt-leb, lt-ltb, le-ltb}
-use Rattle.selection.specs.Computed.{allowsOf}
+use Rattle.laws.proofs.Basics.{needs, lt-leb, lt-ltb, le-ltb}
+use Rattle.laws.proofs.Tests.{tests}
+use Rattle.selection.specs.Allowed.{allowsOf}
 use Rattle.selection.proofs.bounds.allowed.Statement.{statement}
 use Rattle.selection.proofs.bounds.allowed.Tie as tie
-
-returns : tie.Need-returns
-unfolding allowsOf
-returns c = simp (le-leb _ _ (c .if1 .taken))
-
-returns-2 : tie.Need-returns-2
-unfolding allowsOf
-returns-2 c = simp (lt-leb _ _ (c .before .if1 .left), le-leb _ _ (c .if2 .taken))
 
 returns-3 : tie.Need-returns-3
 unfolding allowsOf
@@ -21,7 +13,8 @@ unfolding allowsOf
 returns-4 c = simp (lt-leb _ _ (c .before .before .before .before .before .if1 .left), lt-leb _ _ (c .before .before .before .before .if2 .left), ← c .before .before .before .bounds-of .ensures .0, le-ltb _ _ (c .before .if3 .left), ← c .before .before .before .bounds-of .ensures .1)
 
 pub allowed-spec : {M : Type 1} → statement M
+unfolding allowsOf
 allowed-spec =
     tie.close (tie.spec (λ c. search needs) (λ c. search needs) (λ c. search needs)
-    (λ c. search needs) (λ c. search needs) returns (λ c. search needs) (λ c. search needs)
-    returns-2 (λ c κs. search needs) returns-3 returns-4)
+    (λ c. search needs) (λ c. search needs) (λ c. search tests) (λ c. search needs)
+    (λ c. search needs) (λ c. search tests) (λ c κs. search needs) returns-3 returns-4)

@@ -1,6 +1,4 @@
-use mathlib.Core.Path.{_≡_, refl}
-use native.Mathlib.Omega.{arith}
-use borrow.Author.Needs.{needs}
+use Rattle.laws.proofs.Basics.{_≡_, refl, arith, needs}
 use Rattle.selection.proofs.bounds.bounds_of.Statement.{statement}
 use Rattle.selection.proofs.bounds.bounds_of.Tie as tie
 

@@ -1,7 +1,4 @@
-use mathlib.Core.Path.{_≡_, refl, sym}
-use borrow.Author.Needs.{needs}
-use native.Mathlib.Omega.{arith}
-use Prim.Native.Nat.{_-_, _*_, _≤_}
+use Rattle.laws.proofs.Basics.{_≡_, refl, sym, needs, arith, _-_, _*_, _≤_}
 use Rattle.laws.specs.Lists.{filled}
 use Rattle.laws.proofs.Lists.{fill-none}
 use Rattle.selection.specs.WordBytes.{byteOf}

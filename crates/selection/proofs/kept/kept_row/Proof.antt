@@ -1,5 +1,4 @@
-use mathlib.Core.Path.{_∙_}
-use borrow.Author.Needs.{needs}
+use Rattle.laws.proofs.Basics.{_∙_, needs}
 use Rattle.selection.proofs.kept.kept_row.Statement.{statement}
 use Rattle.selection.proofs.kept.kept_row.Tie as tie
 

@@ -1,6 +1,7 @@
 -- `selection::kept::kept_table` meets its contract: antt computes the rule over the constant.
 use mathlib.Core.Path.{refl}
-use Rattle.selection.specs.Computed.{allowsOf, madeOf}
+use Rattle.selection.specs.Allowed.{allowsOf}
+use Rattle.selection.specs.Computed.{madeOf}
 use Rattle.selection.proofs.KeptLaws.{right, made-table}
 use Rattle.selection.proofs.MadeTables.{made-answer}
 use Rattle.selection.proofs.kept.kept_table.Statement.{statement}

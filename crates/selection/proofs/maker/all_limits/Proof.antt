@@ -1,9 +1,5 @@
-use Prim.Native.Nat.{ℕ, _≤_, _<_, _-_}
-use mathlib.Core.Path.{_≡_, refl}
-use mathlib.Core.List.{[]}
+use Rattle.laws.proofs.Basics.{ℕ, _≤_, _<_, _-_, _≡_, refl, [], arith, length, getD, length-set}
 use native.Mathlib.Nat.{not-suc-le-zero}
-use native.Mathlib.Omega.{arith}
-use lib.ListN.{length, getD, length-set}
 use Rattle.selection.specs.Maker.{Limits}
 use Rattle.laws.proofs.Lists.{set-more}
 use Rattle.selection.proofs.maker.all_limits.Statement.{statement}

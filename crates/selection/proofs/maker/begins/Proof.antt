@@ -1,7 +1,5 @@
-use Prim.Native.Nat.{_≤_, _-_}
-use mathlib.Core.Path.{_≡_, refl, sym, _∙_}
-use native.Mathlib.Omega.{arith}
-use borrow.Author.Tests.{eq-eqb, ne-eqb}
+use Rattle.laws.proofs.Basics.{_≤_, _-_, _≡_, sym, _∙_, arith, eq-eqb, ne-eqb}
+use Rattle.laws.proofs.Tests.{tests}
 use Rattle.selection.specs.Computed.{beginsOf}
 use Rattle.selection.proofs.Counts.{first-here, first-on, first-end}
 use Rattle.selection.proofs.maker.begins.Statement.{statement}
@@ -12,9 +10,6 @@ Inv-loop row from byte c₀ c = (c ≤ 128) × (beginsOf row from byte ≡ begin
 
 abbrev μ-loop : tie.MeasureT-loop
 μ-loop row from byte c₀ c = 128 - c
-
-loop-holds : tie.Need-loop-holds Inv-loop μ-loop
-loop-holds c = (omega arith, refl)
 
 returns : tie.Need-returns Inv-loop μ-loop
 returns c = (sym (c .before .before .before .loop .inv .1 ∙ first-here _ _ 128 (omega arith) (eq-eqb _ _ (sym (c .before .made .ensures) ∙ c .if1 .taken))), omega arith)
@@ -27,5 +22,5 @@ returns-2 c = (sym (c .before .loop .inv .1 ∙ first-end _ _ 128 (c .loop-test 
 
 pub begins-spec : {M : Type 1} → statement M
 begins-spec =
-    tie.close (tie.spec Inv-loop μ-loop loop-holds (λ c. omega arith) (λ c κs. omega arith) returns
-    (λ c. omega arith) (λ c. omega arith) loop-again returns-2)
+    tie.close (tie.spec Inv-loop μ-loop (λ c. search tests) (λ c. omega arith) (λ c κs. omega arith)
+    returns (λ c. omega arith) (λ c. omega arith) loop-again returns-2)

@@ -1,6 +1,5 @@
 use Rattle.selection.specs.Computed.{madeOf}
-use mathlib.Core.Path.{sym, _∙_}
-use borrow.Author.Needs.{needs}
+use Rattle.laws.proofs.Basics.{sym, _∙_, needs}
 use Rattle.selection.proofs.maker.made.Statement.{statement}
 use Rattle.selection.proofs.maker.made.Tie as tie
 

@@ -1,9 +1,4 @@
-use Prim.Native.Nat.{ℕ, _≤_, _-_, _/_, _%_}
-use mathlib.Core.Path.{_≡_, sym, ap, _∙_}
-use mathlib.Core.List.{List}
-use native.Mathlib.Omega.{arith}
-use lib.ListN.{length}
-use borrow.Author.Needs.{needs}
+use Rattle.laws.proofs.Basics.{ℕ, _≤_, _-_, _/_, _%_, _≡_, sym, ap, _∙_, List, arith, length, needs}
 use Rattle.laws.specs.Lists.{filled}
 use Rattle.laws.proofs.Lists.{fill-none, fill-more, fill-length}
 use Rattle.selection.specs.Computed.{madeAt}

@@ -1,8 +1,6 @@
-use mathlib.Core.Path.{sym, ap, _∙_}
-use denote.Ref.{now}
-use borrow.Author.Needs.{needs}
+use Rattle.laws.proofs.Basics.{sym, ap, _∙_, now, needs}
 use Rattle.selection.specs.Answer.{firstOf}
-use Rattle.selection.specs.Computed.{tableRungs}
+use Rattle.selection.specs.Table.{tableRungs}
 use Rattle.selection.specs.Refusals.{ladder}
 use Rattle.selection.proofs.Reports.{admission-ladder}
 use Rattle.selection.specs.declared.Admission.{Admission}

@@ -1,5 +1,4 @@
-use mathlib.Core.Path.{ap, sym, _∙_}
-use borrow.Author.Needs.{needs}
+use Rattle.laws.proofs.Basics.{ap, sym, _∙_, needs}
 use Rattle.selection.specs.Computed.{badReport}
 use Rattle.selection.proofs.table.bad_report.Statement.{statement}
 use Rattle.selection.proofs.table.bad_report.Tie as tie

@@ -1,7 +1,4 @@
-use denote.Ref.{now}
-use native.Mathlib.Omega.{arith}
-use borrow.Author.Needs.{needs}
-use borrow.Author.Tests.{eq-eqb, ne-eqb, lt-ltb, le-ltb}
+use Rattle.laws.proofs.Basics.{now, arith, needs, eq-eqb, ne-eqb, lt-ltb, le-ltb}
 use Rattle.selection.specs.Table.{Table}
 use Rattle.selection.specs.Computed.{reportOf}
 use Rattle.selection.proofs.Reports.{report-is, is-table}

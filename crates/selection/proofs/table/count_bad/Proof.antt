@@ -1,8 +1,7 @@
-use Prim.Native.Nat.{ℕ, _+_, _≤_, _-_}
-use mathlib.Core.Logic.{⊎-elim}
-use mathlib.Core.Path.{_≡_, refl, sym, ap, _∙_}
-use native.Mathlib.Omega.{arith}
-use Rattle.selection.specs.Computed.{countBelow, isBad}
+use Rattle.laws.proofs.Basics.{ℕ, _+_, _≤_, _-_, ⊎-elim, _≡_, sym, ap, _∙_, arith}
+use Rattle.laws.proofs.Tests.{tests}
+use Rattle.selection.specs.Allowed.{isBad}
+use Rattle.selection.specs.Computed.{countBelow}
 use Rattle.selection.proofs.Counts.{count-one, count-other, count-most}
 use Rattle.selection.proofs.table.count_bad.Statement.{statement}
 use Rattle.selection.proofs.table.count_bad.Tie as tie
@@ -12,10 +11,6 @@ Inv-loop table count₀ i₀ count i = (i ≤ 2048) × (count ≡ countBelow (is
 
 abbrev μ-loop : tie.MeasureT-loop
 μ-loop table count₀ i₀ count i = 2048 - i
-
-loop-holds : tie.Need-loop-holds Inv-loop μ-loop
-unfolding countBelow
-loop-holds c = (omega arith, refl)
 
 is-bad-requires : tie.Need-is-bad-requires Inv-loop μ-loop
 is-bad-requires c κs = (c .before .before .before .pre, omega arith)
@@ -38,6 +33,7 @@ returns : tie.Need-returns Inv-loop μ-loop
 returns c = let e : c .before .loop .i ≡ 2048 = omega arith in c .before .loop .inv .1 ∙ ap (countBelow _) e
 
 pub count-bad-spec : {M : Type 1} → statement M
+unfolding countBelow
 count-bad-spec =
-    tie.close (tie.spec Inv-loop μ-loop loop-holds is-bad-requires add-count (λ c. omega arith)
-    (λ c. omega arith) loop-again returns)
+    tie.close (tie.spec Inv-loop μ-loop (λ c. search tests) is-bad-requires add-count
+    (λ c. omega arith) (λ c. omega arith) loop-again returns)

@@ -1,9 +1,7 @@
-use Prim.Native.Nat.{_≤_, _-_}
-use mathlib.Core.Path.{_≡_, refl, sym, _∙_}
-use native.Mathlib.Omega.{arith}
-use borrow.Author.Tests.{lt-ltb, le-ltb}
+use Rattle.laws.proofs.Basics.{_≤_, _-_, _≡_, refl, sym, _∙_, arith, lt-ltb, le-ltb}
+use Rattle.laws.proofs.Tests.{tests}
 use Rattle.selection.specs.Refusals.{firstFrom}
-use Rattle.selection.specs.Computed.{aboveFour}
+use Rattle.selection.specs.Allowed.{aboveFour}
 use Rattle.selection.proofs.Counts.{first-here, first-on, first-end}
 use Rattle.selection.proofs.table.first_above.Statement.{statement}
 use Rattle.selection.proofs.table.first_above.Tie as tie
@@ -13,9 +11,6 @@ Inv-loop table i₀ i = (i ≤ 2048) × (firstFrom (aboveFour table) 0 2048 ≡ 
 
 abbrev μ-loop : tie.MeasureT-loop
 μ-loop table i₀ i = 2048 - i
-
-loop-holds : tie.Need-loop-holds Inv-loop μ-loop
-loop-holds c = (omega arith, refl)
 
 returns : tie.Need-returns Inv-loop μ-loop
 returns c = sym (c .before .before .before .loop .inv .1 ∙ first-here _ _ 2048 (omega arith) (lt-ltb _ _ (c .if1 .taken)))
@@ -28,5 +23,5 @@ returns-2 c = let e : c .before .loop .i ≡ 2048 = omega arith in sym (c .befor
 
 pub first-above-spec : {M : Type 1} → statement M
 first-above-spec =
-    tie.close (tie.spec Inv-loop μ-loop loop-holds (λ c. omega arith) returns (λ c. omega arith)
-    (λ c. omega arith) loop-again returns-2)
+    tie.close (tie.spec Inv-loop μ-loop (λ c. search tests) (λ c. omega arith) returns
+    (λ c. omega arith) (λ c. omega arith) loop-again returns-2)

@@ -1,8 +1,7 @@
-use Prim.Native.Nat.{_≤_, _-_}
-use mathlib.Core.Path.{_≡_, refl, sym, _∙_}
-use native.Mathlib.Omega.{arith}
+use Rattle.laws.proofs.Basics.{_≤_, _-_, _≡_, refl, sym, _∙_, arith}
+use Rattle.laws.proofs.Tests.{tests}
 use Rattle.selection.specs.Refusals.{firstFrom}
-use Rattle.selection.specs.Computed.{isBad}
+use Rattle.selection.specs.Allowed.{isBad}
 use Rattle.selection.proofs.Counts.{first-here, first-on, first-end}
 use Rattle.selection.proofs.table.first_bad.Statement.{statement}
 use Rattle.selection.proofs.table.first_bad.Tie as tie
@@ -12,9 +11,6 @@ Inv-loop table k₀ k = (k ≤ 2048) × (firstFrom (isBad table) 0 2048 ≡ firs
 
 abbrev μ-loop : tie.MeasureT-loop
 μ-loop table k₀ k = 2048 - k
-
-loop-holds : tie.Need-loop-holds Inv-loop μ-loop
-loop-holds c = (omega arith, refl)
 
 is-bad-requires : tie.Need-is-bad-requires Inv-loop μ-loop
 is-bad-requires c κs = (c .before .before .before .pre, omega arith)
@@ -30,5 +26,5 @@ returns-2 c = let e : c .before .loop .k ≡ 2048 = omega arith in sym (c .befor
 
 pub first-bad-spec : {M : Type 1} → statement M
 first-bad-spec =
-    tie.close (tie.spec Inv-loop μ-loop loop-holds is-bad-requires returns (λ c. omega arith)
-    (λ c. omega arith) loop-again returns-2)
+    tie.close (tie.spec Inv-loop μ-loop (λ c. search tests) is-bad-requires returns
+    (λ c. omega arith) (λ c. omega arith) loop-again returns-2)

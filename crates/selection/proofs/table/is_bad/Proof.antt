@@ -1,7 +1,4 @@
-use mathlib.Core.Path.{ap}
-use mathlib.Core.Bool.{not}
-use native.Mathlib.Omega.{arith}
-use borrow.Author.Needs.{needs}
+use Rattle.laws.proofs.Basics.{ap, not, arith, needs}
 use Rattle.selection.proofs.table.is_bad.Statement.{statement}
 use Rattle.selection.proofs.table.is_bad.Tie as tie
 
