@@ -1,6 +1,6 @@
 -- Demand 1: the answers of all calls are those of their ladders.
 use Rattle.laws.proofs.Basics.{_≡_, refl, sym, ap, subst, _∙_, List, _++_, ⊎-elim, ℕ, _+_, _*_, _<_, arith, length, getD}
-use Rattle.selection.specs.Answer.{refusal, answerBy, admissionOf, outcomeNumbers, reportNumbers, reportZeros}
+use Rattle.selection.specs.Answer.{refusal, refusalOf, answerBy, admissionOf, outcomeNumbers, reportNumbers, reportZeros}
 use Rattle.selection.specs.Refusals.{Rung, Wrongs, ladder, RefusedBy}
 use Rattle.selection.specs.Cell.{LeastWitness, digit}
 use Rattle.selection.specs.Table.{ReportMeaning, tableRungs}
@@ -10,7 +10,7 @@ use Rattle.selection.specs.declared.Admission.the-variants.{Refused}
 use Rattle.selection.specs.declared.table.Outcome.{Outcome}
 use Rattle.selection.specs.declared.table.Outcome.the-variants as O
 use Rattle.selection.proofs.Verdicts.{cell-refuses}
-use Rattle.selection.proofs.Ladders.{Ladder, refusalOf, first-is, refused-by, refuses}
+use Rattle.selection.proofs.Ladders.{Ladder, first-is, refused-by, refuses}
 use Rattle.selection.proofs.MadeTables.{kept-passes, limits-told, make-answer}
 use Rattle.selection.proofs.Orders.{passed-last}
 use Rattle.selection.proofs.Reports.{report-checked, table-ladder, admission-ladder}
@@ -67,6 +67,7 @@ demand-1 =
       make-table = λ s. make-answer s _ _ refl refl .2 .refuses;
       make-buffer = λ s. make-answer s _ _ refl refl .2 .keeps;
       check-table = check-refuses;
+      admit = λ t. refused-by (table-ladder t);
       run = λ t N D n b place. run-refuses N D n b place t (run-lent N D n (length b) place t) refl;
       whole = λ t a b. refuses (whole-lent a b t) (λ x. x .refusal) wholeZeros (wholeValues (wholeThrough t a b)) refl (λ f. refl) refl;
       binary64 = λ t direction a b. refuses (binary64-lent direction t) (λ x. x .refusal) binary64Zeros (binary64Values (binary64Through t direction a b)) refl (λ f. refl) refl;

@@ -1,18 +1,21 @@
 -- Demand 3, whole.
-use Rattle.laws.proofs.Basics.{_≡_, refl, sym, ap, subst, _∙_, List, _↔_, ℕ}
-use Rattle.selection.specs.Answer.{answerBy}
+use Rattle.laws.proofs.Basics.{_≡_, refl, sym, ap, _∙_, List, _↔_, ⊎-elim, ℕ, arith}
+use Rattle.selection.specs.Answer.{refusal, answerBy, outcomeNumbers, reportNumbers}
 use Rattle.selection.specs.Refusals.{ladder}
-use Rattle.selection.specs.Computed.{reportOf, madeTable}
+use Rattle.selection.specs.Computed.{cellOf, passedReport, reportOf, madeTable}
 use Rattle.selection.specs.Table.{Passes, ReportMeaning, Checked}
 use Rattle.selection.specs.declared.Admission.{Admission}
 use Rattle.selection.specs.declared.Admission.the-variants.{Admitted, Refused}
-use Rattle.selection.specs.declared.table.Outcome.the-variants.{Passed}
+use Rattle.selection.specs.declared.Refusal.{Refusal}
+use Rattle.selection.specs.declared.table.Outcome.{Outcome}
+use Rattle.selection.specs.declared.table.Outcome.the-variants as O
 use Rattle.selection.specs.declared.table.Report.{Report}
 use Rattle.selection.proofs.UniqueReport.{checked-one}
 use Rattle.selection.proofs.Reports.{report-checked}
 use Rattle.selection.proofs.Orders.{passed-last}
 use Rattle.selection.proofs.MadeTables.{kept-passes}
-use Rattle.selection.proofs.RefusedExactly.{refused-exactly}
+use Rattle.selection.proofs.BiasedPoints.{cell-checked}
+use Rattle.selection.proofs.RefusedExactly.{refused-exactly, cell-told}
 use Rattle.recurrence.proofs.RunDemand.{run-claim, run-same}
 use Rattle.division.specs.Whole.{wholeRungs, wholeZeros, wholeValues, wholeOf}
 use Rattle.division.specs.WholeSteps.{wholeThrough}
@@ -35,12 +38,14 @@ binary64-same : (t u : List ℕ) → Passes t → Passes u → (direction a b : 
 binary64-same t u p q direction a b =
     rw (passed-last p (binary64Rungs direction), passed-last q (binary64Rungs direction), binary64-through t direction a b p, binary64-through u direction a b q) refl
 
--- the answer "passed" is that of a table that passes
-passed : (t : List ℕ) (a : Report) → Checked t a → (a .outcome ≡ Passed) ↔ Passes t
-passed t a c = (
-  λ e. subst (ReportMeaning t (a .count)) e (c .means) .0,
-  λ p. ap (λ (b : Report). b .outcome) (checked-one a (record { count = 0; outcome = Passed }) c (record { means = (p, refl) })),
-)
+-- no refusal is the answer to a table that passes
+passed : (t : List ℕ) (a : Report) → Checked t a → (reportNumbers a .refused ≡ refusal 0 0) ↔ Passes t
+passed t a c = (go (a .count) (a .outcome) (c .means), λ p. ap (λ (b : Report). reportNumbers b .refused) (checked-one a passedReport c (record { means = (p, refl) })))
+  where
+    go : (n : ℕ) (o : Outcome) → ReportMeaning t n o → outcomeNumbers n o .refused ≡ refusal 0 0 → Passes t
+    go n O.Passed w e = w .0
+    go n (O.Bad b) w e = absurd (omega (arith, ap (λ (f : Refusal). f .number) e))
+    go n (O.Refused f) w e = absurd (let z : f .number ≡ 0 = ap (λ (f : Refusal). f .number) e in ⊎-elim (λ u. omega (arith, u .0)) (⊎-elim (λ u. omega (arith, u .0)) (λ u. u)) (w .0 .holds))
 
 pub demand-3 : Demand3
 demand-3 =
@@ -50,5 +55,6 @@ demand-3 =
       refused = λ t h a c. refused-exactly h c;
       answered = λ t. (reportOf t, report-checked t, λ b c. checked-one b (reportOf t) c (report-checked t));
       passed = passed;
+      cells = λ r c b k. cell-told k (cellOf r c b) (cell-checked r c b);
       some = (madeTable, kept-passes);
     }

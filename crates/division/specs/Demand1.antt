@@ -4,8 +4,8 @@ use mathlib.Core.Path.{_≡_}
 use mathlib.Core.List.{List, _++_}
 use Prim.Native.Nat.{ℕ, _+_, _*_, _<_}
 use lib.ListN.{length, getD}
-use Rattle.selection.specs.Answer.{refusal, cellNumbers, cellZeros, ReportNumbers, reportNumbers, reportZeros}
-use Rattle.selection.specs.Refusals.{Wrongs, FirstRefusal, RefusedBy, Refuses}
+use Rattle.selection.specs.Answer.{refusal, refusalOf, cellNumbers, cellZeros, ReportNumbers, reportNumbers, reportZeros}
+use Rattle.selection.specs.Refusals.{Wrongs, ladder, FirstRefusal, RefusedBy, Refuses}
 use Rattle.selection.specs.Cell.{LeastWitness, cellRungs, digit}
 use Rattle.selection.specs.Maker.{limitsRungs, limitsZeros, makeRungs}
 use Rattle.selection.specs.Table.{BadAt, Tally, tableRungs}
@@ -37,6 +37,8 @@ pub record Demand1 : Type 0 where
   pub make-table : (s : List ℕ) → RefusedBy (Wrongs (makeRungs (length s))) (makeOf s)
   pub make-buffer : (s : List ℕ) (n p : ℕ) → FirstRefusal (Wrongs (makeRungs (length s))) n p → madeBuffer s ≡ s
   pub check-table : (t : List ℕ) → CheckRefuses t (reportNumbers (reportOf t))
+  -- what the calls below make of a table that they are lent
+  pub admit : (t : List ℕ) → RefusedBy (Wrongs (tableRungs t)) (refusalOf (ladder (tableRungs t)))
   pub run : (t : List ℕ) (N D n : ℕ) (b : List ℕ) (place : ℕ) → RunRefuses (Wrongs (runRungs N D n (length b) place ++ tableRungs t)) t N D n b place
   pub whole : (t : List ℕ) (a b : ℕ) → Refuses (Wrongs (wholeRungs a b ++ tableRungs t)) (λ x. x .refusal) wholeZeros (wholeOf t a b)
   pub binary64 : (t : List ℕ) (direction a b : ℕ) → Refuses (Wrongs (binary64Rungs direction ++ tableRungs t)) (λ x. x .refusal) binary64Zeros (binary64Of t direction a b)

@@ -5,8 +5,10 @@ use mathlib.Core.Logic.{_↔_}
 use Prim.Native.Nat.{ℕ, _+_, _≤_}
 use lib.ListN.{length}
 use Rattle.selection.specs.Table.{Table, Passes, Checked}
-use Rattle.selection.specs.Demand.{RefusedExactly}
-use Rattle.selection.specs.declared.table.Outcome.the-variants.{Passed}
+use Rattle.selection.specs.Answer.{refusal, cellNumbers, reportNumbers}
+use Rattle.selection.specs.Cell.{IsCell}
+use Rattle.selection.specs.Computed.{cellOf}
+use Rattle.selection.specs.Demand.{RefusedExactly, CellTold}
 use Rattle.selection.specs.declared.table.Report.{Report}
 use Rattle.recurrence.specs.Recurrence.{Operands}
 use Rattle.recurrence.specs.Run.{longest, runOf}
@@ -26,8 +28,10 @@ pub record Demand3 : Type 0 where
   -- the same answers through any two tables that pass
   pub same : (t u : List ℕ) → Passes t → Passes u → SameThrough t u
   -- the check refuses exactly when some point leads out of the range
-  pub refused : (t : List ℕ) → Table t → (a : Report) → Checked t a → RefusedExactly t a
-  -- every table has one answer, which is "passed" exactly if it passes, and some table does
+  pub refused : (t : List ℕ) → Table t → (a : Report) → Checked t a → RefusedExactly t (reportNumbers a)
+  -- every table has one answer, which is no refusal exactly if it passes, and some table does
   pub answered : (t : List ℕ) → (a : Report) × Checked t a × ((b : Report) → Checked t b → b ≡ a)
-  pub passed : (t : List ℕ) (a : Report) → Checked t a → (a .outcome ≡ Passed) ↔ Passes t
+  pub passed : (t : List ℕ) (a : Report) → Checked t a → (reportNumbers a .refused ≡ refusal 0 0) ↔ Passes t
+  -- a single cell tells whether its digit is allowed
+  pub cells : (r c b : ℕ) → IsCell r c b → CellTold r c b (cellNumbers (cellOf r c b))
   pub some : (t : List ℕ) × Passes t

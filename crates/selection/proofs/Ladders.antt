@@ -3,7 +3,7 @@ use Rattle.laws.proofs.Basics.{_≡_, refl, sym, ap, ap₂, subst, _∙_, Bool,
 use Rattle.laws.proofs.Division.{le-or-lt}
 use Rattle.laws.proofs.Tests.{both, both-left, both-right, upto, upto-at}
 use Rattle.selection.proofs.Counts.{Decides, first-below}
-use Rattle.selection.specs.Answer.{refusal, firstOf, answerBy}
+use Rattle.selection.specs.Answer.{refusal, refusalOf, firstOf, answerBy}
 use Rattle.selection.specs.Refusals.{Condition, below, atMost, same, differ, eitherOf, Holds, holds, First, firstFrom, Rung, numberAt, numberFirst, numberOf, Wrong, given, Wrongs, ladder, rank, FirstRefusal, RefusedBy, Refuses}
 use Rattle.selection.specs.declared.Refusal.{Refusal}
 use Rattle.selection.specs.declared.Admission.{Admission}
@@ -167,11 +167,6 @@ by-number m n h l =
     (upto-at (λ k. ltb (rank (k + 1)) (rank (n + 1))) n (upto-at (λ j. upto (λ k. ltb (rank (k + 1)) (rank (j + 1))) j) 10 tt n l) m h)
 
 -- ---- what a ladder says
-
--- the refusal of an answer, 0 and 0 where there is none
-abbrev pub refusalOf : Admission → Refusal
-refusalOf Admitted = refusal 0 0
-refusalOf (Refused f) = f
 
 module _ {rs : List Rung} (c : Ladder rs) where
   pub ladder-meets : (v : Admission) → ladder rs ≡ v → Meets (Wrongs rs) v

@@ -1,15 +1,18 @@
--- Refused exactly when a point leaves the range: demand 3's words on the check.
+-- Refused exactly when a point leaves the range, and a single cell's verdict: demand 3's words on the check.
 use Rattle.laws.proofs.Basics.{_≡_, refl, sym, subst, ap, _∙_, _↔_, List, ℕ, zero, suc, _+_, _*_, _/_, _%_, _<_, arith, ℤ, pos, _-ℤ_, _*ℤ_, getD}
 use Rattle.laws.proofs.Diff.{diffs, by-diff}
 use Rattle.selection.specs.Word.{Within}
-use Rattle.selection.specs.Cell.{Against, LeastWitness, digit}
+use Rattle.selection.specs.Answer.{refusal, cellNumbers, outcomeNumbers, reportNumbers}
+use Rattle.selection.specs.Cell.{Against, LeastWitness, IsCell, CellChecked, digit}
 use Rattle.selection.specs.Table.{Table, Tally, BadAt, FirstBad, Passes, Checked, ReportMeaning}
 use Rattle.selection.specs.Table.Tally.{none, one, other}
-use Rattle.selection.specs.Demand.{Leaves, SomeLeaves, FirstLeaves, RefusedExactly}
+use Rattle.selection.specs.Demand.{Leaves, SomeLeaves, FirstLeaves, RefusedExactly, CellTold}
 use Rattle.selection.specs.declared.table.Outcome.{Outcome}
 use Rattle.selection.specs.declared.table.Outcome.the-variants.{Passed, Bad, Refused}
 use Rattle.selection.specs.declared.table.Report.{Report}
-use Rattle.selection.specs.declared.table.BadCell.{BadCell}
+use Rattle.selection.specs.declared.CellVerdict.{CellVerdict}
+use Rattle.selection.specs.declared.CellVerdict.the-variants as C
+use Rattle.selection.proofs.BiasedPoints.{not-allowed, known-not-refused}
 use Rattle.selection.proofs.Tables.{no-table, cell-row, cell-column}
 
 -- -2D ≤ 3z ≤ 2D exactly if -8D ≤ 3·4z ≤ 8D
@@ -47,47 +50,43 @@ tally-none (suc m) h = other (h m (omega arith)) (tally-none m (λ k l. h k (ome
 kept : {t : List ℕ} → Passes t → (k : ℕ) → k < 2048 → SomeLeaves t k → ⊥
 kept p k h s = let a = to-against (s .leaves) in a .broken (p .allowed k h _ _ (a .point))
 
-first-leaves : {t : List ℕ} (b : BadCell) → FirstBad t (b .row) (b .column) (b .witness .divisor) (b .witness .remainder) → FirstLeaves t b
-first-leaves {t} b f =
-    let k = 128 * b .row + b .column in
-    let w : LeastWitness (k / 128) (k % 128) (digit (getD t k 0)) (b .witness .divisor) (b .witness .remainder) =
-    subst (λ (r : ℕ). LeastWitness r (k % 128) (digit (getD t k 0)) (b .witness .divisor) (b .witness .remainder)) (sym (cell-row (b .row) (b .column) (f .column)))
-    (subst (λ (c : ℕ). LeastWitness (b .row) c (digit (getD t k 0)) (b .witness .divisor) (b .witness .remainder)) (sym (cell-column (b .row) (b .column) (f .column))) (f .witness)) in
+first-leaves : {t : List ℕ} {r c D : ℕ} {P : ℤ} (n : ℕ) → FirstBad t r c D P
+    → FirstLeaves t (record { refused = refusal 10 (128 * r + c); count = n; row = r; column = c; divisor = D; remainder = P })
+first-leaves {t} {r} {c} {D} {P} n f =
+    let k = 128 * r + c in
+    let w : LeastWitness (k / 128) (k % 128) (digit (getD t k 0)) D P = rw (cell-row r c (f .column), cell-column r c (f .column)) (f .witness) in
     record {
+      place = refl;
       cell = record { here = of-bad (f .first .here); before = λ j h s. f .first .before j h (to-bad s) };
       leaves = of-against (w .against);
       divisor-least = λ D P l. w .divisor-least D P (to-against l);
       remainder-least = λ P l. w .remainder-least P (to-against l);
     }
 
-pub refused-exactly : {t : List ℕ} {a : Report} → Table t → Checked t a → RefusedExactly t a
-refused-exactly {t} {a} h x = go (a .outcome) refl (x .means)
+pub refused-exactly : {t : List ℕ} {a : Report} → Table t → Checked t a → RefusedExactly t (reportNumbers a)
+refused-exactly {t} {a} h x = go (a .count) (a .outcome) (x .means)
   where
-    go : (o : Outcome) → a .outcome ≡ o → ReportMeaning t (a .count) o → RefusedExactly t a
-    go Passed e w =
-        record {
-          when = ((λ b. absurd (clash (sym e ∙ b .1))), λ l. absurd (kept (w .0) (l .0) (l .1) (l .2)));
-          count = subst (Tally (SomeLeaves t) 2048) (sym (w .1)) (tally-none 2048 (kept (w .0)));
-          first = λ b f. absurd (clash (sym e ∙ f));
-        }
-      where
-        clash : {b : BadCell} → Passed ≡ Bad b → ⊥
-        clash f = let z : _≡_ {A = ℕ} 0 1 = cc in omega arith
-    go (Bad b) e w =
-        record {
-          when = (
-            (λ c. let f = w .2 in let hr = f .row in let hc = f .column in (128 * b .row + b .column, omega arith, of-bad (f .first .here))),
-            λ l. (b, e),
-          );
-          count = tally-as (w .1);
-          first = λ c f. subst (FirstLeaves t) (bad-same (sym e ∙ f)) (first-leaves b (w .2));
-        }
-      where
-        given : BadCell → Outcome → BadCell
-        given d Passed = d
-        given d (Bad c) = c
-        given d (Refused f) = d
+    go : (n : ℕ) (o : Outcome) → ReportMeaning t n o → RefusedExactly t (outcomeNumbers n o)
+    go n Passed w = record {
+      when = ((λ e. absurd (omega arith)), λ l. absurd (kept (w .0) (l .0) (l .1) (l .2)));
+      count = tally-none 2048 (kept (w .0));
+      first = λ e. absurd (omega arith);
+      otherwise = λ e. refl;
+    }
+    go n (Bad b) w = record {
+      when = ((λ e. let f = w .2 in let hr = f .row in let hc = f .column in (128 * b .row + b .column, omega arith, of-bad (f .first .here))), λ l. refl);
+      count = tally-as (w .1);
+      first = λ e. first-leaves n (w .2);
+      otherwise = λ e. absurd (e refl);
+    }
+    go n (Refused f) w = no-table h (w .0)
 
-        bad-same : {c : BadCell} → Bad b ≡ Bad c → b ≡ c
-        bad-same f = ap (given b) f
-    go (Refused f) e w = no-table h (w .0)
+pub cell-told : {r c b : ℕ} → IsCell r c b → (v : CellVerdict) → CellChecked r c b v → CellTold r c b (cellNumbers v)
+cell-told k C.Allowed x = record { done = refl; allowed = ((λ e. x .means .1), λ a. refl); besides = λ e. refl; disallowed = λ e. absurd (e refl) }
+cell-told k (C.Disallowed w) x = record {
+  done = refl;
+  allowed = ((λ e. absurd (omega arith)), λ a. absurd (not-allowed (x .means .1 .against) a));
+  besides = λ e. absurd (omega arith);
+  disallowed = λ e. (refl, x .means .1);
+}
+cell-told k (C.Refused f) x = known-not-refused k (x .means)

@@ -57,6 +57,11 @@ admissionOf (O.Refused f) = A.Refused f
 abbrev pub admission : Report → Admission
 admission a = admissionOf (a .outcome)
 
+-- the numbers of an admission: a refusal, or 0 and 0
+abbrev pub refusalOf : Admission → Refusal
+refusalOf A.Admitted = refusal 0 0
+refusalOf (A.Refused f) = f
+
 -- the first refusal of two, in their order
 abbrev pub firstOf : Admission → Admission → Admission
 firstOf A.Admitted v = v
