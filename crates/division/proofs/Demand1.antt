@@ -26,7 +26,7 @@ use Rattle.division.proofs.Calls.{whole-ladder, whole-lent, binary64-la
 
 -- the check, from its report
 module _ (t : List ℕ) where
-  check-same : (n : ℕ) (o : Outcome) → outcomeNumbers n o .refused ≡ refusalOf (admissionOf o)
+  check-same : (n : ℕ) (o : Outcome) → outcomeNumbers n o .refusal ≡ refusalOf (admissionOf o)
   check-same n O.Passed = refl
   check-same n (O.Bad b) = refl
   check-same n (O.Refused f) = refl

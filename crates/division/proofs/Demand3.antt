@@ -39,10 +39,10 @@ binary64-same t u p q direction a b =
     rw (passed-last p (binary64Rungs direction), passed-last q (binary64Rungs direction), binary64-through t direction a b p, binary64-through u direction a b q) refl
 
 -- no refusal is the answer to a table that passes
-passed : (t : List ℕ) (a : Report) → Checked t a → (reportNumbers a .refused ≡ refusal 0 0) ↔ Passes t
-passed t a c = (go (a .count) (a .outcome) (c .means), λ p. ap (λ (b : Report). reportNumbers b .refused) (checked-one a passedReport c (record { means = (p, refl) })))
+passed : (t : List ℕ) (a : Report) → Checked t a → (reportNumbers a .refusal ≡ refusal 0 0) ↔ Passes t
+passed t a c = (go (a .count) (a .outcome) (c .means), λ p. ap (λ (b : Report). reportNumbers b .refusal) (checked-one a passedReport c (record { means = (p, refl) })))
   where
-    go : (n : ℕ) (o : Outcome) → ReportMeaning t n o → outcomeNumbers n o .refused ≡ refusal 0 0 → Passes t
+    go : (n : ℕ) (o : Outcome) → ReportMeaning t n o → outcomeNumbers n o .refusal ≡ refusal 0 0 → Passes t
     go n O.Passed w e = w .0
     go n (O.Bad b) w e = absurd (omega (arith, ap (λ (f : Refusal). f .number) e))
     go n (O.Refused f) w e = absurd (let z : f .number ≡ 0 = ap (λ (f : Refusal). f .number) e in ⊎-elim (λ u. omega (arith, u .0)) (⊎-elim (λ u. omega (arith, u .0)) (λ u. u)) (w .0 .holds))

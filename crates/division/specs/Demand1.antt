@@ -4,7 +4,8 @@ use mathlib.Core.Path.{_≡_}
 use mathlib.Core.List.{List, _++_}
 use Prim.Native.Nat.{ℕ, _+_, _*_, _<_}
 use lib.ListN.{length, getD}
-use Rattle.selection.specs.Answer.{refusal, refusalOf, cellNumbers, cellZeros, ReportNumbers, reportNumbers, reportZeros}
+use Rattle.selection.specs.Answer.{refusal, refusalOf, cellNumbers, cellZeros, reportNumbers, reportZeros}
+use Rattle.selection.specs.declared.numbers.ReportNumbers.{ReportNumbers}
 use Rattle.selection.specs.Refusals.{Wrongs, ladder, FirstRefusal, RefusedBy, Refuses}
 use Rattle.selection.specs.Cell.{LeastWitness, cellRungs, digit}
 use Rattle.selection.specs.Maker.{limitsRungs, limitsZeros, makeRungs}
@@ -22,7 +23,7 @@ pub record Carries (t : List ℕ) (p : ℕ) (x : ReportNumbers) : Type 0 where
 
 -- the check: zeros besides under 8 and 9
 pub record CheckRefuses (t : List ℕ) (x : ReportNumbers) : Type 0 where
-  pub by : RefusedBy (Wrongs (tableRungs t)) (x .refused)
+  pub by : RefusedBy (Wrongs (tableRungs t)) (x .refusal)
   pub besides : (n p : ℕ) → n < 10 → FirstRefusal (Wrongs (tableRungs t)) n p → x ≡ reportZeros (refusal n p)
   pub carries : (p : ℕ) → FirstRefusal (Wrongs (tableRungs t)) 10 p → Carries t p x
 
@@ -32,7 +33,7 @@ pub record RunRefuses (C : ℕ → ℕ → Type 0) (t : List ℕ) (N D n : ℕ) 
   pub buffer : (k p : ℕ) → FirstRefusal C k p → bufferOf t N D n b place ≡ b
 
 pub record Demand1 : Type 0 where
-  pub check-cell : (r c b : ℕ) → Refuses (Wrongs (cellRungs r c b)) (λ x. x .refused) cellZeros (cellNumbers (cellOf r c b))
+  pub check-cell : (r c b : ℕ) → Refuses (Wrongs (cellRungs r c b)) (λ x. x .refusal) cellZeros (cellNumbers (cellOf r c b))
   pub row-limits : (r : ℕ) → Refuses (Wrongs (limitsRungs r)) (λ x. x .refusal) limitsZeros (rowLimitsOf r)
   pub make-table : (s : List ℕ) → RefusedBy (Wrongs (makeRungs (length s))) (makeOf s)
   pub make-buffer : (s : List ℕ) (n p : ℕ) → FirstRefusal (Wrongs (makeRungs (length s))) n p → madeBuffer s ≡ s

@@ -31,7 +31,7 @@ pub record Demand3 : Type 0 where
   pub refused : (t : List ℕ) → Table t → (a : Report) → Checked t a → RefusedExactly t (reportNumbers a)
   -- every table has one answer, which is no refusal exactly if it passes, and some table does
   pub answered : (t : List ℕ) → (a : Report) × Checked t a × ((b : Report) → Checked t b → b ≡ a)
-  pub passed : (t : List ℕ) (a : Report) → Checked t a → (reportNumbers a .refused ≡ refusal 0 0) ↔ Passes t
+  pub passed : (t : List ℕ) (a : Report) → Checked t a → (reportNumbers a .refusal ≡ refusal 0 0) ↔ Passes t
   -- a single cell tells whether its digit is allowed
   pub cells : (r c b : ℕ) → IsCell r c b → CellTold r c b (cellNumbers (cellOf r c b))
   pub some : (t : List ℕ) × Passes t

@@ -1,148 +1,32 @@
-// The C interface: thin exports of the three layers. A slice is a pointer and a length; an answer comes back as the layer's own struct, or,
-// where that holds an enum, as its paper numbers.
+// The C interface: thin exports of the three layers. A slice is a pointer and a length; an answer comes back as the layer's own struct.
 ghost use mathlib.Core.Path.{_≡_};
 ghost use Rattle.selection.specs.Answer.{cellNumbers, reportNumbers};
 ghost use Rattle.selection.specs.Computed.{cellOf, reportOf, rowLimitsOf, makeOf, madeBuffer, madeTable};
-ghost use Rattle.selection.specs.declared.CellVerdict.the-variants as C;
 ghost use Rattle.recurrence.specs.Run.{runOf, bufferOf};
 ghost use Rattle.division.specs.Whole.{wholeOf};
 ghost use Rattle.division.specs.Binary64.{binary64Of};
-ghost use Rattle.quendaric.specs.Reply.{cellReply, tableReply};
-ghost use Rattle.quendaric.specs.BadReply.{CellOfReport, badReply};
 use division::binary64::Binary64Answer;
 use division::whole::WholeAnswer;
 use recurrence::RunAnswer;
-use selection::CellVerdict;
 use selection::Refusal;
-use selection::Witness;
 use selection::maker::RowLimits;
-use selection::table::Outcome;
-use selection::table::Report;
-
-// The replies: refusal (0: none) and place first, zeros where a call refuses. include/quendaric.h declares the same fields.
-#[repr(C)]
-pub struct CellReply {
-    pub refusal: u64,
-    pub place: u64,
-    pub allowed: u64,
-    pub divisor: u64,
-    pub remainder: i64,
-}
-
-#[repr(C)]
-pub struct TableReply {
-    pub refusal: u64,
-    pub place: u64,
-    pub count: u64,
-    pub row: u64,
-    pub column: u64,
-    pub divisor: u64,
-    pub remainder: i64,
-}
-
-// The reply to a digit that is not allowed. The witness is a parameter, since a parameter's i64 is known to fit its field.
-fn disallowed_reply(witness: Witness) -> CellReply
-    ensures { λ r. ⌜ r ≡ cellReply (cellNumbers (C.Disallowed witness)) ⌝ }
-{
-    CellReply {
-        refusal: 0,
-        place: 0,
-        allowed: 0,
-        divisor: witness.divisor,
-        remainder: witness.remainder,
-    }
-}
-
-// A cell's verdict as its reply.
-fn cell_reply(x: CellVerdict) -> CellReply
-    ensures { λ r. ⌜ r ≡ cellReply (cellNumbers x) ⌝ }
-{
-    match x {
-        CellVerdict::Allowed => CellReply {
-            refusal: 0,
-            place: 0,
-            allowed: 1,
-            divisor: 0,
-            remainder: 0,
-        },
-        CellVerdict::Disallowed(witness) => disallowed_reply(witness),
-        CellVerdict::Refused(f) => CellReply {
-            refusal: f.number,
-            place: f.place,
-            allowed: 0,
-            divisor: 0,
-            remainder: 0,
-        },
-    }
-}
-
-// The reply to a table with a bad cell, from its parts.
-fn bad_reply(place: u64, count: u64, row: u64, column: u64, witness: Witness) -> TableReply
-    ensures { λ r. ⌜ r ≡ badReply place count row column witness ⌝ }
-{
-    TableReply {
-        refusal: 10,
-        place,
-        count,
-        row,
-        column,
-        divisor: witness.divisor,
-        remainder: witness.remainder,
-    }
-}
-
-// The check's report as its reply. The place is the cell's index.
-fn table_reply(x: Report) -> TableReply
-    requires { ⌜ CellOfReport x ⌝ }
-    ensures { λ r. ⌜ r ≡ tableReply (reportNumbers x) ⌝ }
-{
-    let outcome = x.outcome;
-    match outcome {
-        Outcome::Passed => TableReply {
-            refusal: 0,
-            place: 0,
-            count: 0,
-            row: 0,
-            column: 0,
-            divisor: 0,
-            remainder: 0,
-        },
-        Outcome::Bad(cell) => {
-            let witness = cell.witness;
-            bad_reply(
-                128 * cell.row + cell.column,
-                x.count,
-                cell.row,
-                cell.column,
-                witness,
-            )
-        }
-        Outcome::Refused(f) => TableReply {
-            refusal: f.number,
-            place: f.place,
-            count: 0,
-            row: 0,
-            column: 0,
-            divisor: 0,
-            remainder: 0,
-        },
-    }
-}
+use selection::numbers::CellNumbers;
+use selection::numbers::ReportNumbers;
 
 // A single cell: is the digit of this byte allowed?
 #[no_mangle]
-pub extern "C" fn quendaric_check_cell(row: u64, column: u64, byte: u8) -> CellReply
-    ensures { λ r. ⌜ r ≡ cellReply (cellNumbers (cellOf row column byte)) ⌝ }
+pub extern "C" fn quendaric_check_cell(row: u64, column: u64, byte: u8) -> CellNumbers
+    ensures { λ r. ⌜ r ≡ cellNumbers (cellOf row column byte) ⌝ }
 {
-    cell_reply(selection::check_cell(row, column, byte))
+    selection::numbers::cell_numbers(row, column, byte)
 }
 
 // A table: passed, or its first bad cell.
 #[no_mangle]
-pub extern "C" fn quendaric_check_table(table: &[u8]) -> TableReply
-    ensures { λ r. ⌜ r ≡ tableReply (reportNumbers (reportOf (now (table .entry)))) ⌝ }
+pub extern "C" fn quendaric_check_table(table: &[u8]) -> ReportNumbers
+    ensures { λ r. ⌜ r ≡ reportNumbers (reportOf (now (table .entry))) ⌝ }
 {
-    table_reply(selection::table::check_table(table))
+    selection::numbers::table_numbers(table)
 }
 
 // The columns at which the digits of a made row change.

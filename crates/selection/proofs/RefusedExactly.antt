@@ -51,7 +51,7 @@ kept : {t : List ℕ} → Passes t → (k : ℕ) → k < 2048 → SomeLeaves t k
 kept p k h s = let a = to-against (s .leaves) in a .broken (p .allowed k h _ _ (a .point))
 
 first-leaves : {t : List ℕ} {r c D : ℕ} {P : ℤ} (n : ℕ) → FirstBad t r c D P
-    → FirstLeaves t (record { refused = refusal 10 (128 * r + c); count = n; row = r; column = c; divisor = D; remainder = P })
+    → FirstLeaves t (record { refusal = refusal 10 (128 * r + c); count = n; row = r; column = c; divisor = D; remainder = P })
 first-leaves {t} {r} {c} {D} {P} n f =
     let k = 128 * r + c in
     let w : LeastWitness (k / 128) (k % 128) (digit (getD t k 0)) D P = rw (cell-row r c (f .column), cell-column r c (f .column)) (f .witness) in

@@ -40,14 +40,14 @@ never-refused hr hc hb j e = known-not-refused (record { row = hr; column = hc; 
 
 -- a single cell refuses by its rungs, with zeros besides
 module _ (r c b : ℕ) where
-  pub cell-refuses : Refuses (Wrongs (cellRungs r c b)) (λ x. x .refused) cellZeros (cellNumbers (cellOf r c b))
-  cell-refuses = subst (Refuses (Wrongs (cellRungs r c b)) (λ x. x .refused) cellZeros) (sym (numbers (ladder (cellRungs r c b))))
-      (refuses (cell-ladder r c b) (λ x. x .refused) cellZeros (cellNumbers (cellVerdictOf (searchOf r c b))) (none (searchOf r c b)) (λ f. refl) refl)
+  pub cell-refuses : Refuses (Wrongs (cellRungs r c b)) (λ x. x .refusal) cellZeros (cellNumbers (cellOf r c b))
+  cell-refuses = subst (Refuses (Wrongs (cellRungs r c b)) (λ x. x .refusal) cellZeros) (sym (numbers (ladder (cellRungs r c b))))
+      (refuses (cell-ladder r c b) (λ x. x .refusal) cellZeros (cellNumbers (cellVerdictOf (searchOf r c b))) (none (searchOf r c b)) (λ f. refl) refl)
     where
       numbers : (v : Admission) → cellNumbers (answerBy C.Refused (cellVerdictOf (searchOf r c b)) v) ≡ answerBy cellZeros (cellNumbers (cellVerdictOf (searchOf r c b))) v
       numbers A.Admitted = refl
       numbers (A.Refused f) = refl
 
-      none : (h : SearchResult) → cellNumbers (cellVerdictOf h) .refused ≡ refusal 0 0
+      none : (h : SearchResult) → cellNumbers (cellVerdictOf h) .refusal ≡ refusal 0 0
       none NoWitness = refl
       none (LeastAt d w) = refl

@@ -1,5 +1,6 @@
 -- The paper numbers of each answer: document 01, "Who sends bad input". The refusal's number (0: none) and place, and the values, zeros where it refuses.
-use Prim.Native.Nat.{ℕ, _+_, _*_}
+use mathlib.Core.Path.{_≡_}
+use Prim.Native.Nat.{ℕ, _+_, _*_, _≤_}
 use lib.IntN.{ℤ, pos}
 use Rattle.selection.specs.declared.Refusal.{Refusal}
 use Rattle.selection.specs.declared.Admission.{Admission}
@@ -9,44 +10,41 @@ use Rattle.selection.specs.declared.CellVerdict.the-variants as C
 use Rattle.selection.specs.declared.table.Outcome.{Outcome}
 use Rattle.selection.specs.declared.table.Outcome.the-variants as O
 use Rattle.selection.specs.declared.table.Report.{Report}
+use Rattle.selection.specs.declared.table.BadCell.{BadCell}
+use Rattle.selection.specs.declared.Witness.{Witness}
+use Rattle.selection.specs.declared.numbers.CellNumbers.{CellNumbers}
+use Rattle.selection.specs.declared.numbers.ReportNumbers.{ReportNumbers}
 
 abbrev pub refusal : ℕ → ℕ → Refusal
 refusal n p = record { number = n; place = p }
 
 -- a single cell's answer: an allowed digit (1) has no witness, a disallowed one (0) is an ordinary verdict
-pub record CellNumbers : Type 0 where
-  pub refused : Refusal
-  pub allowed : ℕ
-  pub divisor : ℕ
-  pub remainder : ℤ
-
 abbrev pub cellZeros : Refusal → CellNumbers
-cellZeros f = record { refused = f; allowed = 0; divisor = 0; remainder = pos 0 }
+cellZeros f = record { refusal = f; allowed = 0; divisor = 0; remainder = pos 0 }
 
 abbrev pub cellNumbers : CellVerdict → CellNumbers
-cellNumbers C.Allowed = record { refused = refusal 0 0; allowed = 1; divisor = 0; remainder = pos 0 }
-cellNumbers (C.Disallowed w) = record { refused = refusal 0 0; allowed = 0; divisor = w .divisor; remainder = w .remainder }
+cellNumbers C.Allowed = record { refusal = refusal 0 0; allowed = 1; divisor = 0; remainder = pos 0 }
+cellNumbers (C.Disallowed w) = record { refusal = refusal 0 0; allowed = 0; divisor = w .divisor; remainder = w .remainder }
 cellNumbers (C.Refused f) = cellZeros f
 
 -- the check's answer: refusal 10 also carries count, cell and witness
-pub record ReportNumbers : Type 0 where
-  pub refused : Refusal
-  pub count : ℕ
-  pub row : ℕ
-  pub column : ℕ
-  pub divisor : ℕ
-  pub remainder : ℤ
-
 abbrev pub reportZeros : Refusal → ReportNumbers
-reportZeros f = record { refused = f; count = 0; row = 0; column = 0; divisor = 0; remainder = pos 0 }
+reportZeros f = record { refusal = f; count = 0; row = 0; column = 0; divisor = 0; remainder = pos 0 }
+
+abbrev pub badNumbers : ℕ → ℕ → ℕ → Witness → ReportNumbers
+badNumbers n r c w = record { refusal = refusal 10 (128 * r + c); count = n; row = r; column = c; divisor = w .divisor; remainder = w .remainder }
 
 abbrev pub outcomeNumbers : ℕ → Outcome → ReportNumbers
 outcomeNumbers n O.Passed = reportZeros (refusal 0 0)
-outcomeNumbers n (O.Bad b) = record { refused = refusal 10 (128 * b .row + b .column); count = n; row = b .row; column = b .column; divisor = b .witness .divisor; remainder = b .witness .remainder }
+outcomeNumbers n (O.Bad b) = badNumbers n (b .row) (b .column) (b .witness)
 outcomeNumbers n (O.Refused f) = reportZeros f
 
 abbrev pub reportNumbers : Report → ReportNumbers
 reportNumbers a = outcomeNumbers (a .count) (a .outcome)
+
+-- what the code that forms them asks: the bad cell of a report, if it has one, is a cell of a table
+pub record CellOfReport (a : Report) : Type 0 where
+  pub cell : (b : BadCell) → a .outcome ≡ O.Bad b → (b .row ≤ 15) × (b .column ≤ 127)
 
 -- what every other call makes of a report: number and place alone
 abbrev pub admissionOf : Outcome → Admission

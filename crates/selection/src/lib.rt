@@ -3,6 +3,7 @@ mod bounds;
 pub mod kept;
 mod kept_words;
 pub mod maker;
+pub mod numbers;
 pub mod table;
 
 ghost use mathlib.Core.Path.{_≡_};
