@@ -1,5 +1,5 @@
 -- The classes of operands: which make the finite case, and what patterns of them have.
-use Rattle.laws.proofs.Basics.{_≡_, refl, sym, ap, subst, _∙_, Bool, true, false, cond, ⊎-elim, ℕ, _+_, _-_, _^_, _≤_, _<_, arith, eqb, le-ltb, ne-eqb}
+use Rattle.laws.proofs.Basics.{_≡_, refl, sym, ap, subst, _∙_, Bool, true, false, cond, ⊎-elim, ℕ, _+_, _-_, _^_, _≤_, _<_, arith, eqb, le-ltb, ne-eqb, _⊎_, inl, inr}
 use native.Mathlib.Nat.{mul-pos, eq-zero-or-pos}
 use lib.Pow.{pow-pos}
 use Rattle.division.specs.declared.format.Class.{Class}
@@ -85,3 +85,31 @@ by-finite P p h z f g = ⊎-elim (λ e. subst P (sym e) z) (λ w. by-nonzero P p
 
 pub nonzero-operand : (p : ℕ) → IsNonzero p → FiniteNonzero p
 nonzero-operand p h = counted p (by-nonzero (λ k. counts k ≡ true) p h refl refl)
+
+-- the cases of `Ieee` cover all pairs of classes
+pub by-cases : (a b : ℕ) {P : Type 0} → ((classOf a ≡ Nan) ⊎ (classOf b ≡ Nan) → P) → (((classOf a ≡ Zero) × (classOf b ≡ Zero)) ⊎ ((classOf a ≡ Infinite) × (classOf b ≡ Infinite)) → P)
+    → (IsNonzero a → classOf b ≡ Zero → P) → (classOf a ≡ Infinite → IsFinite b → P) → (((classOf a ≡ Zero) × IsNonzero b) ⊎ (IsFinite a × (classOf b ≡ Infinite)) → P)
+    → (IsNonzero a → IsNonzero b → P) → P
+by-cases a b {P} nan invalid by-zero infinite zero quotient = go (classOf a) refl (classOf b) refl
+  where
+    over : IsNonzero a → (l : Class) → classOf b ≡ l → P
+    over h Zero f = by-zero h f
+    over h Subnormal f = quotient h (inl f)
+    over h Normal f = quotient h (inr f)
+    over h Infinite f = zero (inr (inr h, f))
+    over h Nan f = nan (inr f)
+
+    go : (k : Class) → classOf a ≡ k → (l : Class) → classOf b ≡ l → P
+    go Zero e Zero f = invalid (inl (e, f))
+    go Zero e Subnormal f = zero (inl (e, inl f))
+    go Zero e Normal f = zero (inl (e, inr f))
+    go Zero e Infinite f = zero (inr (inl e, f))
+    go Zero e Nan f = nan (inr f)
+    go Subnormal e l f = over (inl e) l f
+    go Normal e l f = over (inr e) l f
+    go Infinite e Zero f = infinite e (inl f)
+    go Infinite e Subnormal f = infinite e (inr (inl f))
+    go Infinite e Normal f = infinite e (inr (inr f))
+    go Infinite e Infinite f = invalid (inr (e, f))
+    go Infinite e Nan f = nan (inr f)
+    go Nan e l f = nan (inl e)

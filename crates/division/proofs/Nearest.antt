@@ -4,7 +4,7 @@ use Rattle.laws.proofs.Basics.{_≡_, sym, ap, inl, inr, ⊎-elim, ℕ, suc, mi
 use native.Mathlib.Nat.{le-of-lt, lt-of-lt-of-le, eq-zero-or-pos, eq-or-lt-of-le, le-refl, le-of-eq, lt-of-not-le, not-le-of-lt, le-trans}
 use Rattle.division.specs.declared.rounding.Mode.{Mode}
 use Rattle.division.specs.declared.rounding.Mode.the-variants.{Nearest, Toward, Away}
-use Rattle.division.specs.Rounding.{AwayFromZero, ToNearest, Rounds}
+use Rattle.division.specs.Rounding.{TowardZero, AwayFromZero, ToNearest, Rounds}
 use Rattle.division.specs.Computed.{roundedTo, tailAt}
 use Rattle.laws.proofs.Division.{le-or-lt}
 
@@ -38,6 +38,27 @@ module _ (f : ℕ → ℕ) (up : (i j : ℕ) → i < j → f i < f j) where
   -- no two numbers round one magnitude
   pub rounds-one : (mode : Mode) (m x y : ℕ) → Rounds mode f m x → Rounds mode f m y → x ≡ y
   rounds-one mode m x y p q = omega (arith, rounds-mono mode m m x y (le-refl m) p q, rounds-mono mode m m y x (le-refl m) q p)
+
+  -- what is exact stays
+  pub rounds-exact : (mode : Mode) (x : ℕ) → Rounds mode f (f (2 * x)) x
+  rounds-exact Toward x = record { under = le-refl _; next = up (2 * x) (2 * x + 2) (omega arith) }
+  rounds-exact Away x = record { over = le-refl _; last = λ p. up (2 * x - 2) (2 * x) (omega arith) }
+  rounds-exact Nearest x = record {
+    above = λ p. le-of-lt (up (2 * x - 1) (2 * x) (omega arith));
+    below = le-of-lt (up (2 * x) (2 * x + 1) (omega arith));
+    even = ⊎-elim (λ e. absurd (omega (arith, up (2 * x) (2 * x + 1) (omega arith)))) (λ w. absurd (omega (arith, w .1, up (2 * x - 1) (2 * x) (omega (arith, w .0)))));
+  }
+
+  -- toward zero no number is greater than that of another mode, and away from zero none is smaller
+  pub toward-least : (mode : Mode) (m x y : ℕ) → TowardZero f m x → Rounds mode f m y → x ≤ y
+  toward-least Toward m x y p q = rounds-mono Toward m m x y (le-refl m) p q
+  toward-least Away m x y p q = ⊎-elim (λ (g : x ≤ y). g) (λ (g : y < x). absurd (omega (arith, up (2 * y) (2 * x) (omega arith)))) (le-or-lt x y)
+  toward-least Nearest m x y p q = ⊎-elim (λ (g : x ≤ y). g) (λ (g : y < x). absurd (omega (arith, up (2 * y + 1) (2 * x) (omega arith)))) (le-or-lt x y)
+
+  pub away-most : (mode : Mode) (m x y : ℕ) → Rounds mode f m x → AwayFromZero f m y → x ≤ y
+  away-most Toward m x y p q = toward-least Away m x y p q
+  away-most Away m x y p q = rounds-mono Away m m x y (le-refl m) p q
+  away-most Nearest m x y p q = ⊎-elim (λ (g : x ≤ y). g) (λ (g : y < x). absurd (omega (arith, up (2 * y) (2 * x - 1) (omega arith), p .above (omega arith)))) (le-or-lt x y)
 
   -- the rounding of k units and a tail is the rounding of the exact magnitude
   module _ (m k : ℕ) (low : f (2 * k) ≤ m) (high : m < f (2 * k + 2)) where

@@ -46,7 +46,7 @@ fraction-one p q e f = ⊎-elim
     (eq-zero-or-pos (field q))
 
 -- a 64-bit pattern is determined by its magnitude and its sign
-pattern-one : (p q : ℕ) → p < 2 ^ 64 → q < 2 ^ 64 → magnitude p ≡ magnitude q → negative p ≡ negative q → p ≡ q
+pub pattern-one : (p q : ℕ) → p < 2 ^ 64 → q < 2 ^ 64 → magnitude p ≡ magnitude q → negative p ≡ negative q → p ≡ q
 pattern-one p q hp hq e s =
     let f = field-one p q e in
     let r = fraction-one p q e f in

@@ -1,5 +1,5 @@
 -- Refused exactly when a point leaves the range, and a single cell's verdict: demand 3's words on the check.
-use Rattle.laws.proofs.Basics.{_≡_, refl, sym, subst, ap, _∙_, _↔_, List, ℕ, zero, suc, _+_, _*_, _/_, _%_, _<_, arith, ℤ, pos, _-ℤ_, _*ℤ_, getD}
+use Rattle.laws.proofs.Basics.{refl, _↔_, List, ℕ, zero, suc, _+_, _*_, _/_, _%_, _<_, arith, ℤ, pos, _-ℤ_, _*ℤ_, getD}
 use Rattle.laws.proofs.Diff.{diffs, by-diff}
 use Rattle.selection.specs.Word.{Within}
 use Rattle.selection.specs.Answer.{refusal, cellNumbers, outcomeNumbers, reportNumbers}

@@ -1,7 +1,7 @@
 -- The paper numbers of each answer: document 01, "Who sends bad input". The refusal's number (0: none) and place, and the values, zeros where it refuses.
 use mathlib.Core.Path.{_≡_}
 use Prim.Native.Nat.{ℕ, _+_, _*_, _≤_}
-use lib.IntN.{ℤ, pos}
+use lib.IntN.{pos}
 use Rattle.selection.specs.declared.Refusal.{Refusal}
 use Rattle.selection.specs.declared.Admission.{Admission}
 use Rattle.selection.specs.declared.Admission.the-variants as A

@@ -1,4 +1,4 @@
-use Rattle.laws.proofs.Basics.{arith, lt-ltb, le-ltb, le-leb, lt-leb, needs}
+use Rattle.laws.proofs.Basics.{arith, lt-ltb, le-leb, lt-leb, needs}
 use native.Mathlib.Nat.{mul-le-mul-right}
 use Rattle.laws.proofs.Tests.{tests}
 use Rattle.selection.proofs.too_high_at.Statement.{statement}

@@ -1,4 +1,4 @@
-use Rattle.laws.proofs.Basics.{_≤_, _-_, _≡_, refl, sym, _∙_, arith, lt-ltb, le-ltb}
+use Rattle.laws.proofs.Basics.{_≤_, _-_, _≡_, sym, _∙_, arith, lt-ltb, le-ltb}
 use Rattle.laws.proofs.Tests.{tests}
 use Rattle.selection.specs.Refusals.{firstFrom}
 use Rattle.selection.specs.Allowed.{aboveFour}

@@ -1,0 +1,92 @@
+-- Binary64 answers by the logic's own account of IEEE 754, through every table that passes.
+use Rattle.laws.proofs.Basics.{_≡_, refl, ap, _∙_, sym, Bool, true, false, cond, List, ℕ, zero, suc, _≤_, zero-le, arith, T}
+use lib.Ieee.{ofBits, le}
+use lib.Ieee.Scale.{finite}
+use Rattle.selection.specs.Answer.{refusal}
+use Rattle.selection.specs.Table.{Passes}
+use Rattle.selection.proofs.MadeTables.{kept-passes}
+use Rattle.selection.specs.declared.Refusal.{Refusal}
+use Rattle.division.specs.declared.format.Binary64Result.{Binary64Result}
+use Rattle.division.specs.declared.binary64.Binary64Answer.{Binary64Answer}
+use Rattle.division.specs.Format.{negative, magnitude, largestFinite}
+use Rattle.division.specs.Ieee.{Ieee}
+use Rattle.division.specs.Binary64.{binary64Of, binary64Values}
+use Rattle.division.proofs.Demand2.{demand-2}
+use Rattle.ieee.specs.LanguageQuotient.{valueOf, one}
+use Rattle.ieee.specs.Directions.{quotientSign, Pinned, turned, mirrored}
+use Rattle.ieee.specs.Ieee754.{IeeeThrough, NamedPatterns, Thirds, Ieee754}
+use Rattle.ieee.proofs.LanguageQuotient.{special-quotient, language-quotient}
+use Rattle.ieee.proofs.LanguageOrder.{SignedLe}
+use Rattle.ieee.proofs.Operands.{top, magnitude-top, seen, finite-stands}
+use Rattle.ieee.proofs.AnswerUnits.{is-le}
+use Rattle.ieee.proofs.Directions.{directed}
+use Rattle.ieee.proofs.DirectedOne.{pinned-one}
+use Rattle.ieee.proofs.DirectionOrder.{directions-ordered, toward-zero}
+use Rattle.ieee.proofs.InexactFlag.{silent}
+use Rattle.ieee.proofs.ExactQuotients.{exact-quotient, over-one, over-itself}
+use Rattle.ieee.proofs.SignSymmetry.{turned-neg, dividend-turned, divisor-turned}
+
+-- an answer without a refusal is its pattern and flags
+abbrev told : Binary64Answer → Binary64Result
+told x = record { pattern = x .pattern; flags = x .flags }
+
+whole : (x : Binary64Answer) → x .refusal ≡ refusal 0 0 → x ≡ binary64Values (told x)
+whole x e = ap (λ (r : Refusal). record { refusal = r; pattern = x .pattern; flags = x .flags }) e
+
+mirrored-span : (d : ℕ) → mirrored d ≤ 3
+mirrored-span zero = omega arith
+mirrored-span (suc zero) = omega arith
+mirrored-span (suc (suc zero)) = omega arith
+mirrored-span (suc (suc (suc d))) = omega arith
+
+sided-span : (s : Bool) → cond s 2 3 ≤ 3
+sided-span true = omega arith
+sided-span false = omega arith
+
+module _ (t : List ℕ) (p : Passes t) where
+  means : (direction a b : ℕ) → direction ≤ 3 → Ieee direction a b (told (binary64Of t direction a b))
+  means direction a b l = demand-2 .passed t p .binary64 direction a b l .meaning
+
+  answer-is : (direction a b : ℕ) {y : Binary64Result} → direction ≤ 3 → told (binary64Of t direction a b) ≡ y → binary64Of t direction a b ≡ binary64Values y
+  answer-is direction a b l e = whole (binary64Of t direction a b) (demand-2 .passed t p .binary64 direction a b l .done) ∙ ap binary64Values e
+
+  pinned : (direction a b : ℕ) → direction ≤ 3 → Pinned direction a b (binary64Of t direction a b .pattern)
+  pinned d a b l = record { special = special-quotient d a b (means d a b l); directed = λ f. directed a b (f .dividend) (f .divisor) d l (means d a b l) }
+
+  through : IeeeThrough t
+  through = record {
+    language = language-quotient t p;
+    pinned = pinned;
+    only = λ d a b q l u. pinned-one d a b q (binary64Of t d a b .pattern) u (pinned d a b l);
+    ordered = λ a b f. directions-ordered a b (means 3 a b (omega arith)) (means 0 a b (omega arith)) (means 2 a b (omega arith)) (f .dividend) (f .divisor);
+    toward-zero = λ a b.
+        let d : ℕ = cond (quotientSign (valueOf a) (valueOf b)) 2 3 in
+        let l = sided-span (quotientSign (valueOf a) (valueOf b)) in
+        answer-is 1 a b (omega arith) (toward-zero a b (means 1 a b (omega arith)) (means d a b l)) ∙ sym (answer-is d a b l refl);
+    silent = λ d a b l f. silent d a b (means d a b l) (f .dividend) (f .divisor);
+    exact = λ d a b q l f w y s. answer-is d a b l (exact-quotient d a b q (means d a b l) (f .dividend) (f .divisor) w y s);
+    over-one = λ d a l w h. answer-is d a one l (over-one d a (means d a one l) w h);
+    over-itself = λ d a l h. answer-is d a a l (over-itself d a (means d a a l) h);
+    dividend-turned = λ d a b l w. let o = dividend-turned d a b l w (means d (turned a) b l) (means (mirrored d) a b (mirrored-span d)) in record { value = o .0; flags = o .1 };
+    divisor-turned = λ d a b l w. let o = divisor-turned d a b l w (means d a (turned b) l) (means (mirrored d) a b (mirrored-span d)) in record { value = o .0; flags = o .1 };
+  }
+
+largest : (p : ℕ) → T (finite (valueOf p)) → T (le (valueOf p) (valueOf largestFinite))
+largest p h =
+    let f = seen p h .below in
+    is-le (valueOf p) (valueOf largestFinite) (negative p) false (magnitude p) top (finite-stands p f) (finite-stands largestFinite (omega arith)) (go (negative p) (magnitude-top p f))
+  where
+    go : (s : Bool) → magnitude p ≤ top → SignedLe s (magnitude p) false top
+    go true k = zero-le
+    go false k = k
+
+named : NamedPatterns
+unfolding ofBits
+named = record { one-is = refl; infinity-is = refl; quiet-nan-is = refl; largest-is = (tt, largest); turned-is = turned-neg }
+
+thirds : Thirds
+unfolding ofBits
+thirds = record { under = tt; not-over = λ h. h; over = tt; not-under = λ h. h; minus-under = tt; minus-not-under = λ h. h }
+
+pub ieee-754 : Ieee754
+ieee-754 = record { named = named; thirds = thirds; passed = through; kept = through _ kept-passes }

@@ -1,0 +1,132 @@
+-- The pattern of an answer in direction 0 is that of the language's own quotient, for all patterns; so it is in every direction where an operand is zero, infinite or not a number.
+use Rattle.laws.proofs.Basics.{_≡_, refl, sym, ap, _∙_, Bool, true, false, inl, inr, _⊎_, ⊎-elim, List, ℕ, _*_, _^_, _<_, arith, pos, eqb, eq-eqb, ne-eqb}
+use native.Mathlib.Nat.{eq-zero-or-pos, eq-of-mul-eq-mul-right, mul-pos}
+use lib.Pow.{pow-pos}
+use lib.Ieee.{Float, inf, fin, binary64, up, down, unlike, round, div, toBits}
+use lib.Ieee.Bits.{ofBits-toBits}
+use lib.Ieee.Fits.{up-pos, down-pos, div-fits}
+use lib.Ieee.Positive.{num, first-pos}
+use lib.Ieee.Scale.{round-same}
+use Rattle.selection.specs.Table.{Passes}
+use Rattle.division.specs.declared.format.Binary64Result.{Binary64Result}
+use Rattle.division.specs.declared.format.Class.{Class}
+use Rattle.division.specs.declared.format.Class.the-variants.{Zero, Subnormal, Normal, Infinite, Nan}
+use Rattle.division.specs.Format.{negative, magnitude, classOf, signBit, signOf}
+use Rattle.division.specs.Ieee.{IsNonzero, Ieee}
+use Rattle.division.specs.Binary64.{binary64Of}
+use Rattle.division.proofs.Classes.{nonzero-operand}
+use Rattle.division.proofs.Demand2.{demand-2}
+use Rattle.ieee.specs.LanguageQuotient.{valueOf, languageQuotient, LanguageQuotient}
+use Rattle.ieee.proofs.LanguageRounding.{quotient-bits}
+use Rattle.ieee.proofs.LanguageReading.{Number, Nonzero, Reads, finite, read}
+
+-- ---- two finite values
+
+-- its significand is 0 for a magnitude of 0, and else above 0
+none : (m u c d : ℕ) → 0 < u * c → m * u * c ≡ 0 * d → m ≡ 0
+none m u c d h e = ⊎-elim (λ (z : m ≡ 0). z) (λ (g : 0 < m). absurd (omega (arith, mul-pos g h))) (eq-zero-or-pos m)
+
+is-none : {s : Bool} {x : Float} (p : Number s 0 x) → eqb (p .m) 0 ≡ true
+is-none p = eq-eqb (p .m) 0 (none (p .m) (up (p .e)) (2 ^ 1074) (down (p .e)) (mul-pos (up-pos (p .e)) (pow-pos 1074)) (p .value))
+
+some : (m c n d : ℕ) → 0 < n → 0 < d → m * c ≡ n * d → 0 < m
+some m c n d g h e = first-pos m c (omega (arith, mul-pos g h))
+
+is-some : {s : Bool} {n : ℕ} {x : Float} (p : Number s n x) → 0 < n → 0 < p .m
+is-some {n = n} p h = first-pos (p .m) (up (p .e)) (some (p .m * up (p .e)) (2 ^ 1074) n (down (p .e)) h (down-pos (p .e)) (p .value))
+
+-- fractions of equal value
+cross : (m u d n v w a b c : ℕ) → 0 < c → m * u * c ≡ a * d → n * v * c ≡ b * w → m * u * w * b ≡ a * (n * v * d)
+cross m u d n v w a b c h p q = eq-of-mul-eq-mul-right c h (m * u * w * b) (a * (n * v * d)) (omega (arith, ap (λ (z : ℕ). z * (w * b)) p, ap (λ (z : ℕ). z * (a * d)) q))
+
+-- the logic's quotient of two numbers rounds that of their magnitudes
+quotient-is : {s t : Bool} {a b : ℕ} {x y : Float} → Number s a x → Number t b y → 0 < b → div binary64 x y ≡ round binary64 (unlike s t) a b
+unfolding div
+quotient-is {s} {t} {a} {b} p q h =
+    let n = is-some q h in
+    rw (p .is, q .is, ne-eqb (q .m) 0 (omega arith))
+    (round-same binary64 (unlike s t) (p .m * up (p .e) * down (q .e)) (q .m * up (q .e) * down (p .e)) a b (mul-pos (mul-pos n (up-pos (q .e))) (down-pos (p .e))) h
+    (cross (p .m) (up (p .e)) (down (p .e)) (q .m) (up (q .e)) (down (q .e)) a b (2 ^ 1074) (pow-pos 1074) (p .value) (q .value)))
+
+zero-bits : (s : Bool) → toBits binary64 (fin s 0 (pos 0)) ≡ signBit s
+unfolding toBits
+zero-bits true = refl
+zero-bits false = refl
+
+round-zero : (s : Bool) → toBits binary64 (round binary64 s 0 1) ≡ signBit s
+unfolding round toBits
+round-zero true = refl
+round-zero false = refl
+
+zero-is : {s t : Bool} {b : ℕ} {x y : Float} → Number s 0 x → Number t b y → 0 < b → toBits binary64 (div binary64 x y) ≡ signBit (unlike s t)
+zero-is {s} {t} {b} p q h = ap (toBits binary64) (quotient-is p q h ∙ round-same binary64 (unlike s t) 0 b 0 1 h (omega arith) (omega arith)) ∙ round-zero (unlike s t)
+
+-- ---- all pairs of classes
+module _ (direction a b : ℕ) {x : Binary64Result} (u : Ieee direction a b x) where
+  abbrev Same : Float → Float → Type 0
+  Same X Y = x .pattern ≡ toBits binary64 (div binary64 X Y)
+
+  over-infinite : {n : ℕ} (X Y : Float) → x ≡ record { pattern = signBit (signOf a b); flags = 0 } → Number (negative a) n X → Y ≡ inf (negative b) → Same X Y
+  unfolding div
+  over-infinite X Y z p q = rw (z, p .is, q) (sym (zero-bits (signOf a b)))
+
+  infinite-over : (l : Class) (X Y : Float) → classOf a ≡ Infinite → classOf b ≡ l → Reads a Infinite X → Reads b l Y → Same X Y
+  unfolding div toBits
+  infinite-over Zero X Y e f p q = rw (u .infinite e (inl f), p, q .is)
+  infinite-over Subnormal X Y e f p q = rw (u .infinite e (inr (inl f)), p, q .0 .is)
+  infinite-over Normal X Y e f p q = rw (u .infinite e (inr (inr f)), p, q .0 .is)
+  infinite-over Infinite X Y e f p q = rw (u .invalid (inr (e, f)), p, q)
+  infinite-over Nan X Y e f p q = rw (u .nan (inr f), p, q)
+
+  zero-over : (l : Class) (X Y : Float) → classOf a ≡ Zero → classOf b ≡ l → Reads a Zero X → Reads b l Y → Same X Y
+  unfolding div toBits
+  zero-over Zero X Y e f p q = rw (u .invalid (inl (e, f)), p .is, q .is, is-none p, is-none q)
+  zero-over Subnormal X Y e f p q = rw (u .zero (inl (e, inl f))) (sym (zero-is p (q .0) (q .1 .some)))
+  zero-over Normal X Y e f p q = rw (u .zero (inl (e, inr f))) (sym (zero-is p (q .0) (q .1 .some)))
+  zero-over Infinite X Y e f p q = over-infinite X Y (u .zero (inr (inl e, f))) p q
+  zero-over Nan X Y e f p q = rw (u .nan (inr f), p .is, q)
+
+  nonzero-over : (l : Class) (X Y : Float) → IsNonzero a → classOf b ≡ l → Nonzero a X → Reads b l Y → (IsNonzero b → Same X Y) → Same X Y
+  unfolding div toBits
+  nonzero-over Zero X Y e f p q h = let m = is-some (p .0) (p .1 .some) in rw (u .by-zero e f, p .0 .is, q .is, is-none q, ne-eqb (p .0 .m) 0 (omega arith))
+  nonzero-over Subnormal X Y e f p q h = h (inl f)
+  nonzero-over Normal X Y e f p q h = h (inr f)
+  nonzero-over Infinite X Y e f p q h = over-infinite X Y (u .zero (inr (inr e, f))) (p .0) q
+  nonzero-over Nan X Y e f p q h = rw (u .nan (inr f), p .0 .is, q)
+
+  -- the classes decide all but the quotient of two finite numbers other than zero
+  by-class : (k : Class) → classOf a ≡ k → Reads a k (valueOf a) → (IsNonzero a → IsNonzero b → x .pattern ≡ languageQuotient a b) → x .pattern ≡ languageQuotient a b
+  unfolding div toBits
+  by-class Zero e p h = zero-over (classOf b) (valueOf a) (valueOf b) e refl p (read b)
+  by-class Subnormal e p h = nonzero-over (classOf b) (valueOf a) (valueOf b) (inl e) refl p (read b) (h (inl e))
+  by-class Normal e p h = nonzero-over (classOf b) (valueOf a) (valueOf b) (inr e) refl p (read b) (h (inr e))
+  by-class Infinite e p h = infinite-over (classOf b) (valueOf a) (valueOf b) e refl p (read b)
+  by-class Nan e p h = rw (u .nan (inl e), p)
+
+-- a finite number other than zero is so for the logic
+pub number-of : (p : ℕ) → IsNonzero p → Nonzero p (valueOf p)
+number-of p h = let o = nonzero-operand p h in (finite p (o .finite), o)
+
+counted : (p : ℕ) → IsNonzero p → 0 < num (valueOf p)
+counted p h = let n = number-of p h in rw (n .0 .is) (mul-pos (is-some (n .0) (n .1 .some)) (up-pos (n .0 .e)))
+
+pub nearest-quotient : (a b : ℕ) {x : Binary64Result} → Ieee 0 a b x → x .pattern ≡ languageQuotient a b
+nearest-quotient a b u = by-class 0 a b u (classOf a) refl (read a) (λ h k.
+    let p = number-of a h in
+    let q = number-of b k in
+    quotient-bits (signOf a b) (magnitude a) (magnitude b) (q .1 .some) (u .quotient h k) ∙ sym (ap (toBits binary64) (quotient-is (p .0) (q .0) (q .1 .some))))
+
+-- `num` is 0 for a zero, an infinity and a not-a-number
+pub special-quotient : (direction a b : ℕ) {x : Binary64Result} → Ieee direction a b x → (num (valueOf a) ≡ 0) ⊎ (num (valueOf b) ≡ 0) → x .pattern ≡ languageQuotient a b
+special-quotient direction a b u z = by-class direction a b u (classOf a) refl (read a) (λ h k.
+    absurd (⊎-elim (λ (e : num (valueOf a) ≡ 0). omega (arith, counted a h)) (λ (e : num (valueOf b) ≡ 0). omega (arith, counted b k)) z))
+
+-- ---- and so through every table that passes
+pub language-quotient : (t : List ℕ) → Passes t → LanguageQuotient t
+language-quotient t p =
+    let nearest : (a b : ℕ) → binary64Of t 0 a b .pattern ≡ languageQuotient a b = λ a b. nearest-quotient a b (demand-2 .passed t p .binary64 0 a b (omega arith) .meaning) in
+    record {
+      nearest = nearest;
+      values = λ x y h k. let i = ofBits-toBits binary64 x h in let j = ofBits-toBits binary64 y k in
+          ap valueOf (nearest (toBits binary64 x) (toBits binary64 y)) ∙ rw (i, j) (ofBits-toBits binary64 (div binary64 x y) (div-fits binary64 x y));
+    }

@@ -1,0 +1,14 @@
+pub mod LanguageRounding
+pub mod LanguageReading
+pub mod LanguageQuotient
+pub mod LanguageOrder
+pub mod Operands
+pub mod AnswerUnits
+pub mod QuotientOrder
+pub mod Directions
+pub mod DirectedOne
+pub mod DirectionOrder
+pub mod InexactFlag
+pub mod ExactQuotients
+pub mod SignSymmetry
+pub mod Ieee754

@@ -1,0 +1,177 @@
+-- Turning the sign of an operand turns the answer's sign and exchanges directions 2 and 3; the flags stay. It holds of not-a-numbers too, whose sign the logic does not tell.
+use Rattle.laws.proofs.Basics.{_≡_, refl, sym, ap, ap₂, _∙_, Bool, true, false, not, cond, Bool·beq, ⊎-elim, ℕ, zero, suc, _+_, _^_, _≤_, _<_, arith, eqb, le-leb, lt-leb}
+use lib.Ieee.{nan, inf, binary64, neg, odd, ofFields, ofBits}
+use Rattle.laws.proofs.Division.{le-or-lt}
+use Rattle.division.specs.declared.format.Binary64Result.{Binary64Result}
+use Rattle.division.specs.Format.{negative, field, fraction, magnitude, classOf, signBit, signOf, infinity, largestFinite, quietNan, inexactFlag, overflowFlag}
+use Rattle.division.specs.Rounding.{modeOf, Rounds}
+use Rattle.division.specs.Rounded.{pointsToZero, Rounded}
+use Rattle.division.specs.Ieee.{quotientScale, quotientPlace, RoundedQuotient, IsNonzero, Ieee}
+use Rattle.division.proofs.Classes.{by-cases, nonzero-operand}
+use Rattle.division.proofs.Quotient.{quotient-increasing}
+use Rattle.division.proofs.RoundedOne.{rounded-one}
+use Rattle.ieee.specs.LanguageQuotient.{valueOf}
+use Rattle.ieee.specs.Directions.{turned, mirrored}
+use Rattle.ieee.proofs.LanguageReading.{by-fields}
+use Rattle.ieee.proofs.AnswerUnits.{rounded-word}
+
+-- ---- a turned pattern
+turned-field : (p : ℕ) → field (turned p) ≡ field p
+turned-field p = omega arith
+
+turned-fraction : (p : ℕ) → fraction (turned p) ≡ fraction p
+turned-fraction p = omega arith
+
+turned-word : (p : ℕ) → turned p < 2 ^ 64
+turned-word p = omega arith
+
+turned-sign : (p : ℕ) → p < 2 ^ 64 → negative (turned p) ≡ not (negative p)
+turned-sign p h = ⊎-elim
+    (λ (g : 2 ^ 63 ≤ p). rw (le-leb (2 ^ 63) p g, lt-leb (2 ^ 63) (turned p) (omega arith)))
+    (λ (g : p < 2 ^ 63). rw (lt-leb (2 ^ 63) p g, le-leb (2 ^ 63) (turned p) (omega arith)))
+    (le-or-lt (2 ^ 63) p)
+
+turned-magnitude : (p : ℕ) → magnitude (turned p) ≡ magnitude p
+turned-magnitude p = rw (turned-field p, turned-fraction p)
+
+turned-class : (p : ℕ) → classOf (turned p) ≡ classOf p
+turned-class p = rw (turned-field p, turned-fraction p)
+
+-- the logic's word for it
+fields-neg : (s : Bool) (x t : ℕ) → ofFields binary64 (not s) x t ≡ neg (ofFields binary64 s x t)
+unfolding ofFields neg odd
+fields-neg s zero zero = refl
+fields-neg s zero (suc t) = refl
+fields-neg s (suc x) t = go (eqb (suc x) 2047) (eqb t 0) (2 ^ 52 + t)
+  where
+    numbers : (n : ℕ) → odd 53 (not s) n x 1074 ≡ neg (odd 53 s n x 1074)
+    numbers zero = refl
+    numbers (suc n) = refl
+
+    go : (b c : Bool) (n : ℕ) → cond b (cond c (inf (not s)) nan) (odd 53 (not s) n x 1074) ≡ neg (cond b (cond c (inf s) nan) (odd 53 s n x 1074))
+    go true true n = refl
+    go true false n = refl
+    go false c n = numbers n
+
+pub turned-neg : (p : ℕ) → p < 2 ^ 64 → valueOf (turned p) ≡ neg (valueOf p)
+turned-neg p h =
+    by-fields (turned p)
+    ∙ ap (λ (s : Bool). ofFields binary64 s (field (turned p)) (fraction (turned p))) (turned-sign p h)
+    ∙ ap₂ (λ (x t : ℕ). ofFields binary64 (not (negative p)) x t) (turned-field p) (turned-fraction p)
+    ∙ fields-neg (negative p) (field p) (fraction p)
+    ∙ ap neg (sym (by-fields p))
+
+-- ---- a rounded magnitude
+mirrored-rounds : (d : ℕ) (s : Bool) (f : ℕ → ℕ) (m x : ℕ) → d ≤ 3 → Rounds (modeOf (mirrored d) s) f m x → Rounds (modeOf d (not s)) f m x
+mirrored-rounds zero s f m x l r = r
+mirrored-rounds (suc zero) s f m x l r = r
+mirrored-rounds (suc (suc zero)) true f m x l r = r
+mirrored-rounds (suc (suc zero)) false f m x l r = r
+mirrored-rounds (suc (suc (suc zero))) true f m x l r = r
+mirrored-rounds (suc (suc (suc zero))) false f m x l r = r
+mirrored-rounds (suc (suc (suc (suc d)))) s f m x l r = absurd (omega arith)
+
+mirrored-zero : (d : ℕ) (s : Bool) → d ≤ 3 → pointsToZero (mirrored d) s ≡ pointsToZero d (not s)
+mirrored-zero zero s l = refl
+mirrored-zero (suc zero) s l = refl
+mirrored-zero (suc (suc zero)) true l = refl
+mirrored-zero (suc (suc zero)) false l = refl
+mirrored-zero (suc (suc (suc zero))) true l = refl
+mirrored-zero (suc (suc (suc zero))) false l = refl
+mirrored-zero (suc (suc (suc (suc d)))) s l = absurd (omega arith)
+
+-- an answer with its sign bit turned
+abbrev turn : Binary64Result → Binary64Result
+turn x = record { pattern = turned (x .pattern); flags = x .flags }
+
+turned-bit : (s : Bool) (n : ℕ) → n < 2 ^ 63 → turned (signBit s + n) ≡ signBit (not s) + n
+turned-bit true n h = omega arith
+turned-bit false n h = omega arith
+
+over-turned : (z s : Bool) → turned (signBit s + cond z largestFinite infinity) ≡ signBit (not s) + cond z largestFinite infinity
+over-turned true s = turned-bit s largestFinite (omega arith)
+over-turned false s = turned-bit s infinity (omega arith)
+
+turned-rounded : (d : ℕ) → d ≤ 3 → (s : Bool) (scale : ℕ → ℕ → ℕ) (m : ℕ) (x : Binary64Result) → Rounded (mirrored d) s scale m x → Rounded d (not s) scale m (turn x)
+turned-rounded d l s scale m x u = record {
+  e = u .e;
+  K = u .K;
+  exponent = u .exponent;
+  rounded = mirrored-rounds d s (scale (u .e)) m (u .K) l (u .rounded);
+  over = λ h. ap turn (u .over h) ∙ ap overflowing (over-turned (pointsToZero (mirrored d) s) s ∙ ap (λ (z : Bool). signBit (not s) + cond z largestFinite infinity) (mirrored-zero d s l));
+  word = λ h. turned-word (x .pattern);
+  value = λ h. turned-magnitude (x .pattern) ∙ u .value h;
+  sign = λ h. turned-sign (x .pattern) (u .word h) ∙ ap not (u .sign h);
+  finite = λ h. rw (turned-field (x .pattern)) (u .finite h);
+  flags = u .flags;
+}
+  where
+    overflowing : ℕ → Binary64Result
+    overflowing p = record { pattern = p; flags = inexactFlag + overflowFlag }
+
+-- ---- the answers
+abbrev Opposite : Binary64Result → Binary64Result → Type 0
+Opposite x y = (valueOf (x .pattern) ≡ neg (valueOf (y .pattern))) × (x .flags ≡ y .flags)
+
+bit-neg : (s : Bool) (n : ℕ) → n < 2 ^ 63 → valueOf (signBit (not s) + n) ≡ neg (valueOf (signBit s + n))
+bit-neg s n h = ap valueOf (sym (turned-bit s n h)) ∙ turned-neg (signBit s + n) (fits s)
+  where
+    fits : (s : Bool) → signBit s + n < 2 ^ 64
+    fits true = omega arith
+    fits false = omega arith
+
+quiet-neg : valueOf quietNan ≡ neg (valueOf quietNan)
+unfolding ofBits neg
+quiet-neg = refl
+
+zero-neg : (s : Bool) → valueOf (signBit (not s)) ≡ neg (valueOf (signBit s))
+zero-neg true = bit-neg true 0 (omega arith)
+zero-neg false = bit-neg false 0 (omega arith)
+
+-- operands of the same magnitudes and classes, whose quotient has the other sign
+record Turned (a b a' b' : ℕ) : Type 0 where
+  dividend : classOf a' ≡ classOf a
+  divisor : classOf b' ≡ classOf b
+  over : magnitude a' ≡ magnitude a
+  under : magnitude b' ≡ magnitude b
+  sign : signOf a' b' ≡ not (signOf a b)
+
+module _ (d a b a' b' : ℕ) (l : d ≤ 3) (o : Turned a b a' b') {x y : Binary64Result} (u : Ieee d a' b' x) (v : Ieee (mirrored d) a b y) where
+  quotients : IsNonzero a → IsNonzero b → Opposite x y
+  quotients h k =
+      let s = signOf a b in
+      let w : RoundedQuotient d (not s) (magnitude a) (magnitude b) x = rw (o .over, o .under, o .sign) at (u .quotient (rw (o .dividend) h) (rw (o .divisor) k)) in
+      let e = rounded-one d (not s) (quotientScale (magnitude b)) (quotient-increasing (magnitude b) (nonzero-operand b k .some)) (quotientPlace (magnitude a)) w (turned-rounded d l s _ _ y (v .quotient h k)) in
+      rw e (turned-neg (y .pattern) (rounded-word (v .quotient h k)), refl)
+
+  opposite : Opposite x y
+  opposite = by-cases a b
+      (λ h. rw (v .nan h, u .nan (rw (o .dividend, o .divisor) h)) (quiet-neg, refl))
+      (λ h. rw (v .invalid h, u .invalid (rw (o .dividend, o .divisor) h)) (quiet-neg, refl))
+      (λ h k. rw (v .by-zero h k, u .by-zero (rw (o .dividend) h) (rw (o .divisor) k), o .sign) (bit-neg (signOf a b) infinity (omega arith), refl))
+      (λ h k. rw (v .infinite h k, u .infinite (rw (o .dividend) h) (rw (o .divisor) k), o .sign) (bit-neg (signOf a b) infinity (omega arith), refl))
+      (λ h. rw (v .zero h, u .zero (rw (o .dividend, o .divisor) h), o .sign) (zero-neg (signOf a b), refl))
+      quotients
+
+left-turned : (s t : Bool) → not (Bool·beq (not s) t) ≡ not (not (Bool·beq s t))
+left-turned true true = refl
+left-turned true false = refl
+left-turned false true = refl
+left-turned false false = refl
+
+right-turned : (s t : Bool) → not (Bool·beq s (not t)) ≡ not (not (Bool·beq s t))
+right-turned true true = refl
+right-turned true false = refl
+right-turned false true = refl
+right-turned false false = refl
+
+module _ (d a b : ℕ) (l : d ≤ 3) {x y : Binary64Result} where
+  pub dividend-turned : a < 2 ^ 64 → Ieee d (turned a) b x → Ieee (mirrored d) a b y → Opposite x y
+  dividend-turned h =
+      opposite d a b (turned a) b l
+      (record { dividend = turned-class a; divisor = refl; over = turned-magnitude a; under = refl; sign = ap (λ (s : Bool). not (Bool·beq s (negative b))) (turned-sign a h) ∙ left-turned (negative a) (negative b) })
+
+  pub divisor-turned : b < 2 ^ 64 → Ieee d a (turned b) x → Ieee (mirrored d) a b y → Opposite x y
+  divisor-turned h =
+      opposite d a b a (turned b) l
+      (record { dividend = refl; divisor = turned-class b; over = refl; under = turned-magnitude b; sign = ap (λ (s : Bool). not (Bool·beq (negative a) s)) (turned-sign b h) ∙ right-turned (negative a) (negative b) })

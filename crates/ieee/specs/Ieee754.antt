@@ -1,0 +1,74 @@
+-- Binary64 answers by the logic's own account of IEEE 754 (lib.Ieee), through every table that passes and through the kept one. Of document 01's account it names
+-- the answer of a call, `binary64Of`, and three patterns; what patterns stand for, their order, signs and quotients are the logic's.
+use mathlib.Core.Path.{_≡_}
+use mathlib.Core.Bool.{false, not, cond}
+use mathlib.Core.List.{List}
+use mathlib.Core.Logic.{_↔_}
+use Prim.Native.Nat.{ℕ, _^_, _≤_, _<_}
+use lib.IntN.{pos}
+use lib.Dec.{T}
+use lib.Ieee.{Float, nan, inf, fin, le, neg, isNan}
+use lib.Ieee.Scale.{finite}
+use lib.Ieee.Positive.{num}
+use Rattle.selection.specs.Table.{Passes}
+use Rattle.selection.specs.Computed.{madeTable}
+use Rattle.division.specs.declared.binary64.Binary64Answer.{Binary64Answer}
+use Rattle.division.specs.Format.{infinity, largestFinite, quietNan}
+use Rattle.division.specs.Binary64.{binary64Of, binary64Values}
+use Rattle.ieee.specs.LanguageQuotient.{valueOf, one, LanguageQuotient}
+use Rattle.ieee.specs.Directions.{signIn, quotientSign, AtMostQuotient, AtLeastQuotient, IsQuotient, FiniteOver, Pinned, turned, mirrored}
+
+-- what an answer's pattern stands for
+abbrev pub answerValue : List ℕ → ℕ → ℕ → ℕ → Float
+answerValue t direction a b = valueOf (binary64Of t direction a b .pattern)
+
+-- one value is the other with its sign turned, and the flags are the same
+pub record Opposite (x y : Binary64Answer) : Type 0 where
+  pub value : valueOf (x .pattern) ≡ neg (valueOf (y .pattern))
+  pub flags : x .flags ≡ y .flags
+
+-- a pattern and no flag
+abbrev pub unflagged : ℕ → Binary64Answer
+unflagged p = binary64Values (record { pattern = p; flags = 0 })
+
+pub record IeeeThrough (t : List ℕ) : Type 0 where
+  -- in direction 0 the language's own quotient
+  pub language : LanguageQuotient t
+  -- in every direction, for all operands, what the logic's account asks; and no other pattern is that
+  pub pinned : (direction a b : ℕ) → direction ≤ 3 → Pinned direction a b (binary64Of t direction a b .pattern)
+  pub only : (direction a b p : ℕ) → direction ≤ 3 → Pinned direction a b p → p ≡ binary64Of t direction a b .pattern
+  -- 3, 0, 2 are in order, and 1 is 2 for a negative sign and else 3, flags too
+  pub ordered : (a b : ℕ) → FiniteOver a b → T (le (answerValue t 3 a b) (answerValue t 0 a b)) × T (le (answerValue t 0 a b) (answerValue t 2 a b))
+  pub toward-zero : (a b : ℕ) → binary64Of t 1 a b ≡ binary64Of t (cond (quotientSign (valueOf a) (valueOf b)) 2 3) a b
+  -- no flag exactly where the answer is exact; and an exact quotient that the format holds is the answer
+  pub silent : (direction a b : ℕ) → direction ≤ 3 → FiniteOver a b → (binary64Of t direction a b .flags ≡ 0) ↔ IsQuotient (answerValue t direction a b) (valueOf a) (valueOf b)
+  pub exact : (direction a b q : ℕ) → direction ≤ 3 → FiniteOver a b → q < 2 ^ 64 → IsQuotient (valueOf q) (valueOf a) (valueOf b) → signIn (valueOf q) ≡ quotientSign (valueOf a) (valueOf b)
+      → binary64Of t direction a b ≡ unflagged q
+  pub over-one : (direction a : ℕ) → direction ≤ 3 → a < 2 ^ 64 → T (not (isNan (valueOf a))) → binary64Of t direction a one ≡ unflagged a
+  pub over-itself : (direction a : ℕ) → direction ≤ 3 → 0 < num (valueOf a) → binary64Of t direction a a ≡ unflagged one
+  -- turning an operand's sign turns the answer's, and exchanges up and down
+  pub dividend-turned : (direction a b : ℕ) → direction ≤ 3 → a < 2 ^ 64 → Opposite (binary64Of t direction (turned a) b) (binary64Of t (mirrored direction) a b)
+  pub divisor-turned : (direction a b : ℕ) → direction ≤ 3 → b < 2 ^ 64 → Opposite (binary64Of t direction a (turned b)) (binary64Of t (mirrored direction) a b)
+
+-- the patterns that have names are what they are named for
+pub record NamedPatterns : Type 0 where
+  pub one-is : valueOf one ≡ fin false 1 (pos 0)
+  pub infinity-is : valueOf infinity ≡ inf false
+  pub quiet-nan-is : valueOf quietNan ≡ nan
+  pub largest-is : T (finite (valueOf largestFinite)) × ((p : ℕ) → T (finite (valueOf p)) → T (le (valueOf p) (valueOf largestFinite)))
+  pub turned-is : (p : ℕ) → p < 2 ^ 64 → valueOf (turned p) ≡ neg (valueOf p)
+
+-- the relations can fail: two neighbours stand on the two sides of 1/3, and of -1/3 the other way round
+pub record Thirds : Type 0 where
+  pub under : AtMostQuotient (valueOf 0x3FD5_5555_5555_5555) (valueOf one) (valueOf 0x4008_0000_0000_0000)
+  pub not-over : AtLeastQuotient (valueOf 0x3FD5_5555_5555_5555) (valueOf one) (valueOf 0x4008_0000_0000_0000) → ⊥
+  pub over : AtLeastQuotient (valueOf 0x3FD5_5555_5555_5556) (valueOf one) (valueOf 0x4008_0000_0000_0000)
+  pub not-under : AtMostQuotient (valueOf 0x3FD5_5555_5555_5556) (valueOf one) (valueOf 0x4008_0000_0000_0000) → ⊥
+  pub minus-under : AtMostQuotient (valueOf 0xBFD5_5555_5555_5556) (valueOf (turned one)) (valueOf 0x4008_0000_0000_0000)
+  pub minus-not-under : AtMostQuotient (valueOf 0xBFD5_5555_5555_5555) (valueOf (turned one)) (valueOf 0x4008_0000_0000_0000) → ⊥
+
+pub record Ieee754 : Type 0 where
+  pub named : NamedPatterns
+  pub thirds : Thirds
+  pub passed : (t : List ℕ) → Passes t → IeeeThrough t
+  pub kept : IeeeThrough madeTable

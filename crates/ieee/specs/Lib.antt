@@ -1,0 +1,3 @@
+pub mod LanguageQuotient
+pub mod Directions
+pub mod Ieee754
