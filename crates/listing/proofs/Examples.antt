@@ -16,9 +16,9 @@ use Rattle.selection.specs.Computed.{cellOf, madeOf, madeTable}
 use Rattle.selection.specs.Table.{Table, Passes}
 use Rattle.selection.specs.declared.Witness.{Witness}
 use Rattle.selection.proofs.MadeTables.{kept-passes}
-use Rattle.printing.specs.Text.{decimalUpto, decimalOf, lineEnd}
+use Rattle.printing.specs.Text.{ascii, decimalUpto, decimalOf}
 use Rattle.listing.specs.Listing.{names, lineText, lineFrom, lineOf, linesUpto, listingOf}
-use Rattle.listing.specs.Example.{exampleLine, Example}
+use Rattle.listing.specs.Example.{Example}
 use Rattle.listing.specs.declared.Line.the-variants.{Nothing, Cell}
 use Rattle.listing.proofs.Lines.{listed-one}
 use Rattle.listing.proofs.Listings.{table-text}
@@ -40,8 +40,8 @@ one-line t m (suc n) l f =
     (λ b. rw (one-line t m n b (λ k c x. f k (omega arith) x), f n (omega arith) (λ x. omega arith)) (append-nil _))
     (eq-or-lt-of-le {n = m} {m = n} (omega arith))
 
-passed-prints : (t : List ℕ) → Passes t → listingOf t ≡ names ++ lineEnd
-passed-prints t p = table-text t (p .table) ∙ ap (λ (y : List ℕ). (names ++ lineEnd) ++ y) (no-lines t 2048 (λ k l. quiet (p .table) k l (p .allowed k l)))
+passed-prints : (t : List ℕ) → Passes t → listingOf t ≡ names
+passed-prints t p = table-text t (p .table) ∙ ap (λ (y : List ℕ). names ++ y) (no-lines t 2048 (λ k l. quiet (p .table) k l (p .allowed k l)))
 
 same-or-other : (k m : ℕ) → (k ≡ m) ⊎ (k ≢ m)
 same-or-other k m = elim (decLe k m) [ yes l ↦ ⊎-elim (λ e. inl e) (λ b. inr (λ e. omega arith)) (eq-or-lt-of-le l) | no x ↦ inr (λ e. omega (arith, lt-of-not-le x)) ]
@@ -67,15 +67,18 @@ changed-table = record { size = changed-size; digits = λ k. ⊎-elim (λ e. ome
 witness : Witness
 witness = record { divisor = 1242993497154256896; remainder = pos 3314649325744685056 }
 
-only-line : (t : List ℕ) → getD t 215 0 ≡ 2 → lineText (lineOf t 215) ≡ exampleLine ++ lineEnd
+abbrev exampleLine : List ℕ
+exampleLine = ascii "1 87 0 1242993497154256896 3314649325744685056\n"
+
+only-line : (t : List ℕ) → getD t 215 0 ≡ 2 → lineText (lineOf t 215) ≡ exampleLine
 unfolding witness lineOf digit decimalUpto decimalOf
 only-line t e = ap (λ (b : ℕ). lineText (lineFrom t 215 (cellOf 1 87 b))) e ∙ ap (λ (b : ℕ). lineText (Cell 1 87 (digit b) witness)) e
 
 quiet-elsewhere : (k : ℕ) → k < 2048 → k ≢ 215 → lineOf changed k ≡ Nothing
 quiet-elsewhere k l x = quiet changed-table k l (rw (elsewhere k x) (kept-passes .allowed k l))
 
-whole : listingOf changed ≡ (names ++ lineEnd) ++ (exampleLine ++ lineEnd)
-whole = table-text changed changed-table ∙ ap (λ (y : List ℕ). (names ++ lineEnd) ++ y) (one-line changed 215 2048 (omega arith) quiet-elsewhere ∙ only-line changed at-215)
+whole : listingOf changed ≡ names ++ exampleLine
+whole = table-text changed changed-table ∙ ap (λ (y : List ℕ). names ++ y) (one-line changed 215 2048 (omega arith) quiet-elsewhere ∙ only-line changed at-215)
 
 pub example : Example
 unfolding changed allowsOf madeOf listFrom madeTable

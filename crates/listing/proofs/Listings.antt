@@ -13,7 +13,7 @@ use Rattle.selection.specs.declared.table.Report.{Report}
 use Rattle.selection.proofs.Tables.{no-table}
 use Rattle.selection.proofs.Reports.{form-ladder, report-checked}
 use Rattle.selection.proofs.Ladders.{refusal-one}
-use Rattle.printing.specs.Text.{Appended, lineEnd, refusalText}
+use Rattle.printing.specs.Text.{Appended, refusalText}
 use Rattle.printing.proofs.Texts.{appended-size, appended-take, appended-drop}
 use Rattle.listing.specs.Listing.{Lists, names, linesUpto, tableText, textFor, listingOf}
 use Rattle.listing.proofs.Lines.{lines-right, lines-one}
@@ -33,7 +33,7 @@ module _ (t : List ℕ) where
   lists = answer-lists (reportOf t .count) (reportOf t .outcome) (report-checked t .means)
 
   table-one : {x : List ℕ} → Lists t x → Table t → x ≡ tableText t
-  table-one l h = let p = l .table h in p .2 ∙ ap (λ (y : List ℕ). (names ++ lineEnd) ++ y) (lines-one h (omega arith) (p .1))
+  table-one l h = let p = l .table h in p .2 ∙ ap (λ (y : List ℕ). names ++ y) (lines-one h (omega arith) (p .1))
 
   answer-one : {x : List ℕ} → Lists t x → (n : ℕ) (o : Outcome) → ReportMeaning t n o → x ≡ textFor t o
   answer-one l n O.Passed w = table-one l (w .0 .table)

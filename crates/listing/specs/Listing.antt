@@ -1,7 +1,7 @@
 -- What the listing program prints, as a list of bytes: document 01, "Listing program". A line of names, then one line per bad cell in index order, values
 -- in decimal: row, column, digit, the witness's D, its P. For 8 or 9 it prints, instead of all that, the two lines of the refusal.
 use mathlib.Core.Path.{_≡_}
-use mathlib.Core.List.{List, [], _∷_, _++_}
+use mathlib.Core.List.{List, [], _++_}
 use Prim.Native.Nat.{ℕ, zero, suc, _/_, _%_}
 use lib.ListN.{getD}
 use Rattle.selection.specs.Cell.{Allows, LeastWitness, digit}
@@ -13,7 +13,7 @@ use Rattle.selection.specs.declared.CellVerdict.{CellVerdict}
 use Rattle.selection.specs.declared.CellVerdict.the-variants as C
 use Rattle.selection.specs.declared.table.Outcome.{Outcome}
 use Rattle.selection.specs.declared.table.Outcome.the-variants as O
-use Rattle.printing.specs.Text.{decimalOf, signedOf, space, lineEnd, refusalText}
+use Rattle.printing.specs.Text.{ascii, decimalOf, signedOf, refusalText}
 use Rattle.listing.specs.declared.Line.{Line}
 use Rattle.listing.specs.declared.Line.the-variants.{Nothing, Cell}
 
@@ -27,24 +27,24 @@ pub record Listed (t : List ℕ) (k : ℕ) (l : Line) : Type 0 where
 
 -- a line's text: numbers parted by one space, and the end of the line
 abbrev pub witnessText : Witness → List ℕ
-witnessText w = (decimalOf (w .divisor) ++ space) ++ (signedOf (w .remainder) ++ lineEnd)
+witnessText w = (decimalOf (w .divisor) ++ ascii " ") ++ (signedOf (w .remainder) ++ ascii "\n")
 
 abbrev pub lineText : Line → List ℕ
 lineText Nothing = []
-lineText (Cell row column q w) = (decimalOf row ++ space) ++ ((decimalOf column ++ space) ++ ((signedOf q ++ space) ++ witnessText w))
+lineText (Cell row column q w) = (decimalOf row ++ ascii " ") ++ ((decimalOf column ++ ascii " ") ++ ((signedOf q ++ ascii " ") ++ witnessText w))
 
 -- x is the text of the lines of the first n cells, in index order
 pub data Lines (t : List ℕ) : ℕ → List ℕ → Type 0 where
   none : Lines t 0 []
   more : {n : ℕ} {x : List ℕ} {l : Line} → Listed t n l → Lines t n x → Lines t (suc n) (x ++ lineText l)
 
--- `row column digit divisor remainder`
+-- the line of names
 abbrev pub names : List ℕ
-names = 114 ∷ 111 ∷ 119 ∷ 32 ∷ 99 ∷ 111 ∷ 108 ∷ 117 ∷ 109 ∷ 110 ∷ 32 ∷ 100 ∷ 105 ∷ 103 ∷ 105 ∷ 116 ∷ 32 ∷ 100 ∷ 105 ∷ 118 ∷ 105 ∷ 115 ∷ 111 ∷ 114 ∷ 32 ∷ 114 ∷ 101 ∷ 109 ∷ 97 ∷ 105 ∷ 110 ∷ 100 ∷ 101 ∷ 114 ∷ []
+names = ascii "row column digit divisor remainder\n"
 
 -- x is all that is printed for the bytes t of standard input: of a table the line of names and the lines of its cells, and of no table the two lines of the refusal
 pub record Lists (t x : List ℕ) : Type 0 where
-  pub table : Table t → (y : List ℕ) × Lines t 2048 y × (x ≡ (names ++ lineEnd) ++ y)
+  pub table : Table t → (y : List ℕ) × Lines t 2048 y × (x ≡ names ++ y)
   pub refused : (f : Refusal) → NoTable t (f .number) (f .place) → x ≡ refusalText f
 
 -- The same, computed. A reader need not believe what is below: `line-listed`, `lists` show that it is the listing in document 01's words, and `listed-one`,
@@ -66,7 +66,7 @@ linesUpto t (suc n) = linesUpto t n ++ lineText (lineOf t n)
 
 -- a table's text: the line of names, and the lines of its 2,048 cells
 abbrev pub tableText : List ℕ → List ℕ
-tableText t = (names ++ lineEnd) ++ linesUpto t 2048
+tableText t = names ++ linesUpto t 2048
 
 -- all that is printed, by the check's answer to the bytes t
 abbrev pub textFor : List ℕ → Outcome → List ℕ

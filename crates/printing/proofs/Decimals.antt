@@ -1,6 +1,7 @@
 -- Laws of decimal digits: those that `io::decimal` makes are the number's, at most 20 of them, and they spell the number.
 use mathlib.Core.Path.{_≡_, refl, ap, _∙_}
 use mathlib.Core.List.{List, [], _∷_, _++_}
+use Prim.Native.Char.{code}
 use Prim.Native.Nat.{ℕ, zero, suc, _+_, _*_, _-_, _/_, _%_, _^_, _≤_, _<_}
 use native.Mathlib.Decide.{decLt}
 use native.Mathlib.Nat.{pow-suc, one-le-pow, pow-le-pow-right, lt-of-not-le}
@@ -35,9 +36,9 @@ pub decimal-is : (k n : ℕ) → Fewest 10 1 n k → k ≤ 20 → digits 10 k n 
 unfolding decimalOf
 decimal-is k n f h = decimal-digits k 20 n f h
 
-spelled-more : (a c : ℕ) (cs : List ℕ) → spelledAfter a (cs ++ (c ∷ [])) ≡ 10 * spelledAfter a cs + (c - 48)
+spelled-more : (a c : ℕ) (cs : List ℕ) → spelledAfter a (cs ++ (c ∷ [])) ≡ 10 * spelledAfter a cs + (c - code "0")
 spelled-more a c [] = refl
-spelled-more a c (d ∷ cs) = spelled-more (10 * a + (d - 48)) c cs
+spelled-more a c (d ∷ cs) = spelled-more (10 * a + (d - code "0")) c cs
 
 upto-spells : (most n : ℕ) → n < 10 ^ most → spelledAfter 0 (decimalUpto most n) ≡ n
 unfolding decimalUpto
@@ -45,7 +46,7 @@ upto-spells zero n h = omega arith
 upto-spells (suc most) n h =
     by-cond (λ (l : List ℕ). spelledAfter 0 l ≡ n) (ltb n 10) _ _
     (λ t. omega arith)
-    (λ t. spelled-more 0 (48 + n % 10) (decimalUpto most (n / 10)) ∙ rw (upto-spells most (n / 10) (omega (arith, pow-suc 10 most))) (omega arith))
+    (λ t. spelled-more 0 (code "0" + n % 10) (decimalUpto most (n / 10)) ∙ rw (upto-spells most (n / 10) (omega (arith, pow-suc 10 most))) (omega arith))
 
 -- no digit is left out
 pub decimal-spells : (n : ℕ) → n < 2 ^ 64 → spelledAfter 0 (decimalOf n) ≡ n

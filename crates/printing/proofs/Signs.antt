@@ -1,7 +1,7 @@
 -- A signed number in decimal: a sign where the test finds it below zero, and the digits of its magnitude.
 use mathlib.Core.Path.{_≡_, refl, subst}
 use mathlib.Core.Bool.{true, false}
-use mathlib.Core.List.{List, [], _∷_, _++_}
+use mathlib.Core.List.{List, _++_}
 use Prim.Native.Nat.{ℕ}
 use native.Mathlib.Omega.{arith}
 use lib.Dec.{T}
@@ -11,9 +11,9 @@ use mir.Facts.{toZ-ofZ}
 use mir.Syntax.{w64}
 use mir.Val.{toZ, ofZ, SFits}
 use borrow.Author.Tests.{ltb-true}
-use Rattle.printing.specs.Text.{decimalOf, signedOf}
+use Rattle.printing.specs.Text.{ascii, decimalOf, signedOf}
 
-below : (z : ℤ) → ltZ z (pos 0) ≡ true → 45 ∷ decimalOf (natAbs z) ≡ signedOf z
+below : (z : ℤ) → ltZ z (pos 0) ≡ true → ascii "-" ++ decimalOf (natAbs z) ≡ signedOf z
 below (pos n) h = absurd (omega (arith, ltb-true n 0 h))
 below (negsuc n) h = refl
 
@@ -26,7 +26,7 @@ abbrev held : ℤ → ℤ
 held z = toZ w64 (ofZ w64 z)
 
 module _ (z : ℤ) (m : ℕ) (y : List ℕ) (f : SFits w64 z) (e : m ≡ natAbs (held z)) where
-  pub with-sign : ltZ (held z) (pos 0) ≡ true → (45 ∷ []) ++ (decimalOf m ++ y) ≡ signedOf z ++ y
+  pub with-sign : ltZ (held z) (pos 0) ≡ true → ascii "-" ++ (decimalOf m ++ y) ≡ signedOf z ++ y
   with-sign h = rw (e, toZ-ofZ f, ← below z (rw (toZ-ofZ f) at h))
 
   pub without-sign : ltZ (held z) (pos 0) ≡ false → decimalOf m ++ y ≡ signedOf z ++ y

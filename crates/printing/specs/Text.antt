@@ -1,12 +1,19 @@
--- Text as the list of its bytes, in ASCII: document 01, "Listing program": values in decimal, and the two lines of a refusal.
+-- Text as the list of its bytes: document 01, "Listing program": values in decimal, and the two lines of a refusal.
 use mathlib.Core.Path.{_≡_}
 use mathlib.Core.Bool.{cond}
 use mathlib.Core.List.{List, [], _∷_, _++_}
+use Prim.Native.Char.{code}
 use Prim.Native.Nat.{ℕ, zero, suc, _+_, _*_, _-_, _/_, _%_}
+use Prim.Native.String.{String, [] as []ˢ, _∷_ as _∷ˢ_}
 use lib.Dec.{ltb}
 use lib.IntN.{ℤ, pos, negsuc}
 use lib.ListN.{length, take, drop}
 use Rattle.selection.specs.declared.Refusal.{Refusal}
+
+-- a text's bytes. Every text here is ASCII, so a character is a byte
+abbrev pub ascii : String → List ℕ
+ascii []ˢ = []
+ascii (c ∷ˢ s) = code c ∷ ascii s
 
 -- s' is the buffer s with the text x from the index `at` on and all its other bytes, and r is the index past the text
 pub record Appended (s : List ℕ) (at : ℕ) (x s' : List ℕ) (r : ℕ) : Type 0 where
@@ -16,7 +23,7 @@ pub record Appended (s : List ℕ) (at : ℕ) (x s' : List ℕ) (r : ℕ) : Type
 -- the decimal digits of n, if there are at most `most`: of a number below 10 its one digit, and of another those of n / 10 and then n % 10
 unfoldable pub decimalUpto : ℕ → ℕ → List ℕ
 decimalUpto zero n = []
-decimalUpto (suc most) n = cond (ltb n 10) ((48 + n) ∷ []) (decimalUpto most (n / 10) ++ ((48 + n % 10) ∷ []))
+decimalUpto (suc most) n = cond (ltb n 10) ((code "0" + n) ∷ []) (decimalUpto most (n / 10) ++ ((code "0" + n % 10) ∷ []))
 
 -- n in decimal. A number below 2^64 has at most 20 digits
 unfoldable pub decimalOf : ℕ → List ℕ
@@ -25,23 +32,13 @@ decimalOf n = decimalUpto 20 n
 -- the number that the decimal digits cs spell after those of a: what `decimalOf n` spells is n (`decimal-spells`)
 abbrev pub spelledAfter : ℕ → List ℕ → ℕ
 spelledAfter a [] = a
-spelledAfter a (c ∷ cs) = spelledAfter (10 * a + (c - 48)) cs
+spelledAfter a (c ∷ cs) = spelledAfter (10 * a + (c - code "0")) cs
 
 -- a number in decimal, with a minus sign if it is below zero
 abbrev pub signedOf : ℤ → List ℕ
 signedOf (pos n) = decimalOf n
-signedOf (negsuc n) = 45 ∷ decimalOf (suc n)
-
-abbrev pub space : List ℕ
-space = 32 ∷ []
-
-abbrev pub lineEnd : List ℕ
-lineEnd = 10 ∷ []
-
--- `refusal place`
-abbrev pub refusalNames : List ℕ
-refusalNames = 114 ∷ 101 ∷ 102 ∷ 117 ∷ 115 ∷ 97 ∷ 108 ∷ 32 ∷ 112 ∷ 108 ∷ 97 ∷ 99 ∷ 101 ∷ []
+signedOf (negsuc n) = ascii "-" ++ decimalOf (suc n)
 
 -- two lines: `refusal place`, and the two numbers below
 abbrev pub refusalText : Refusal → List ℕ
-refusalText f = (refusalNames ++ lineEnd) ++ ((decimalOf (f .number) ++ space) ++ (decimalOf (f .place) ++ lineEnd))
+refusalText f = ascii "refusal place\n" ++ ((decimalOf (f .number) ++ ascii " ") ++ (decimalOf (f .place) ++ ascii "\n"))

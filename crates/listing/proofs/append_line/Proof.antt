@@ -5,7 +5,7 @@ use mathlib.Core.List.{_++_}
 use lib.IntN.{ℤ}
 use mir.Facts.{toZ-ofZ}
 use mir.Syntax.{w64}
-use Rattle.printing.specs.Text.{signedOf, space}
+use Rattle.printing.specs.Text.{ascii, signedOf}
 use Rattle.printing.proofs.Texts.{appended-none, appended-then, appended-as}
 use Rattle.listing.specs.Listing.{lineText}
 use borrow.Author.Needs.{needs}
@@ -23,7 +23,7 @@ returns-2 c =
     let column = c .before .before .before .before .before .before .before .before .before .before .before .append-number2 .ensures in
     let digit = c .before .before .before .before .before .before .append-signed .ensures in
     let witness = c .before .before .append-witness .ensures in
-    let tail = appended-then (column .0) (appended-then (appended-as (digit .0) (ap (λ (z : ℤ). signedOf z ++ space) q)) (witness .0) (omega arith)) (omega arith) in
+    let tail = appended-then (column .0) (appended-then (appended-as (digit .0) (ap (λ (z : ℤ). signedOf z ++ ascii " ") q)) (witness .0) (omega arith)) (omega arith) in
     (appended-as (appended-then (row .0) tail (omega arith)) (sym (ap lineText (c .before .before .before .before .before .before .before .before .before .before .before .before .before .before .before .before .before .before .before .before .line .given .1))), omega arith)
 
 pub append-line-spec : {M : Type 1} → statement M

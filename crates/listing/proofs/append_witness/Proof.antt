@@ -5,7 +5,7 @@ use mathlib.Core.List.{_++_}
 use lib.IntN.{ℤ}
 use mir.Facts.{toZ-ofZ}
 use mir.Syntax.{w64}
-use Rattle.printing.specs.Text.{signedOf, lineEnd}
+use Rattle.printing.specs.Text.{ascii, signedOf}
 use Rattle.printing.proofs.Texts.{appended-then, appended-as}
 use borrow.Author.Needs.{needs}
 use Rattle.listing.proofs.append_witness.Statement.{statement}
@@ -16,7 +16,7 @@ returns c =
     let e = toZ-ofZ {w = w64} {z = c .before .before .before .before .before .before .before .before .before .before .before .before .args .witness .remainder} (record { sfits = c .before .before .before .struct-told .given .1 .0 .1 }) in
     let divisor = c .before .before .before .before .before .before .before .before .append-number .ensures in
     let remainder = c .before .before .append-signed .ensures in
-    (appended-then (divisor .0) (appended-as (remainder .0) (ap (λ (z : ℤ). signedOf z ++ lineEnd) e)) (omega arith), omega arith)
+    (appended-then (divisor .0) (appended-as (remainder .0) (ap (λ (z : ℤ). signedOf z ++ ascii "\n") e)) (omega arith), omega arith)
 
 pub append-witness-spec : {M : Type 1} → statement M
 append-witness-spec =
