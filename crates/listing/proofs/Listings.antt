@@ -1,10 +1,15 @@
 -- The computed listing is the one in document 01's words and there is no other, and the text in the buffer is it.
 use mathlib.Core.Path.{_≡_, refl, sym, ap, _∙_}
 use mathlib.Core.List.{List, _++_}
-use Prim.Native.Nat.{ℕ, _≤_}
-use native.Mathlib.Nat.{add-zero}
+use mathlib.Core.Logic.{_≢_}
+use Prim.Native.Nat.{ℕ, _≤_, _<_}
+use native.Mathlib.Decide.{decLe}
+use native.Mathlib.Nat.{add-zero, lt-of-not-le}
 use native.Mathlib.Omega.{arith}
-use lib.ListN.{length, take, drop}
+use lib.ListN.{length, take, drop, length-take}
+use lib.Seq.{take-all}
+use borrow.Author.Tests.{ne-eqb}
+use Rattle.selection.specs.Answer.{refusal}
 use Rattle.selection.specs.Table.{Table, ReportMeaning}
 use Rattle.selection.specs.Computed.{reportOf}
 use Rattle.selection.specs.declared.table.Outcome.{Outcome}
@@ -15,7 +20,7 @@ use Rattle.selection.proofs.Reports.{form-ladder, report-checked}
 use Rattle.selection.proofs.Ladders.{refusal-one}
 use Rattle.printing.specs.Text.{Appended, refusalText}
 use Rattle.printing.proofs.Texts.{appended-size, appended-take, appended-drop}
-use Rattle.listing.specs.Listing.{Lists, names, linesUpto, tableText, textFor, listingOf}
+use Rattle.listing.specs.Listing.{Lists, ListsRead, names, linesUpto, tableText, textFor, listingOf}
 use Rattle.listing.proofs.Lines.{lines-right, lines-one}
 
 -- by the check's answer, the text is the listing in document 01's words
@@ -46,6 +51,22 @@ module _ (t : List ℕ) where
 
   pub table-text : Table t → listingOf t ≡ tableText t
   table-text h = table-one lists h
+
+-- input of another length gets the two lines of refusal 8
+wrong-length : (t : List ℕ) → length t ≢ 2048 → listingOf t ≡ refusalText (refusal 8 0)
+unfolding listingOf reportOf
+wrong-length t h = rw (ne-eqb (length t) 2048 h)
+
+-- more than 2,048 bytes of the input settle what is printed for all of it
+settled : (t : List ℕ) (n : ℕ) → 2048 < n → listingOf (take n t) ≡ listingOf t
+settled t n h =
+    elim (decLe (length t) n) [
+      | yes l ↦ ap listingOf (take-all n t l)
+      | no x ↦ wrong-length (take n t) (λ e. omega (arith, lt-of-not-le x, simp length-take at e)) ∙ sym (wrong-length t (λ e. omega (arith, lt-of-not-le x)))
+    ]
+
+pub lists-read : {s x : List ℕ} {n : ℕ} → 2048 < length s → x ≡ listingOf (take n s) → ListsRead s n x
+lists-read {s} h e = record { lists = λ t g. rw (e, g, settled t (length s) h) (lists t) }
 
 -- the text for the check's answer, from the start of the buffer on: what the code of `listing` asks
 pub printed : (t : List ℕ) {s s' : List ℕ} {r : ℕ} {a : Report} {o : Outcome} → a ≡ reportOf t → a .outcome ≡ o → Appended s 0 (textFor t o) s' r → r ≤ length s → ((take r s' ≡ listingOf t) × Lists t (take r s')) × ((drop r s' ≡ drop r s) × (r ≤ length s'))

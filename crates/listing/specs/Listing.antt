@@ -3,7 +3,7 @@
 use mathlib.Core.Path.{_≡_}
 use mathlib.Core.List.{List, [], _++_}
 use Prim.Native.Nat.{ℕ, zero, suc, _/_, _%_}
-use lib.ListN.{getD}
+use lib.ListN.{length, getD, take}
 use Rattle.selection.specs.Cell.{Allows, LeastWitness, digit}
 use Rattle.selection.specs.Table.{Table, NoTable}
 use Rattle.selection.specs.Computed.{cellOf, reportOf}
@@ -46,6 +46,11 @@ names = ascii "row column digit divisor remainder\n"
 pub record Lists (t x : List ℕ) : Type 0 where
   pub table : Table t → (y : List ℕ) × Lines t 2048 y × (x ≡ names ++ y)
   pub refused : (f : Refusal) → NoTable t (f .number) (f .place) → x ≡ refusalText f
+
+-- x is all that is printed where a read of standard input has put n bytes at the start of the buffer s: it is the listing of every input that gives these
+-- bytes, all of it or as much as the buffer holds. So the buffer has to hold one byte more than a table
+pub record ListsRead (s : List ℕ) (n : ℕ) (x : List ℕ) : Type 0 where
+  pub lists : (t : List ℕ) → take n s ≡ take (length s) t → Lists t x
 
 -- The same, computed. A reader need not believe what is below: `line-listed`, `lists` show that it is the listing in document 01's words, and `listed-one`,
 -- `lists-one` that there is no other

@@ -4,7 +4,7 @@ ghost use mathlib.Core.Path.{_≡_};
 ghost use lib.ListN.{length, take, drop};
 ghost use Rattle.selection.specs.Table.{Table};
 ghost use Rattle.printing.specs.Text.{Appended};
-ghost use Rattle.listing.specs.Listing.{Listed, Lists, lineOf, witnessText, lineText, linesUpto, tableText, listingOf};
+ghost use Rattle.listing.specs.Listing.{Listed, Lists, ListsRead, lineOf, witnessText, lineText, linesUpto, tableText, listingOf};
 use libc::STDERR_FILENO;
 use libc::STDIN_FILENO;
 use libc::STDOUT_FILENO;
@@ -20,6 +20,9 @@ enum Line {
     Nothing,
     Cell(u64, u64, i64, Witness),
 }
+
+// One byte more than a table has, so that a longer input is seen.
+const INPUT: usize = 2049;
 
 // Room for the longest text: 35 bytes of names, and 2,048 lines of five numbers, each of 20 digits, with a sign to two of them.
 const ROOM: usize = 219171;
@@ -108,12 +111,23 @@ fn listing(bytes: &[u8], out: &mut [u8; ROOM]) -> usize
     }
 }
 
-// One byte more than a table has, so that a longer input is seen. A write that fails is told, since a lost line would make a bad cell look allowed.
+// The same for what was read of standard input: `count` bytes, all of it or as much as there is room for.
+fn listing_of_input(bytes: &[u8; INPUT], count: usize, out: &mut [u8; ROOM]) -> usize
+    requires { ⌜ count ≤ length (now bytes) ⌝ }
+    ensures { λ r. ⌜ ListsRead (now (bytes .entry)) count (take r (now (out .exit))) ⌝ }
+    ensures { λ r. ⌜ drop r (now (out .exit)) ≡ drop r (now (out .entry)) ⌝ }
+    ensures { λ r. ⌜ r ≤ length (now (out .exit)) ⌝ }
+{
+    let all: &[u8] = bytes;
+    listing(&all[..count], out)
+}
+
+// A write that fails is told, since a lost line would make a bad cell look allowed.
 fn main() {
-    let mut bytes = [0u8; 2049];
-    let length = io::read_full(STDIN_FILENO, &mut bytes);
+    let mut bytes = [0u8; INPUT];
+    let count = io::read_full(STDIN_FILENO, &mut bytes);
     let mut out = [0u8; ROOM];
-    let end = listing(&bytes[..length], &mut out);
+    let end = listing_of_input(&bytes, count, &mut out);
     if !io::write_all(STDOUT_FILENO, &out[..end]) {
         io::write_all(STDERR_FILENO, b"listing: not all was written\n");
     }

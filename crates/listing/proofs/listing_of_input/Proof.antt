@@ -1,0 +1,18 @@
+-- `listing::listing_of_input` meets its contract: there is room for more than a table, so that what was read settles what is printed.
+use mathlib.Core.Path.{sym}
+use native.Mathlib.Omega.{arith}
+use lib.Seq.{length-take-le}
+use Rattle.listing.proofs.Listings.{lists-read}
+use borrow.Author.Needs.{needs}
+use Rattle.listing.proofs.listing_of_input.Statement.{statement}
+use Rattle.listing.proofs.listing_of_input.Tie as tie
+
+slice-aggregate-listing : tie.Need-slice-aggregate-listing
+slice-aggregate-listing c = sym (length-take-le _ _ (c .before .before .pre))
+
+returns : tie.Need-returns
+returns c = let text = c .listing .ensures in (lists-read (omega arith) (text .0 .0), text .1)
+
+pub listing-of-input-spec : {M : Type 1} → statement M
+listing-of-input-spec =
+    tie.close (tie.spec slice-aggregate-listing (λ c κs. search needs) returns)
