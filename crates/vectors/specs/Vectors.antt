@@ -1,16 +1,16 @@
 -- A line of the vector files, 56 bytes: operands a and b, direction, expected pattern (hexadecimal) and flags (two decimal digits), parted by spaces, and the end of line.
 use mathlib.Core.Bool.{Bool, true, false, cond, not}
 use mathlib.Core.List.{List}
-use Prim.Native.Nat.{ℕ, zero, suc, _+_, _*_, _-_}
+use Prim.Native.Nat.{ℕ, zero, suc, _+_, _*_, _-_, _/_, _≤_}
 use lib.Dec.{ltb, eqb}
-use lib.ListN.{getD}
+use lib.ListN.{length, getD, take, drop}
 use Rattle.division.specs.declared.binary64.Binary64Answer.{Binary64Answer}
-use Rattle.selection.specs.Computed.{madeTable}
+use Rattle.selection.specs.Computed.{madeTable, countBelow}
 use Rattle.division.specs.Binary64.{binary64Of}
 use Rattle.vectors.specs.declared.Vector.{Vector}
 use Rattle.vectors.specs.declared.Counts.{Counts}
-use Rattle.vectors.specs.declared.Verdict.{Verdict}
-use Rattle.vectors.specs.declared.Verdict.the-variants.{End, Agrees, Differs}
+use Rattle.vectors.specs.declared.FileRun.{FileRun}
+use Rattle.vectors.specs.declared.FileRun.the-variants.{Unread, Counted}
 
 -- the value of a hexadecimal digit, 0 to 9 and a to f; of another byte 0
 abbrev pub nibbleOf : ℕ → ℕ
@@ -58,11 +58,27 @@ differsFrom v x = cond (eqb (x .refusal .number) 0) (cond (eqb (x .pattern) (v .
 abbrev pub differsIn : Vector → Bool
 differsIn v = differsFrom v (binary64Of madeTable (v .direction) (v .a) (v .b))
 
--- what becomes of a line of which n bytes were read: none is the end of the file, fewer than 56 differ, and so does a line that is not in the form
-abbrev pub verdictOf : List ℕ → ℕ → Verdict
-verdictOf s n =
-    cond (eqb n 0) End (cond (eqb n 56) (cond (formedUpto s 56) (cond (differsIn (vectorOf s)) Differs Agrees) Differs) Differs)
+-- a line differs: it is cut short, or not in the form, or the unit's answer differs from its case
+abbrev pub lineDiffers : List ℕ → Bool
+lineDiffers s = cond (eqb (length s) 56) (cond (formedUpto s 56) (differsIn (vectorOf s)) true) true
 
--- one more line
-abbrev pub countedIn : Counts → Bool → Counts
-countedIn t agrees = record { run = t .run + 1; differ = cond agrees (t .differ) (t .differ + 1) }
+-- line k of a file's bytes; the last may be cut short
+abbrev pub lineAt : List ℕ → ℕ → List ℕ
+lineAt s k = take 56 (drop (56 * k) s)
+
+-- line k differs
+abbrev pub differsAt : List ℕ → ℕ → Bool
+differsAt s k = lineDiffers (lineAt s k)
+
+-- how many lines there are
+abbrev pub linesIn : List ℕ → ℕ
+linesIn s = (length s + 55) / 56
+
+-- how many lines there are, and how many of them differ
+unfoldable pub countsOf : List ℕ → Counts
+countsOf s = record { run = linesIn s; differ = countBelow (differsAt s) (linesIn s) }
+
+-- nothing is told of a file, or the counts of the bytes that were read of it. No contract says which bytes a read gives
+pub data Ran : FileRun → Type 0 where
+  unread : Ran Unread
+  counted : (s : List ℕ) → length s ≤ 896001 → Ran (Counted (countsOf s))

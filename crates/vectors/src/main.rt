@@ -1,9 +1,13 @@
-// Public test vectors of IEEE 754 division through the unit: how many were run, and how many differ.
+// Public test vectors of IEEE 754 division through the unit: of each file how many lines were run, and how many of them differ.
 ghost use mathlib.Core.Path.{_≡_};
-ghost use Prim.Native.Nat.{_+_, _^_, _≤_, _<_};
-ghost use Rattle.vectors.specs.Vectors.{nibbleOf, hexOf, vectorOf, isDecimal, isHex, fitsAt, formedUpto, differsIn, verdictOf, countedIn};
-use printing::print_number;
-use printing::print_text;
+ghost use Prim.Native.Nat.{_+_, _*_, _^_, _≤_, _<_};
+ghost use lib.ListN.{length, take};
+ghost use Rattle.printing.specs.Text.{Appended};
+ghost use Rattle.vectors.specs.Vectors.{nibbleOf, hexOf, vectorOf, isDecimal, isHex, fitsAt, formedUpto, differsIn, lineDiffers, lineAt, countsOf, Ran};
+ghost use Rattle.vectors.specs.Report.{countsText, added, Room, WithFile, Reports};
+use libc::STDOUT_FILENO;
+use printing::text::append;
+use printing::text::append_number;
 
 // One case: two operands, a direction, and the pattern and flags that are expected.
 struct Vector {
@@ -14,20 +18,28 @@ struct Vector {
     flags: u64,
 }
 
-// What becomes of the next line of a file.
-enum Verdict {
-    End,
-    Agrees,
-    Differs,
-}
-
 struct Counts {
     run: u64,
     differ: u64,
 }
 
-// No file has as many lines: a bound for the loop.
-const MOST: u64 = 1000000;
+// What is told of a file: nothing where it could not be opened, or its counts.
+enum FileRun {
+    Unread,
+    Counted(Counts),
+}
+
+// The report so far: where its text ends, and the counts of all files.
+struct Page {
+    end: usize,
+    total: Counts,
+}
+
+// Room for the longest report: 16 bytes of names, and six lines of a name and two numbers of 20 digits.
+const ROOM: usize = 344;
+
+// Room for the bytes of 16,000 lines and one byte more, so that a longer file has a line that differs.
+const FILE: usize = 896001;
 
 fn nibble(c: u8) -> u64
     ensures { λ r. ⌜ (r ≡ nibbleOf c) × (r < 16) ⌝ }
@@ -81,7 +93,8 @@ fn fits(i: usize, c: u8) -> bool
     }
 }
 
-fn well_formed(line: &[u8; 56]) -> bool
+fn well_formed(line: &[u8]) -> bool
+    requires { ⌜ length (now line) ≡ 56 ⌝ }
     ensures { λ r. ⌜ r ≡ formedUpto (now (line .entry)) 56 ⌝ }
 {
     let mut i: usize = 0;
@@ -95,8 +108,8 @@ fn well_formed(line: &[u8; 56]) -> bool
 }
 
 // The number that the n hexadecimal digits from `at` on spell.
-fn hex(line: &[u8; 56], at: usize, n: usize) -> u64
-    requires { ⌜ (at + n ≤ 56) × (n ≤ 16) ⌝ }
+fn hex(line: &[u8], at: usize, n: usize) -> u64
+    requires { ⌜ (length (now line) ≡ 56) × (at + n ≤ 56) × (n ≤ 16) ⌝ }
     ensures { λ r. ⌜ (r ≡ hexOf (now (line .entry)) at n) × (r < 16 ^ n) ⌝ }
 {
     let mut value: u64 = 0;
@@ -108,7 +121,8 @@ fn hex(line: &[u8; 56], at: usize, n: usize) -> u64
     value
 }
 
-fn parse(line: &[u8; 56]) -> Vector
+fn parse(line: &[u8]) -> Vector
+    requires { ⌜ length (now line) ≡ 56 ⌝ }
     ensures { λ r. ⌜ r ≡ vectorOf (now (line .entry)) ⌝ }
 {
     let a = hex(line, 0, 16);
@@ -139,99 +153,126 @@ fn differs(v: Vector) -> bool
     answer.flags != v.flags
 }
 
-// Of the bytes read for a line, the first `length` are the file's. A line that is cut short or not in the form differs.
-fn verdict_of(line: &[u8; 56], length: usize) -> Verdict
-    ensures { λ r. ⌜ r ≡ verdictOf (now (line .entry)) length ⌝ }
+// A line that is cut short or not in the form differs.
+fn line_differs(line: &[u8]) -> bool
+    ensures { λ r. ⌜ r ≡ lineDiffers (now (line .entry)) ⌝ }
 {
-    if length == 0 {
-        return Verdict::End;
-    }
-    if length != 56 {
-        return Verdict::Differs;
+    if line.len() != 56 {
+        return true;
     }
     if !well_formed(line) {
-        return Verdict::Differs;
+        return true;
     }
-    if differs(parse(line)) {
-        Verdict::Differs
-    } else {
-        Verdict::Agrees
-    }
+    differs(parse(line))
 }
 
-// The next line of a file.
-fn run_line(fd: i32) -> Verdict {
-    let mut line = [0u8; 56];
-    let length = io::read_full(fd, &mut line);
-    verdict_of(&line, length)
-}
-
-// The counts with one more line, which agrees or differs.
-fn counted(counts: Counts, agrees: bool) -> Counts
-    requires { ⌜ (counts .differ ≤ counts .run) × (counts .run < 1000000) ⌝ }
-    ensures { λ r. ⌜ r ≡ countedIn counts agrees ⌝ }
+fn line_of(bytes: &[u8], k: usize) -> &[u8]
+    requires { ⌜ (k ≤ 16000) × (56 * k ≤ length (now bytes)) ⌝ }
+    ensures { λ r. ⌜ now r ≡ lineAt (now (bytes .entry)) k ⌝ }
 {
-    if agrees {
-        return Counts {
-            run: counts.run + 1,
-            differ: counts.differ,
-        };
+    let rest = &bytes[56 * k..];
+    if rest.len() < 56 {
+        return rest;
+    }
+    &rest[..56]
+}
+
+// The last line may be cut short.
+fn count_lines(bytes: &[u8]) -> Counts
+    requires { ⌜ length (now bytes) ≤ 896001 ⌝ }
+    ensures { λ r. ⌜ r ≡ countsOf (now (bytes .entry)) ⌝ }
+{
+    let lines = (bytes.len() + 55) / 56;
+    let mut differ: u64 = 0;
+    let mut k: usize = 0;
+    while k < lines {
+        if line_differs(line_of(bytes, k)) {
+            differ += 1;
+        }
+        k += 1;
     }
     Counts {
-        run: counts.run + 1,
-        differ: counts.differ + 1,
+        run: lines as u64,
+        differ,
     }
 }
 
-fn run_lines(fd: i32) -> Counts
-    ensures { λ r. ⌜ (r .differ ≤ r .run) × (r .run ≤ 1000000) ⌝ }
-{
-    let mut counts = Counts { run: 0, differ: 0 };
-    while counts.run < MOST {
-        let verdict = run_line(fd);
-        match verdict {
-            Verdict::End => return counts,
-            Verdict::Agrees => counts = counted(counts, true),
-            Verdict::Differs => counts = counted(counts, false),
-        }
-    }
-    counts
-}
-
-// A file's name, the number of its lines and how many of them differ.
-fn print_counts(name: &[u8], counts: Counts) {
-    print_text(name);
-    print_text(b" ");
-    print_number(counts.run, b" ");
-    print_number(counts.differ, b"\n");
-}
-
-// Runs a file, prints its line and adds it to the total. A file that cannot be opened adds nothing, and a message goes to standard error.
-fn run_file(name: &[u8], total: Counts) -> Counts
-    requires { ⌜ (total .differ ≤ total .run) × (total .run ≤ 1000000000) ⌝ }
-    ensures { λ r. ⌜ (r .differ ≤ r .run) × (r .run ≤ total .run + 1000000) ⌝ }
+// A file that cannot be opened is told on standard error.
+fn run_file(name: &[u8]) -> FileRun
+    ensures { λ r. ⌜ Ran r ⌝ }
 {
     let fd = os::open_read(name);
     if fd < 0 {
         os::fail(name);
-        return total;
+        return FileRun::Unread;
     }
-    let counts = run_lines(fd);
+    let mut bytes = [0u8; FILE];
+    let length = io::read_full(fd, &mut bytes);
     libc::close(fd);
-    print_counts(name, counts);
-    Counts {
-        run: total.run + counts.run,
-        differ: total.differ + counts.differ,
+    FileRun::Counted(count_lines(&bytes[..length]))
+}
+
+// A name, the number of lines and how many of them differ.
+fn append_counts(out: &mut [u8], at: usize, name: &[u8], counts: Counts) -> usize
+    requires { ⌜ at + length (now name) + 43 ≤ length (now out) ⌝ }
+    ensures { λ r. ⌜ Appended (now (out .entry)) at (countsText (now (name .entry)) counts) (now (out .exit)) r ⌝ }
+    ensures { λ r. ⌜ r ≤ at + length (now (name .entry)) + 43 ⌝ }
+{
+    let named = append(out, at, name);
+    let parted = append(out, named, b" ");
+    let after_run = append_number(out, parted, counts.run, b" ");
+    append_number(out, after_run, counts.differ, b"\n")
+}
+
+// The report with one file more.
+fn with_counts(out: &mut [u8], page: Page, name: &[u8], counts: Counts) -> Page
+    requires { ⌜ Room (now out) page (now name) × (counts .run ≤ 16001) × (counts .differ ≤ 16001) ⌝ }
+    ensures { λ r. ⌜ Appended (now (out .entry)) (page .end) (countsText (now (name .entry)) counts) (now (out .exit)) (r .end) ⌝ }
+    ensures { λ r. ⌜ r .total ≡ added (page .total) counts ⌝ }
+    ensures { λ r. ⌜ r .end ≤ page .end + length (now (name .entry)) + 43 ⌝ }
+{
+    let total = page.total;
+    let end = append_counts(out, page.end, name, counts);
+    Page {
+        end,
+        total: Counts {
+            run: total.run + counts.run,
+            differ: total.differ + counts.differ,
+        },
     }
 }
 
+// Runs a file. One that could not be read adds nothing.
+fn with_file(out: &mut [u8], page: Page, name: &[u8]) -> Page
+    requires { ⌜ Room (now out) page (now name) ⌝ }
+    ensures { λ r. ⌜ WithFile (now (out .entry)) page (now (name .entry)) (now (out .exit)) r ⌝ }
+    ensures { λ r. ⌜ (r .end ≤ page .end + length (now (name .entry)) + 43) × (r .total .run ≤ page .total .run + 16001) × (r .total .differ ≤ page .total .differ + 16001) ⌝ }
+{
+    let run = run_file(name);
+    match run {
+        FileRun::Unread => page,
+        FileRun::Counted(counts) => with_counts(out, page, name, counts),
+    }
+}
+
+// All that is printed.
+fn report(out: &mut [u8; ROOM]) -> usize
+    ensures { λ r. ⌜ Reports (take r (now (out .exit))) × (r ≤ length (now (out .exit))) ⌝ }
+{
+    let start = Page {
+        end: append(out, 0, b"file run differ\n"),
+        total: Counts { run: 0, differ: 0 },
+    };
+    let one = with_file(out, start, b"div-testfloat.txt");
+    let two = with_file(out, one, b"div-glibc.txt");
+    let three = with_file(out, two, b"div-llvm.txt");
+    let four = with_file(out, three, b"div-mpfr.txt");
+    let five = with_file(out, four, b"div-nan.txt");
+    append_counts(out, five.end, b"total", five.total)
+}
+
 fn main() {
-    print_text(b"file run differ\n");
-    let none = Counts { run: 0, differ: 0 };
-    let one = run_file(b"div-testfloat.txt", none);
-    let two = run_file(b"div-glibc.txt", one);
-    let three = run_file(b"div-llvm.txt", two);
-    let four = run_file(b"div-mpfr.txt", three);
-    let five = run_file(b"div-nan.txt", four);
-    print_counts(b"total", five);
+    let mut out = [0u8; ROOM];
+    let end = report(&mut out);
+    io::write_all(STDOUT_FILENO, &out[..end]);
 }

@@ -1,0 +1,46 @@
+-- `vectors::count_lines` meets its contract: after k lines, so many of them differ.
+use mathlib.Core.Path.{_≡_, refl, sym, ap, _∙_}
+use mathlib.Core.Logic.{⊎-elim}
+use Prim.Native.Nat.{ℕ, _+_, _-_, _≤_}
+use native.Mathlib.Omega.{arith}
+use Rattle.selection.specs.Computed.{countBelow}
+use Rattle.selection.proofs.Counts.{count-one, count-other, count-most}
+use Rattle.vectors.specs.Vectors.{lineDiffers, differsAt, linesIn, countsOf}
+use borrow.Author.Needs.{needs}
+use Rattle.vectors.proofs.count_lines.Statement.{statement}
+use Rattle.vectors.proofs.count_lines.Tie as tie
+
+abbrev Inv-loop : tie.InvT-loop
+Inv-loop bytes lines differ₀ k₀ differ k = (k ≤ lines) × (differ ≡ countBelow (differsAt bytes) k)
+
+abbrev μ-loop : tie.MeasureT-loop
+μ-loop bytes lines differ₀ k₀ differ k = lines - k
+
+loop-holds : tie.Need-loop-holds Inv-loop μ-loop
+unfolding countBelow
+loop-holds c = (omega arith, refl)
+
+add-differ : tie.Need-add-differ Inv-loop μ-loop
+add-differ c =
+    let l = c .before .before .before .before .loop in
+    omega (arith, l .inv .1, count-most (differsAt (c .before .before .before .before .before .before .args .bytes .now)) (l .k))
+
+loop-again : tie.Need-loop-again Inv-loop μ-loop
+loop-again c =
+    let inv = c .before .before .before .before .loop .inv in
+    let told = c .before .line-differs .ensures ∙ ap lineDiffers (c .before .before .line-of .ensures) in (
+      omega arith,
+      ⊎-elim
+          (λ w. w .1 ∙ ap (λ (n : ℕ). n + 1) (inv .1) ∙ sym (count-one _ _ (sym told ∙ w .0 .taken)))
+          (λ w. w .1 ∙ inv .1 ∙ sym (count-other _ _ (sym told ∙ w .0 .left)))
+          (c .if1 .came),
+    )
+
+returns : tie.Need-returns Inv-loop μ-loop
+unfolding countsOf
+returns c = let e : c .before .loop .k ≡ linesIn (c .before .before .before .args .bytes .now) = omega arith in rw (c .before .loop .inv .1, e)
+
+pub count-lines-spec : {M : Type 1} → statement M
+count-lines-spec =
+    tie.close (tie.spec Inv-loop μ-loop (λ c. omega arith) loop-holds (λ c κs. omega arith)
+    (λ c κs. search needs) add-differ (λ c. omega arith) (λ c. omega arith) loop-again returns)

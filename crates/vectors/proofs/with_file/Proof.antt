@@ -1,0 +1,31 @@
+-- `vectors::with_file` meets its contract: nothing, or one line more.
+use mathlib.Core.Path.{refl, subst}
+use native.Mathlib.Omega.{arith}
+use Rattle.printing.proofs.Texts.{appended-none}
+use Rattle.vectors.specs.Vectors.{Ran, unread}
+use Rattle.vectors.specs.declared.FileRun.the-variants.{Unread, Counted}
+use Rattle.vectors.proofs.Runs.{few-told}
+use borrow.Author.Needs.{needs}
+use Rattle.vectors.proofs.with_file.Statement.{statement}
+use Rattle.vectors.proofs.with_file.Tie as tie
+
+with-counts-requires : tie.Need-with-counts-requires
+with-counts-requires c κs =
+    let small = few-told (c .before .before .before .before .run-file .ensures) (c .before .before .run .given .1) in
+    (c .before .before .before .before .before .before .before .pre, small .0, small .1)
+
+returns : tie.Need-returns
+returns c = (record { file = Unread; ran = unread; text = appended-none _ _; total = refl }, omega arith)
+
+returns-2 : tie.Need-returns-2
+returns-2 c =
+    let told = c .before .before .with-counts .ensures in
+    let run = c .before .before .before .before .before .run .given in
+    let ran = subst Ran (run .1) (c .before .before .before .before .before .before .before .run-file .ensures) in
+    let small = few-told ran refl in
+    (record { file = Counted (run .0 .0); ran = ran; text = told .0; total = told .1 .0 }, rw (told .1 .0) (omega arith))
+
+pub with-file-spec : {M : Type 1} → statement M
+with-file-spec =
+    tie.close (tie.spec (λ c κs. search needs) (λ c. search needs) (λ c. search needs)
+    with-counts-requires returns (λ c. search needs) returns-2)
