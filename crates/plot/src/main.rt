@@ -1,5 +1,6 @@
 // The P-D plot of a table as an SVG picture: divisor rows from left to right, partial-remainder columns from below.
 mod picture;
+mod print;
 
 ghost use Prim.Native.Nat.{_*_, _+_, _≤_, _<_};
 ghost use Rattle.selection.specs.Table.{Table};
@@ -142,7 +143,7 @@ fn draw_table(table: &[u8], count: u64)
 fn print_refusal(refusal: Refusal) {
     let mut out = [0u8; 56];
     let end = printing::text::append_refusal(&mut out, 0, refusal);
-    printing::print_text(&out[..end]);
+    print::print_text(&out[..end]);
 }
 
 // The check tells a table, passed or bad, from what gets the two lines of a refusal.

@@ -1,7 +1,7 @@
 // The marks of the picture, in SVG. A cell is 38 wide and 5 high; row 0, column 0 is at the lower left, at (86, 720).
 ghost use Prim.Native.Nat.{_≤_, _<_};
-use printing::print_number;
-use printing::print_text;
+use crate::print::print_number;
+use crate::print::print_text;
 
 // The outline of the columns from `from` to before `end` of a row.
 fn print_outline(row: u64, from: u64, end: u64)
