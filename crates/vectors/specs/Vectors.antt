@@ -1,8 +1,9 @@
 -- A line of the vector files, 56 bytes: operands a and b, direction, expected pattern (hexadecimal) and flags (two decimal digits), parted by spaces, and the end of line.
 use mathlib.Core.Bool.{Bool, true, false, cond, not}
 use mathlib.Core.List.{List}
+use Prim.Native.Char.{code}
 use Prim.Native.Nat.{ℕ, zero, suc, _+_, _*_, _-_, _/_, _≤_}
-use lib.Dec.{ltb, eqb}
+use lib.Dec.{ltb, leb, eqb}
 use lib.ListN.{length, getD, take, drop}
 use Rattle.division.specs.declared.binary64.Binary64Answer.{Binary64Answer}
 use Rattle.selection.specs.Computed.{madeTable, countBelow}
@@ -14,7 +15,7 @@ use Rattle.vectors.specs.declared.FileRun.the-variants.{Unread, Counted}
 
 -- the value of a hexadecimal digit, 0 to 9 and a to f; of another byte 0
 abbrev pub nibbleOf : ℕ → ℕ
-nibbleOf c = cond (ltb c 48) 0 (cond (ltb c 58) (c - 48) (cond (ltb c 97) 0 (cond (ltb c 103) (c - 87) 0)))
+nibbleOf c = cond (ltb c (code "0")) 0 (cond (leb c (code "9")) (c - code "0") (cond (ltb c (code "a")) 0 (cond (leb c (code "f")) (c - code "a" + 10) 0)))
 
 -- the number that the n hexadecimal digits from the index at on spell
 unfoldable pub hexOf : List ℕ → ℕ → ℕ → ℕ
@@ -27,11 +28,11 @@ vectorOf s = record { a = hexOf s 0 16; b = hexOf s 17 16; direction = hexOf s 3
 
 -- 0 to 9
 abbrev pub isDecimal : ℕ → Bool
-isDecimal c = cond (ltb c 48) false (ltb c 58)
+isDecimal c = cond (ltb c (code "0")) false (leb c (code "9"))
 
 -- 0 to 9 and a to f
 abbrev pub isHex : ℕ → Bool
-isHex c = cond (isDecimal c) true (cond (ltb c 97) false (ltb c 103))
+isHex c = cond (isDecimal c) true (cond (ltb c (code "a")) false (leb c (code "f")))
 
 -- the indices between two fields
 abbrev pub parts : ℕ → Bool
@@ -43,7 +44,7 @@ decimals i = cond (eqb i 34) true (cond (ltb i 53) false (ltb i 55))
 
 -- a line may have the byte c at index i: a space between two fields, a decimal digit in direction and flags, an end of line at the end, elsewhere a hexadecimal digit
 abbrev pub fitsAt : ℕ → ℕ → Bool
-fitsAt i c = cond (parts i) (eqb c 32) (cond (decimals i) (isDecimal c) (cond (eqb i 55) (eqb c 10) (isHex c)))
+fitsAt i c = cond (parts i) (eqb c (code " ")) (cond (decimals i) (isDecimal c) (cond (eqb i 55) (eqb c (code "\n")) (isHex c)))
 
 -- the first n bytes fit
 unfoldable pub formedUpto : List ℕ → ℕ → Bool

@@ -44,17 +44,17 @@ const FILE: usize = 896001;
 fn nibble(c: u8) -> u64
     ensures { λ r. ⌜ (r ≡ nibbleOf c) × (r < 16) ⌝ }
 {
-    if c < 48 {
+    if c < b'0' {
         return 0;
     }
-    if c < 58 {
-        return (c - 48) as u64;
+    if c <= b'9' {
+        return (c - b'0') as u64;
     }
-    if c < 97 {
+    if c < b'a' {
         return 0;
     }
-    if c < 103 {
-        return (c - 87) as u64;
+    if c <= b'f' {
+        return (c - b'a') as u64 + 10;
     }
     0
 }
@@ -62,10 +62,10 @@ fn nibble(c: u8) -> u64
 fn is_decimal(c: u8) -> bool
     ensures { λ r. ⌜ r ≡ isDecimal c ⌝ }
 {
-    if c < 48 {
+    if c < b'0' {
         return false;
     }
-    c < 58
+    c <= b'9'
 }
 
 fn is_hex(c: u8) -> bool
@@ -74,10 +74,10 @@ fn is_hex(c: u8) -> bool
     if is_decimal(c) {
         return true;
     }
-    if c < 97 {
+    if c < b'a' {
         return false;
     }
-    c < 103
+    c <= b'f'
 }
 
 // Whether a line may have the byte c at index i.
@@ -85,9 +85,9 @@ fn fits(i: usize, c: u8) -> bool
     ensures { λ r. ⌜ r ≡ fitsAt i c ⌝ }
 {
     match i {
-        16 | 33 | 35 | 52 => c == 32,
+        16 | 33 | 35 | 52 => c == b' ',
         34 => is_decimal(c),
-        55 => c == 10,
+        55 => c == b'\n',
         53..=54 => is_decimal(c),
         _ => is_hex(c),
     }
