@@ -6,6 +6,7 @@
 
    Every call ends, and answers by value. The first two fields of an answer are the refusal (0: none) and its place.
    Where a call refuses, every other field is 0 (but see quendaric_check_table) and every lent buffer is unchanged.
+   Look at the refusal first: zeros beside a refusal are no answer, and some of them look like one.
    Where several refusals apply, the one with the least number is given. The place is 0 except for 9 and 10.
 
    A pointer must be valid for its length; with length 0 it is not read and may be NULL. Tables and buffers may be at
@@ -18,12 +19,39 @@
 #ifndef QUENDARIC_H
 #define QUENDARIC_H
 
+#if !defined(__x86_64__) || defined(__ILP32__) || defined(_WIN32) || defined(__CYGWIN__)
+#error "libquendaric.a is for x86-64 with System V calls and a 64-bit size_t, and for no other target"
+#endif
+
 #include <stddef.h>
 #include <stdint.h>
+#if __STDC_HOSTED__
+#include <string.h>
+#endif
+
+#ifdef __GNUC__
+/* Microsoft's calls by an option (gcc -mabi=ms) have no macro of their own, but a va_list that is a mere pointer. */
+typedef char quendaric_wants_system_v_calls[sizeof(__builtin_va_list) == 24 ? 1 : -1];
+#endif
+
+/* Before a call: the compiler is to warn where its answer is ignored. */
+#if defined(__cplusplus) ? __cplusplus >= 201703L : defined(__STDC_VERSION__) && __STDC_VERSION__ >= 202311L
+#define QUENDARIC_ANSWER [[nodiscard]]
+#elif defined(__GNUC__)
+#define QUENDARIC_ANSWER __attribute__((warn_unused_result))
+#else
+#define QUENDARIC_ANSWER
+#endif
 
 #ifdef __cplusplus
 extern "C" {
 #endif
+
+/* The version of these calls; CHANGELOG.md tells what changed. */
+#define QUENDARIC_VERSION "1.0.0"
+#define QUENDARIC_VERSION_MAJOR 1
+#define QUENDARIC_VERSION_MINOR 0
+#define QUENDARIC_VERSION_PATCH 0
 
 #define QUENDARIC_TABLE_LENGTH 2048
 #define QUENDARIC_MOST_DIGITS 31
@@ -54,8 +82,9 @@ extern "C" {
 #define QUENDARIC_DIVISION_BY_ZERO 8
 #define QUENDARIC_INVALID 16
 
-/* allowed: 1 or 0. Where the digit is not allowed, (divisor, remainder) is the least witness against it, in units of
-   2^-60: a point of the cell from which the digit drives the remainder out of range. Else both are 0. */
+/* allowed: 1 or 0; 0 beside a refusal says nothing of the digit. Where the digit is not allowed, (divisor, remainder) is
+   the least witness against it, in units of 2^-60: a point of the cell from which the digit drives the remainder out of
+   range. Else both are 0. */
 typedef struct {
   uint64_t refusal;
   uint64_t place;
@@ -64,7 +93,9 @@ typedef struct {
   int64_t remainder;
 } quendaric_cell;
 
-/* count: the number of bad cells; row and column of the first; (divisor, remainder): the least witness against it. */
+/* count: the number of bad cells; row and column of the first; (divisor, remainder): the least witness against it.
+   A count of 0 is not "passed": beside the refusals 8 and 9 the cells were not looked at, and the count is 0 too. The
+   table passed exactly when the refusal is 0. */
 typedef struct {
   uint64_t refusal;
   uint64_t place;
@@ -75,18 +106,20 @@ typedef struct {
   int64_t remainder;
 } quendaric_report;
 
-/* The columns at which the digits -2, -1, 0, 1, 2 and again 0 begin. */
+/* The columns at which the digits -2, -1, 0, 1, 2 and again 0 begin. Beside a refusal the zeros are no columns. */
 typedef struct {
   uint64_t refusal;
   uint64_t place;
   uint8_t limits[6];
 } quendaric_limits;
 
+/* Beside a refusal nothing was written: what the buffer holds is not the made table. */
 typedef struct {
   uint64_t refusal;
   uint64_t place;
 } quendaric_made;
 
+/* digits: their number. Beside a refusal the zeros are no quotient, and nothing was written. */
 typedef struct {
   uint64_t refusal;
   uint64_t place;
@@ -95,6 +128,7 @@ typedef struct {
   uint64_t digits;
 } quendaric_ran;
 
+/* Beside a refusal the zeros are no quotient. */
 typedef struct {
   uint64_t refusal;
   uint64_t place;
@@ -102,6 +136,8 @@ typedef struct {
   uint64_t remainder;
 } quendaric_whole;
 
+/* Beside a refusal pattern and flags are 0. The pattern 0 reads as 0.0 and no flag as an exact answer, and neither is
+   one: nothing was divided. */
 typedef struct {
   uint64_t refusal;
   uint64_t place;
@@ -111,17 +147,21 @@ typedef struct {
 
 /* Examines a single cell: is the digit byte - 2 allowed in it? A digit that is not allowed is an ordinary answer, not
    a refusal. Refuses 1; 9 with place 128 * row + column. */
+QUENDARIC_ANSWER
 quendaric_cell quendaric_check_cell(uint64_t row, uint64_t column, uint8_t byte);
 
-/* Checks a table. It passed exactly when the refusal is 0. Refuses 8, 9 and 10; 10 alone also carries count, row,
-   column and witness. */
+/* Checks a table. It passed exactly when the refusal is 0, and not already when the count is. Refuses 8, 9 and 10; 10
+   alone also carries count, row, column and witness. */
+QUENDARIC_ANSWER
 quendaric_report quendaric_check_table(const uint8_t *table, size_t length);
 
 /* The six columns at which the digits of a made row change. Refuses 1. */
+QUENDARIC_ANSWER
 quendaric_limits quendaric_row_limits(uint64_t row);
 
 /* Writes the made table, which is the kept one, to the first 2,048 bytes of the buffer: in each cell the allowed digit
    nearest zero. Later bytes keep their contents. Refuses 7. */
+QUENDARIC_ANSWER
 quendaric_made quendaric_make_table(uint8_t *buffer, size_t length);
 
 /* A run: n = digits quotient digits of dividend / divisor through the table, 1 to 31 of them.
@@ -129,30 +169,52 @@ quendaric_made quendaric_make_table(uint8_t *buffer, size_t length);
    byte to buffer[place] to buffer[place + digits - 1], the first digit first; no other byte is written.
    dividend * 4^(digits - 1) = quotient * divisor + remainder, with remainder < divisor.
    Checks the table on each call. Refuses 2, 3, 7, 8, 9, 10. */
+QUENDARIC_ANSWER
 quendaric_ran quendaric_run(const uint8_t *table, size_t table_length, uint64_t dividend, uint64_t divisor,
                             size_t digits, uint8_t *buffer, size_t buffer_length, size_t place);
 
 /* The same through the kept table. Refuses 2, 3, 7. */
+QUENDARIC_ANSWER
 quendaric_ran quendaric_run_kept(uint64_t dividend, uint64_t divisor, size_t digits, uint8_t *buffer,
                                  size_t buffer_length, size_t place);
 
 /* Whole numbers below 2^60: a = quotient * b + remainder, with remainder < b, through the table.
    Checks the table on each call. Refuses 4, 5, 8, 9, 10. */
+QUENDARIC_ANSWER
 quendaric_whole quendaric_divide_whole(const uint8_t *table, size_t table_length, uint64_t a, uint64_t b);
 
 /* The same through the kept table. Refuses 4, 5. */
+QUENDARIC_ANSWER
 quendaric_whole quendaric_divide_whole_kept(uint64_t a, uint64_t b);
 
 /* IEEE 754 binary64 division of two patterns (a double's 64 bits), rounded once in the direction, through the table.
    A NaN operand, quiet or signalling, gives 7FF8000000000000 and no flag; IEEE 754 raises invalid for a signalling one.
-   Checks the table on each call, whatever the operands. Refuses 6, 8, 9, 10. */
+   Checks the table on each call, whatever the operands. Refuses 6, 8, 9, 10, and then with the pattern 0, which reads as
+   0.0: look at the refusal first. */
+QUENDARIC_ANSWER
 quendaric_binary64 quendaric_divide_binary64(const uint8_t *table, size_t table_length, uint64_t a, uint64_t b,
                                              uint64_t direction);
 
-/* The same through the kept table. Refuses 6. */
+/* The same through the kept table. Refuses 6, with the pattern 0 that reads as 0.0. */
+QUENDARIC_ANSWER
 quendaric_binary64 quendaric_divide_binary64_kept(uint64_t a, uint64_t b, uint64_t direction);
 
 #ifdef __cplusplus
+}
+#endif
+
+#if __STDC_HOSTED__
+/* A double's 64 bits, and the double of 64 bits. */
+static inline uint64_t quendaric_pattern(double number) {
+  uint64_t pattern;
+  memcpy(&pattern, &number, sizeof pattern);
+  return pattern;
+}
+
+static inline double quendaric_double(uint64_t pattern) {
+  double number;
+  memcpy(&number, &pattern, sizeof number);
+  return number;
 }
 #endif
 

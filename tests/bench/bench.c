@@ -80,7 +80,8 @@ static uint64_t bits(void) {
 static volatile uint64_t sink;
 
 static void prepare(void) {
-  quendaric_make_table(table, sizeof table);
+  if (quendaric_make_table(table, sizeof table).refusal != 0)
+    exit(2);
   for (int i = 0; i < PAIRS; i++) {
     a[i] = (bits() & 0x800fffffffffffffull) | (823 + bits() % 400) << 52;
     b[i] = (bits() & 0x800fffffffffffffull) | (823 + bits() % 400) << 52;

@@ -60,7 +60,8 @@ static long used(void) {
 
 int main(void) {
   long most = 0;
-  quendaric_make_table(table, sizeof table);
+  if (quendaric_make_table(table, sizeof table).refusal != 0)
+    return 1;
   for (which = 0; which < CALLS; which++)
     for (int turn = 0; turn < TURNS; turn++) {
       a = bits(), b = bits();

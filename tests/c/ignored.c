@@ -1,0 +1,18 @@
+/* Each call once, its answer ignored: the compiler must warn of every one. Compiled by tests/c/run, never linked. */
+
+#include "quendaric.h"
+
+void ignored(const uint8_t *table, uint8_t *buffer);
+
+void ignored(const uint8_t *table, uint8_t *buffer) {
+  quendaric_check_cell(0, 0, 2);
+  quendaric_check_table(table, 2048);
+  quendaric_row_limits(0);
+  quendaric_make_table(buffer, 2048);
+  quendaric_run(table, 2048, 1, (uint64_t)1 << 60, 28, buffer, 28, 0);
+  quendaric_run_kept(1, (uint64_t)1 << 60, 28, buffer, 28, 0);
+  quendaric_divide_whole(table, 2048, 1, 1);
+  quendaric_divide_whole_kept(1, 1);
+  quendaric_divide_binary64(table, 2048, 1, 1, QUENDARIC_NEAREST);
+  quendaric_divide_binary64_kept(1, 1, QUENDARIC_NEAREST);
+}

@@ -1,0 +1,65 @@
+/* Would catch an answer whose size, or a field whose place or size, is not what the archive writes: each is held against
+   a literal when this file is compiled, as C and as C++. And a version whose parts are not its numbers. */
+
+#include "quendaric.h"
+#include <stdio.h>
+#include <string.h>
+
+#ifdef __cplusplus
+#define _Static_assert static_assert
+#endif
+
+#define SIZE(type, size) _Static_assert(sizeof(type) == (size), #type)
+#define FIELD(type, field, offset, size)                                                                               \
+  _Static_assert(offsetof(type, field) == (offset) && sizeof(((type *)0)->field) == (size), #type "." #field)
+#define REFUSAL(type)                                                                                                  \
+  FIELD(type, refusal, 0, 8);                                                                                          \
+  FIELD(type, place, 8, 8)
+
+REFUSAL(quendaric_cell);
+FIELD(quendaric_cell, allowed, 16, 8);
+FIELD(quendaric_cell, divisor, 24, 8);
+FIELD(quendaric_cell, remainder, 32, 8);
+SIZE(quendaric_cell, 40);
+
+REFUSAL(quendaric_report);
+FIELD(quendaric_report, count, 16, 8);
+FIELD(quendaric_report, row, 24, 8);
+FIELD(quendaric_report, column, 32, 8);
+FIELD(quendaric_report, divisor, 40, 8);
+FIELD(quendaric_report, remainder, 48, 8);
+SIZE(quendaric_report, 56);
+
+REFUSAL(quendaric_limits);
+FIELD(quendaric_limits, limits, 16, 6);
+SIZE(quendaric_limits, 24);
+
+REFUSAL(quendaric_made);
+SIZE(quendaric_made, 16);
+
+REFUSAL(quendaric_ran);
+FIELD(quendaric_ran, quotient, 16, 8);
+FIELD(quendaric_ran, remainder, 24, 8);
+FIELD(quendaric_ran, digits, 32, 8);
+SIZE(quendaric_ran, 40);
+
+REFUSAL(quendaric_whole);
+FIELD(quendaric_whole, quotient, 16, 8);
+FIELD(quendaric_whole, remainder, 24, 8);
+SIZE(quendaric_whole, 32);
+
+REFUSAL(quendaric_binary64);
+FIELD(quendaric_binary64, pattern, 16, 8);
+FIELD(quendaric_binary64, flags, 24, 8);
+SIZE(quendaric_binary64, 32);
+
+int main(void) {
+  char version[32];
+  snprintf(version, sizeof version, "%d.%d.%d", QUENDARIC_VERSION_MAJOR, QUENDARIC_VERSION_MINOR,
+           QUENDARIC_VERSION_PATCH);
+  if (strcmp(version, QUENDARIC_VERSION) != 0) {
+    printf("the version %s has the parts %s\n", QUENDARIC_VERSION, version);
+    return 1;
+  }
+  return 0;
+}

@@ -1,0 +1,118 @@
+/* Would catch arguments that stand in another order in the archive than in the header: each call is made with numbers
+   that are all different, and its whole answer is held against a literal. For each pair of numbers the call is made once
+   more with the two exchanged, and the answer must then be another, so that no exchange is missed. The names of the
+   arguments are compared by tests/c/run. */
+
+#include "quendaric.h"
+#include <stdio.h>
+#include <string.h>
+
+enum { MOST = 6, ROOM = 16 };
+
+/* A table that passes and is not the kept one: 1 is allowed at 1991 too, where the kept table has 0. */
+static uint8_t made[QUENDARIC_TABLE_LENGTH];
+static const uint8_t *const table = made;
+
+/* An answer's words, and what its buffer holds after the call. */
+typedef struct {
+  uint64_t word[7];
+  uint8_t buffer[ROOM];
+} whole_answer;
+
+#define ANSWERS(answer, call)                                                                                          \
+  do {                                                                                                                 \
+    const __typeof__(call) got = call;                                                                                 \
+    memcpy((answer)->word, &got, sizeof got);                                                                          \
+  } while (0)
+
+static void check_cell(const uint64_t *x, whole_answer *y) {
+  ANSWERS(y, quendaric_check_cell(x[0], x[1], (uint8_t)x[2]));
+}
+static void check_table(const uint64_t *x, whole_answer *y) { ANSWERS(y, quendaric_check_table(table, x[0])); }
+static void row_limits(const uint64_t *x, whole_answer *y) { ANSWERS(y, quendaric_row_limits(x[0])); }
+static void make_table(const uint64_t *x, whole_answer *y) { ANSWERS(y, quendaric_make_table(y->buffer, x[0])); }
+static void run(const uint64_t *x, whole_answer *y) {
+  ANSWERS(y, quendaric_run(table, x[0], x[1], x[2], x[3], y->buffer, x[4], x[5]));
+}
+static void run_kept(const uint64_t *x, whole_answer *y) {
+  ANSWERS(y, quendaric_run_kept(x[0], x[1], x[2], y->buffer, x[3], x[4]));
+}
+static void divide_whole(const uint64_t *x, whole_answer *y) {
+  ANSWERS(y, quendaric_divide_whole(table, x[0], x[1], x[2]));
+}
+static void divide_whole_kept(const uint64_t *x, whole_answer *y) {
+  ANSWERS(y, quendaric_divide_whole_kept(x[0], x[1]));
+}
+static void divide_binary64(const uint64_t *x, whole_answer *y) {
+  ANSWERS(y, quendaric_divide_binary64(table, x[0], x[1], x[2], x[3]));
+}
+static void divide_binary64_kept(const uint64_t *x, whole_answer *y) {
+  ANSWERS(y, quendaric_divide_binary64_kept(x[0], x[1], x[2]));
+}
+
+#define ONE 0x3FF0000000000000ull   /* 1.0 */
+#define THREE 0x4008000000000000ull /* 3.0 */
+#define N 0x1234567890ABCDEFull
+#define D 0x1FEDCBA987654321ull
+
+static const struct {
+  const char *name;
+  void (*call)(const uint64_t *, whole_answer *);
+  int arguments;
+  uint64_t argument[MOST];
+  whole_answer answer;
+} cases[] = {
+    /* row, column, byte: the digit 2 is not allowed there */
+    {"check_cell", check_cell, 3, {0, 75, 4}, {{0, 0, 0, 1188950301625810945ull, 1585267068834414592ull}, {0}}},
+    {"check_table", check_table, 1, {2048}, {{0}, {0}}},
+    /* row; the six columns stand in one word, the first lowest */
+    {"row_limits", row_limits, 1, {7}, {{0, 0, 0x605246392D1Full}, {0}}},
+    {"make_table", make_table, 1, {ROOM}, {{7}, {0}}},
+    /* table length, dividend, divisor, digits, buffer length, place: N * 4^4 = 145 * D + 2208485150033111375 */
+    {"run",
+     run,
+     6,
+     {2048, N, D, 5, 11, 4},
+     {{0, 0, 145, 2208485150033111375ull, 5}, {0, 0, 0, 0, 3, 0, 3, 3, 0}}},
+    {"run_kept", run_kept, 5, {N, D, 5, 11, 4}, {{0, 0, 145, 2208485150033111375ull, 5}, {0, 0, 0, 0, 3, 0, 3, 2, 4}}},
+    {"divide_whole", divide_whole, 3, {2048, 1000000007, 7654321}, {{0, 0, 130, 4938277}, {0}}},
+    {"divide_whole_kept", divide_whole_kept, 2, {1000000007, 7654321}, {{0, 0, 130, 4938277}, {0}}},
+    /* .., a, b, direction: 1/3 upward */
+    {"divide_binary64", divide_binary64, 4, {2048, ONE, THREE, 2}, {{0, 0, 0x3FD5555555555556ull, 1}, {0}}},
+    {"divide_binary64_kept", divide_binary64_kept, 3, {ONE, THREE, 2}, {{0, 0, 0x3FD5555555555556ull, 1}, {0}}},
+};
+
+/* Is it the answer of case i? Padding after a row's limits is left out: it is no part of the answer. */
+static int as_wanted(int i, const uint64_t *argument) {
+  whole_answer y;
+  memset(&y, 0, sizeof y);
+  cases[i].call(argument, &y);
+  if (cases[i].call == row_limits)
+    y.word[2] &= 0xFFFFFFFFFFFFull;
+  return memcmp(&y, &cases[i].answer, sizeof y) == 0;
+}
+
+int main(void) {
+  int differences = 0;
+  if (quendaric_make_table(made, sizeof made).refusal != 0)
+    return 1;
+  made[1991] = 3;
+  for (int i = 0; i < (int)(sizeof cases / sizeof *cases); i++) {
+    if (!as_wanted(i, cases[i].argument)) {
+      printf("quendaric_%s: another answer\n", cases[i].name);
+      differences++;
+    }
+    for (int j = 0; j < cases[i].arguments; j++)
+      for (int k = j + 1; k < cases[i].arguments; k++) {
+        uint64_t exchanged[MOST];
+        memcpy(exchanged, cases[i].argument, sizeof exchanged);
+        exchanged[j] = cases[i].argument[k];
+        exchanged[k] = cases[i].argument[j];
+        if (as_wanted(i, exchanged)) {
+          printf("quendaric_%s: numbers %d and %d exchanged are not seen\n", cases[i].name, j, k);
+          differences++;
+        }
+      }
+  }
+  return differences != 0;
+}
