@@ -6,38 +6,26 @@
    Build: gcc -Iinclude examples/reading.c target/staticlib/libquendaric.a -o reading */
 
 #include "quendaric.h"
+#include "read_table.h"
+#include <errno.h>
 #include <inttypes.h>
 #include <math.h>
 #include <stdio.h>
 #include <stdlib.h>
-#include <string.h>
 
-/* A double and its 64 bits. */
-static uint64_t bits(double x) {
-  uint64_t pattern;
-  memcpy(&pattern, &x, sizeof pattern);
-  return pattern;
-}
-
-static double number(uint64_t pattern) {
-  double x;
-  memcpy(&x, &pattern, sizeof x);
-  return x;
-}
-
-/* Is the whole word a finite number? Then that is put into *x. */
+/* Is the whole word a finite number in the range of double? Then that is put into *x. */
 static int parse(const char *word, double *x) {
   char *end;
+  errno = 0; /* strtod answers a number below the range by 0, and tells it by ERANGE alone */
   *x = strtod(word, &end);
-  return end != word && *end == '\0' && isfinite(*x);
+  return end != word && *end == '\0' && isfinite(*x) && errno != ERANGE;
 }
 
 int main(int argc, char **argv) {
-  /* one byte more than a table, so that a longer file is seen to be longer */
-  uint8_t table[QUENDARIC_TABLE_LENGTH + 1];
+  table_file table;
   double current, sensitivity;
   if (argc != 4 || !parse(argv[2], &current) || !parse(argv[3], &sensitivity)) {
-    fprintf(stderr, "usage: reading TABLE-FILE CURRENT SENSITIVITY, the last two finite numbers\n");
+    fprintf(stderr, "usage: reading TABLE-FILE CURRENT SENSITIVITY, the last two finite numbers in the range of double\n");
     return 2;
   }
   FILE *file = fopen(argv[1], "rb");
@@ -45,26 +33,28 @@ int main(int argc, char **argv) {
     perror(argv[1]);
     return 2;
   }
-  size_t length = fread(table, 1, sizeof table, file);
+  if (!read_table(file, argv[1], &table))
+    return 2;
   fclose(file);
 
-  quendaric_report report = quendaric_check_table(table, length);
+  quendaric_report report = quendaric_check_table(table.bytes, table.length);
   if (report.refusal != 0) {
     printf("table refused: %" PRIu64 ", place %" PRIu64 "\n", report.refusal, report.place);
     if (report.refusal == QUENDARIC_REFUSED_BAD_CELL)
-      printf("%" PRIu64 " bad cells; the first is row %" PRIu64 ", column %" PRIu64 ", divisor %" PRIu64
+      printf("bad cells: %" PRIu64 "; the first: row %" PRIu64 ", column %" PRIu64 ", divisor %" PRIu64
              ", remainder %" PRId64 "\n",
              report.count, report.row, report.column, report.divisor, report.remainder);
     return 1;
   }
   printf("table passed\n");
 
-  quendaric_binary64 reading =
-      quendaric_divide_binary64(table, length, bits(current), bits(sensitivity), QUENDARIC_NEAREST);
+  quendaric_binary64 reading = quendaric_divide_binary64(
+      table.bytes, table.length, quendaric_pattern(current), quendaric_pattern(sensitivity), QUENDARIC_NEAREST);
   if (reading.refusal != 0 || (reading.flags & ~(uint64_t)QUENDARIC_INEXACT) != 0) {
     printf("no reading: refusal %" PRIu64 ", flags %" PRIu64 "\n", reading.refusal, reading.flags);
     return 1;
   }
-  printf("reading %.17g%s\n", number(reading.pattern), reading.flags & QUENDARIC_INEXACT ? " (rounded)" : "");
+  printf("reading %.17g%s\n", quendaric_double(reading.pattern),
+         reading.flags & QUENDARIC_INEXACT ? " (rounded)" : "");
   return 0;
 }

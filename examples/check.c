@@ -1,0 +1,61 @@
+/* Checks a table of quotient digits before it is burned.
+
+     check TABLE-FILE        or        check < TABLE-FILE
+
+   Prints the verdict and the number of bad cells; where there is one, the first with its digit and its witness, the
+   divisor and the remainder that the digit drives out of range.
+   Status: 0 the table passed, 1 it has a bad cell, 2 it was refused for its form, or could not be read, or the verdict
+   could not be written; what is wrong stands on standard error.
+   Build: gcc -Iinclude examples/check.c target/staticlib/libquendaric.a -o check */
+
+#include "quendaric.h"
+#include "read_table.h"
+#include <inttypes.h>
+#include <stdio.h>
+
+enum { PASSED = 0, BAD = 1, FAILED = 2 };
+
+/* The verdict on what was read. */
+static int verdict(const table_file *table, const char *name) {
+  quendaric_report report = quendaric_check_table(table->bytes, table->length);
+  switch (report.refusal) {
+  case 0:
+    printf("passed\nbad cells: 0\n");
+    return PASSED;
+  case QUENDARIC_REFUSED_BAD_CELL:
+    printf("bad\nbad cells: %" PRIu64 "\n", report.count);
+    printf("first bad cell: row %" PRIu64 ", column %" PRIu64 ", digit %d\n", report.row, report.column,
+           table->bytes[report.place] - 2);
+    printf("witness: divisor %" PRIu64 ", remainder %" PRId64 "\n", report.divisor, report.remainder);
+    return BAD;
+  case QUENDARIC_REFUSED_LENGTH:
+    fprintf(stderr, "%s: refused (8): not %d bytes\n", name, QUENDARIC_TABLE_LENGTH);
+    return FAILED;
+  case QUENDARIC_REFUSED_BYTE:
+    fprintf(stderr, "%s: refused (9): the byte at %" PRIu64 " is above 4\n", name, report.place);
+    return FAILED;
+  default:
+    fprintf(stderr, "%s: refused (%" PRIu64 "), place %" PRIu64 "\n", name, report.refusal, report.place);
+    return FAILED;
+  }
+}
+
+int main(int argc, char **argv) {
+  table_file table;
+  if (argc > 2) {
+    fprintf(stderr, "usage: check [TABLE-FILE]\n");
+    return FAILED;
+  }
+  const char *name = argc == 2 ? argv[1] : "standard input";
+  FILE *file = argc == 2 ? fopen(name, "rb") : stdin;
+  if (file == NULL) {
+    perror(name);
+    return FAILED;
+  }
+  int status = read_table(file, name, &table) ? verdict(&table, name) : FAILED;
+  if (fclose(stdout) != 0) {
+    perror("standard output");
+    return FAILED;
+  }
+  return status;
+}
