@@ -13,41 +13,41 @@ enum { MOST = 6, ROOM = 16 };
 static uint8_t made[QUENDARIC_TABLE_LENGTH];
 static const uint8_t *const table = made;
 
-/* An answer's words, and what its buffer holds after the call. */
+/* An answer word by word, and what the lent buffer holds after the call. */
 typedef struct {
   uint64_t word[7];
   uint8_t buffer[ROOM];
-} whole_answer;
+} reply;
 
-#define ANSWERS(answer, call)                                                                                          \
+#define REPLY(y, call)                                                                                                 \
   do {                                                                                                                 \
     const __typeof__(call) got = call;                                                                                 \
-    memcpy((answer)->word, &got, sizeof got);                                                                          \
+    memcpy((y)->word, &got, sizeof got);                                                                               \
   } while (0)
 
-static void check_cell(const uint64_t *x, whole_answer *y) {
-  ANSWERS(y, quendaric_check_cell(x[0], x[1], (uint8_t)x[2]));
+static void check_cell(const uint64_t *x, reply *y) {
+  REPLY(y, quendaric_check_cell(x[0], x[1], (uint8_t)x[2]));
 }
-static void check_table(const uint64_t *x, whole_answer *y) { ANSWERS(y, quendaric_check_table(table, x[0])); }
-static void row_limits(const uint64_t *x, whole_answer *y) { ANSWERS(y, quendaric_row_limits(x[0])); }
-static void make_table(const uint64_t *x, whole_answer *y) { ANSWERS(y, quendaric_make_table(y->buffer, x[0])); }
-static void run(const uint64_t *x, whole_answer *y) {
-  ANSWERS(y, quendaric_run(table, x[0], x[1], x[2], x[3], y->buffer, x[4], x[5]));
+static void check_table(const uint64_t *x, reply *y) { REPLY(y, quendaric_check_table(table, x[0])); }
+static void row_limits(const uint64_t *x, reply *y) { REPLY(y, quendaric_row_limits(x[0])); }
+static void make_table(const uint64_t *x, reply *y) { REPLY(y, quendaric_make_table(y->buffer, x[0])); }
+static void run(const uint64_t *x, reply *y) {
+  REPLY(y, quendaric_run(table, x[0], x[1], x[2], x[3], y->buffer, x[4], x[5]));
 }
-static void run_kept(const uint64_t *x, whole_answer *y) {
-  ANSWERS(y, quendaric_run_kept(x[0], x[1], x[2], y->buffer, x[3], x[4]));
+static void run_kept(const uint64_t *x, reply *y) {
+  REPLY(y, quendaric_run_kept(x[0], x[1], x[2], y->buffer, x[3], x[4]));
 }
-static void divide_whole(const uint64_t *x, whole_answer *y) {
-  ANSWERS(y, quendaric_divide_whole(table, x[0], x[1], x[2]));
+static void divide_whole(const uint64_t *x, reply *y) {
+  REPLY(y, quendaric_divide_whole(table, x[0], x[1], x[2]));
 }
-static void divide_whole_kept(const uint64_t *x, whole_answer *y) {
-  ANSWERS(y, quendaric_divide_whole_kept(x[0], x[1]));
+static void divide_whole_kept(const uint64_t *x, reply *y) {
+  REPLY(y, quendaric_divide_whole_kept(x[0], x[1]));
 }
-static void divide_binary64(const uint64_t *x, whole_answer *y) {
-  ANSWERS(y, quendaric_divide_binary64(table, x[0], x[1], x[2], x[3]));
+static void divide_binary64(const uint64_t *x, reply *y) {
+  REPLY(y, quendaric_divide_binary64(table, x[0], x[1], x[2], x[3]));
 }
-static void divide_binary64_kept(const uint64_t *x, whole_answer *y) {
-  ANSWERS(y, quendaric_divide_binary64_kept(x[0], x[1], x[2]));
+static void divide_binary64_kept(const uint64_t *x, reply *y) {
+  REPLY(y, quendaric_divide_binary64_kept(x[0], x[1], x[2]));
 }
 
 #define ONE 0x3FF0000000000000ull   /* 1.0 */
@@ -57,10 +57,10 @@ static void divide_binary64_kept(const uint64_t *x, whole_answer *y) {
 
 static const struct {
   const char *name;
-  void (*call)(const uint64_t *, whole_answer *);
+  void (*call)(const uint64_t *, reply *);
   int arguments;
   uint64_t argument[MOST];
-  whole_answer answer;
+  reply wanted;
 } cases[] = {
     /* row, column, byte: the digit 2 is not allowed there */
     {"check_cell", check_cell, 3, {0, 75, 4}, {{0, 0, 0, 1188950301625810945ull, 1585267068834414592ull}, {0}}},
@@ -84,12 +84,12 @@ static const struct {
 
 /* Is it the answer of case i? Padding after a row's limits is left out: it is no part of the answer. */
 static int as_wanted(int i, const uint64_t *argument) {
-  whole_answer y;
+  reply y;
   memset(&y, 0, sizeof y);
   cases[i].call(argument, &y);
   if (cases[i].call == row_limits)
     y.word[2] &= 0xFFFFFFFFFFFFull;
-  return memcmp(&y, &cases[i].answer, sizeof y) == 0;
+  return memcmp(&y, &cases[i].wanted, sizeof y) == 0;
 }
 
 int main(void) {
