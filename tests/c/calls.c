@@ -151,6 +151,8 @@ static void divisions(const uint8_t *table) {
   SAME(least.pattern, 1);
   SAME(least.flags, QUENDARIC_INEXACT + QUENDARIC_UNDERFLOW);
   SAME(quendaric_divide_binary64_kept(1, 1, 4).refusal, QUENDARIC_REFUSED_DIRECTION);
+  SAME(quendaric_pattern(-2.5), 0xC004000000000000ull);
+  SAME(quendaric_double(0xC004000000000000ull) == -2.5, 1);
   /* a NaN operand, quiet or signalling */
   static const uint64_t nan[2] = {0x7FF8000000000001ull, 0xFFF0000000000001ull};
   for (int i = 0; i < 2; i++) {
