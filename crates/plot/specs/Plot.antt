@@ -1,13 +1,13 @@
--- What decides the picture of a cell: document 01, "Cells".
+-- What the picture shows of cells: document 01, "Cells".
 use mathlib.Core.Path.{_≡_}
 use mathlib.Core.Bool.{Bool, true, false}
 use mathlib.Core.List.{List}
-use mathlib.Core.Logic.{_⊎_}
 use Prim.Native.Nat.{ℕ, _+_, _*_, _/_, _%_, _≤_, _<_}
 use lib.IntN.{ℤ}
 use lib.ListN.{getD}
 use Rattle.selection.specs.Cell.{Point, Against, Allows, digit}
 use Rattle.selection.specs.Table.{BadAt}
+use Rattle.plot.specs.declared.cells.Cell.{Cell}
 
 -- the cell (r, c) has a point
 pub record HasPoint (r c : ℕ) : Type 0 where
@@ -26,20 +26,32 @@ pub record AllowedIs (r c b : ℕ) (x : Bool) : Type 0 where
   pub yes : x ≡ true → Allows r c (digit b)
   pub no : x ≡ false → Broken r c b
 
+-- entry b of xs says whether the digit of the byte b is allowed in the cell (r, c)
+pub record AllowedAre (r c : ℕ) (xs : List Bool) : Type 0 where
+  pub each : (b : ℕ) → b ≤ 4 → AllowedIs r c b (getD xs b false)
+
 -- x says whether the cell (r, c) has a point
 pub record PointIs (r c : ℕ) (x : Bool) : Type 0 where
   pub yes : x ≡ true → HasPoint r c
   pub no : x ≡ false → HasPoint r c → ⊥
 
--- n is the shade of cell k of the table t: its byte where its digit is allowed, 5 more where the cell has no point, 10 more where it is bad
-pub record Shaded (t : List ℕ) (k n : ℕ) : Type 0 where
-  pub means :
-      ((n ≡ getD t k 0) × HasPoint (k / 128) (k % 128) × Allows (k / 128) (k % 128) (digit (getD t k 0)))
-      ⊎ (((n ≡ getD t k 0 + 5) × (HasPoint (k / 128) (k % 128) → ⊥))
-      ⊎ ((n ≡ getD t k 0 + 10) × BadAt t k))
+-- what the picture shows of cell k of the table t
+pub record Shown (t : List ℕ) (k : ℕ) (x : Cell) : Type 0 where
+  pub row : x .row ≡ k / 128
+  pub column : x .column ≡ k % 128
+  pub byte : x .byte ≡ getD t k 0
+  pub point : PointIs (k / 128) (k % 128) (x .in_range)
+  pub own : AllowedIs (k / 128) (k % 128) (getD t k 0) (x .good)
+  pub allowed : AllowedAre (k / 128) (k % 128) (x .allowed)
 
--- the columns from `from` to before `end` of the row r have one shade
-pub record OneShade (t : List ℕ) (r from end shade : ℕ) : Type 0 where
-  pub some : from < end
+-- x says whether the column c is drawn, between 16 and 111; one that is not has no point in any row
+pub record DrawnIs (c : ℕ) (x : Bool) : Type 0 where
+  pub yes : x ≡ true → (16 ≤ c) × (c < 112)
+  pub no : x ≡ false → (r : ℕ) → r ≤ 15 → HasPoint r c → ⊥
+
+-- in the row r of the table t the cells from the column `from` to before `end` are bad, and the next one, if there is one, is not
+pub record BadTo (t : List ℕ) (r from end : ℕ) : Type 0 where
+  pub starts : from ≤ end
   pub within : end ≤ 128
-  pub alike : (c : ℕ) → from ≤ c → c < end → Shaded t (128 * r + c) shade
+  pub bad : (c : ℕ) → from ≤ c → c < end → BadAt t (128 * r + c)
+  pub next : end < 128 → BadAt t (128 * r + end) → ⊥

@@ -1,202 +1,217 @@
-// The marks of the picture, in SVG. A cell is 38 wide and 5 high; row 0, column 0 is at the lower left, at (86, 720).
+// The marks of the picture, in SVG. A cell is 40 wide and 6 high; the lower left corner of row 0, column 16 is at (100, 660), so that
+// D is 640 wide from 1 to 2 and P 576 high from -6 to 6. The texts are in ASCII.
 ghost use Prim.Native.Nat.{_≤_, _<_};
+use crate::cells::Cell;
 use crate::print::print_number;
 use crate::print::print_text;
+use printing::digit_of;
+use printing::magnitude;
+use selection::Refusal;
 
-// The outline of the columns from `from` to before `end` of a row.
-fn print_outline(row: u64, from: u64, end: u64)
-    requires { ⌜ (row ≤ 15) × (from < end) × (end ≤ 128) ⌝ }
+// The edge of the columns from `from` to before `end` of a row.
+fn print_edge(row: u64, from: u64, end: u64)
+    requires { ⌜ (row ≤ 15) × (from < end) × (end ≤ 112) ⌝ }
 {
     print_text(b"d='M");
-    print_number(86 + 38 * row, b" ");
-    print_number(720 - 5 * end, b"h38v");
-    print_number(5 * (end - from), b"h-38z'/>\n");
+    print_number(100 + 40 * row, b" ");
+    print_number(756 - 6 * end, b"h40v");
+    print_number(6 * (end - from), b"h-40z'");
 }
 
-// Cells of one shade; a bad cell's colour is its digit's, and its mark comes above it.
-pub(crate) fn print_cells(row: u64, from: u64, end: u64, shade: u64)
-    requires { ⌜ (row ≤ 15) × (from < end) × (end ≤ 128) ⌝ }
+fn print_if(wanted: bool, text: &[u8]) {
+    if wanted {
+        print_text(text);
+    }
+}
+
+// The digit that a byte holds.
+fn print_digit(byte: u8) {
+    print_if(byte < 2, b"-");
+    print_number(magnitude(digit_of(byte)), b", ");
+}
+
+fn print_allowed(allowed: [bool; 5]) {
+    print_text(b"allowed:");
+    print_if(allowed[0], b" -2");
+    print_if(allowed[1], b" -1");
+    print_if(allowed[2], b" 0");
+    print_if(allowed[3], b" 1");
+    print_if(allowed[4], b" 2");
+}
+
+// What a browser shows of a cell under the pointer.
+fn print_title(cell: Cell) {
+    print_text(b"><title>row ");
+    print_number(cell.row, b", column ");
+    print_number(cell.column, b", digit ");
+    print_digit(cell.byte);
+    if cell.in_range {
+        let allowed = cell.allowed;
+        print_if(!cell.good, b"bad, ");
+        print_allowed(allowed);
+    } else {
+        print_text(b"out of range: any digit will do");
+    }
+    print_text(b"</title></path>\n");
+}
+
+// A cell in its digit's colour, faded where it has no point.
+pub(crate) fn print_cell(cell: Cell)
+    requires { ⌜ (cell .row ≤ 15) × (cell .column < 112) ⌝ }
 {
-    print_text(b"<path class='s");
-    print_number(shade % 10, b"' ");
-    print_outline(row, from, end);
+    print_text(b"<path class='");
+    print_if(!cell.in_range, b"out ");
+    print_text(b"q");
+    print_number(cell.byte as u64, b"' ");
+    print_edge(cell.row, cell.column, cell.column + 1);
+    print_title(cell);
 }
 
-// The mark of bad cells.
+// The outline of bad cells, which leaves their colours to be seen.
 pub(crate) fn print_mark(row: u64, from: u64, end: u64)
-    requires { ⌜ (row ≤ 15) × (from < end) × (end ≤ 128) ⌝ }
+    requires { ⌜ (row ≤ 15) × (from < end) × (end ≤ 112) ⌝ }
 {
-    print_text(b"<path class='bad' ");
-    print_outline(row, from, end);
+    print_text(b"<path class='over bad' ");
+    print_edge(row, from, end);
+    print_text(b"/>\n");
 }
 
-// A ring round the mark, so that a single bad cell is seen.
+// A ring round the outline, so that a single bad cell is seen.
 pub(crate) fn print_ring(row: u64, from: u64, end: u64)
-    requires { ⌜ (row ≤ 15) × (from < end) × (end ≤ 128) ⌝ }
+    requires { ⌜ (row ≤ 15) × (from < end) × (end ≤ 112) ⌝ }
 {
-    print_text(b"<ellipse class='ring' cx='");
-    print_number(105 + 38 * row, b"' cy='");
-    print_number(720 - 5 * (from + end) / 2, b"' rx='27' ry='");
-    print_number(10 + 5 * (end - from) / 2, b"'/>\n");
+    print_text(b"<ellipse class='over ring' cx='");
+    print_number(120 + 40 * row, b"' cy='");
+    print_number(756 - 3 * (from + end), b"' rx='28' ry='");
+    print_number(9 + 5 * (end - from), b"'/>\n");
 }
 
 pub(crate) fn print_start() {
     print_text(
-        b"<svg xmlns='http://www.w3.org/2000/svg' viewBox='0 0 900 820' width='900' height='820' ",
+        b"<svg xmlns='http://www.w3.org/2000/svg' viewBox='0 0 1030 770' width='1030' height='770' \
+        font-family='Helvetica,Arial,sans-serif' font-size='15' fill='#222'>\n\
+        <title>P-D plot of a table of quotient digits</title>\n",
     );
-    print_text(b"font-family='Helvetica,Arial,sans-serif' font-size='13' fill='#222'>\n");
-    print_text(b"<title>P-D plot of a table of quotient digits</title>\n");
     print_style();
-    print_text(b"<path fill='#fff' d='M0 0h900v820H0z'/>\n");
     print_text(
-        b"<text x='86' y='32' font-size='20' font-weight='bold'>P-D plot: the quotient digit in each cell of the table</text>\n",
+        b"<path fill='#fff' d='M0 0h1030v770H0z'/>\n\
+        <text x='100' y='32' font-size='21' font-weight='bold'>P-D plot: the quotient digit in each cell of the table</text>\n",
     );
 }
 
-// Colours: orange for digits below zero, grey for 0, blue above; s5 to s9 are their pale forms. They differ in lightness too.
+// Colours: orange for digits below zero, grey for 0, blue above. They differ in lightness too. What is drawn above the cells leaves
+// the pointer to them.
 fn print_style() {
-    print_text(b"<style>\n");
     print_text(
-        b".s0{fill:#c4560d}.s1{fill:#f6b26b}.s2{fill:#c4c4c4}.s3{fill:#8fc1e3}.s4{fill:#1f63ad}\n",
+        b"<style>\n\
+        .q0{fill:#c4560d}.q1{fill:#f6b26b}.q2{fill:#c4c4c4}.q3{fill:#8fc1e3}.q4{fill:#1f63ad}.out{fill-opacity:.2}\n\
+        .cells path{shape-rendering:crispEdges}.over{fill:none;pointer-events:none}\n\
+        .grid{stroke:#fff;stroke-opacity:.55}.axis{stroke:#222}.line{stroke:#000;stroke-width:1.3}\n\
+        .range{stroke:#000;stroke-width:2.5;stroke-dasharray:9 4}\n\
+        .bad{stroke:#e0007a;stroke-width:2}.ring{stroke:#e0007a;stroke-width:2.5}\n\
+        .m{text-anchor:middle}.e{text-anchor:end}.small{font-size:13px;fill:#555}\n\
+        </style>\n",
     );
-    print_text(
-        b".s5{fill:#f5ddce}.s6{fill:#fdf0e2}.s7{fill:#f1f1f1}.s8{fill:#e6f1f8}.s9{fill:#d1dfed}\n",
-    );
-    print_text(
-        b".cells path{shape-rendering:crispEdges}.grid{fill:none;stroke:#fff;stroke-opacity:.55}\n",
-    );
-    print_text(
-        b".bad{fill:#ff2ea6;stroke:#000;stroke-width:1.5}.ring{fill:none;stroke:#000;stroke-width:2}\n",
-    );
-    print_text(
-        b".axis{fill:none;stroke:#222}.bound{fill:none;stroke:#000;stroke-width:2;stroke-dasharray:9 4}\n",
-    );
-    print_text(b".m{text-anchor:middle}.e{text-anchor:end}.small{font-size:12px;fill:#555}\n");
-    print_text(b"</style>\n");
 }
 
 pub(crate) fn print_passed() {
     print_text(
-        b"<text x='86' y='56' font-size='15'>The table passes the check: no bad cell.</text>\n<g class='cells'>\n",
+        b"<text x='100' y='60' font-size='16'>The table passes the check: no bad cell.</text>\n<g class='cells'>\n",
     );
 }
 
 // The number of bad cells, and the first of them.
 pub(crate) fn print_bad(count: u64, row: u64, column: u64) {
-    print_text(b"<text x='86' y='56' font-size='15' font-weight='bold' fill='#b0006a'>Bad cells: ");
+    print_text(
+        b"<text x='100' y='60' font-size='16' font-weight='bold' fill='#b0006a'>Bad cells: ",
+    );
     print_number(count, b"; the first is row ");
     print_number(row, b", column ");
     print_number(column, b"</text>\n<g class='cells'>\n");
 }
 
-// A text at a place, in a class of text.
-fn print_label(class: &[u8], x: u64, y: u64, text: &[u8]) {
-    print_text(b"<text class='");
-    print_text(class);
-    print_text(b"' x='");
-    print_number(x, b"' y='");
-    print_number(y, b"'>");
-    print_text(text);
-    print_text(b"</text>\n");
-}
-
-// The frame with its ticks, the rows' grid, the line P = 0 and the bounds of the range, P = 8/3 D and P = -8/3 D.
+// The rows' grid, the frame with its ticks and the line P = 0, and the lines P = k/3 D: at k = 8 and -8 the range of P; the digit q
+// may stand between k = 3q - 2 and 3q + 2, so that between k = 1 and 2, and between 4 and 5, there is a choice of two.
 pub(crate) fn print_frame() {
     print_text(
-        b"</g>\n<path class='grid' d='M124 80v640M162 80v640M200 80v640M238 80v640M276 80v640M314 80v640M352 80v640M390 80v640",
+        b"</g>\n<path class='over grid' d='M140 84v576M180 84v576M220 84v576M260 84v576M300 84v576M340 84v576M380 84v576\
+        M420 84v576M460 84v576M500 84v576M540 84v576M580 84v576M620 84v576M660 84v576M700 84v576'/>\n",
     );
     print_text(
-        b"M428 80v640M466 80v640M504 80v640M542 80v640M580 80v640M618 80v640M656 80v640'/>\n",
+        b"<path class='over axis' d='M100 84h640v576H100zM100 372h640\
+        M94 84h6M94 180h6M94 276h6M94 372h6M94 468h6M94 564h6M94 660h6\
+        M100 660v6M260 660v6M420 660v6M580 660v6M740 660v6'/>\n",
     );
-    print_text(b"<path class='axis' d='M86 80h608v640H86zM86 400h608");
-    print_text(b"M80 80h6M80 160h6M80 240h6M80 320h6M80 400h6M80 480h6M80 560h6M80 640h6M80 720h6");
-    print_text(b"M694 160h6M694 240h6M694 320h6M694 400h6M694 480h6M694 560h6M694 640h6M694 720h6");
-    print_text(b"M86 720v6M238 720v6M390 720v6M542 720v6M694 720v6'/>\n");
-    print_text(b"<path class='bound' d='M86 293.3L694 186.7M86 506.7L694 613.3'/>\n");
+    print_text(
+        b"<path class='over line' d='M100 356L740 340M100 340L740 308M100 308L740 244M100 292L740 212\
+        M100 388L740 404M100 404L740 436M100 436L740 500M100 452L740 532'/>\n\
+        <path class='over range' d='M100 244L740 116M100 500L740 628'/>\n",
+    );
 }
 
-fn print_row_names() {
-    print_label(b"e small", 76, 737, b"row");
-    for row in 0..16u64 {
-        print_text(b"<text class='m small' x='");
-        print_number(105 + 38 * row, b"' y='737'>");
-        print_number(row, b"</text>\n");
-    }
-}
-
-fn print_column_names() {
-    print_label(b"small", 704, 74, b"column");
-    for step in 0..8u64 {
-        print_text(b"<text class='small' x='704' y='");
-        print_number(724 - 80 * step, b"'>");
-        print_number(16 * step, b"</text>\n");
-    }
-}
-
-fn print_remainders() {
-    print_label(b"e", 76, 85, b"8");
-    print_label(b"e", 76, 165, b"6");
-    print_label(b"e", 76, 245, b"4");
-    print_label(b"e", 76, 325, b"2");
-    print_label(b"e", 76, 405, b"0");
-    print_label(b"e", 76, 485, b"&#8722;2");
-    print_label(b"e", 76, 565, b"&#8722;4");
-    print_label(b"e", 76, 645, b"&#8722;6");
-    print_label(b"e", 76, 725, b"&#8722;8");
-}
-
-fn print_divisors() {
-    print_label(b"m", 86, 757, b"1");
-    print_label(b"m", 238, 757, b"1.25");
-    print_label(b"m", 390, 757, b"1.5");
-    print_label(b"m", 542, 757, b"1.75");
-    print_label(b"m", 694, 757, b"2");
-}
-
+// The names of rows and columns, small, outside them the values of D and P, and the names of the lines where they end.
 pub(crate) fn print_axes() {
-    print_row_names();
-    print_column_names();
-    print_remainders();
-    print_divisors();
-    print_label(b"m", 390, 779, b"divisor D, in units of 2&#8310;&#8304;");
     print_text(
-        b"<text class='m' transform='translate(36 400)rotate(-90)'>partial remainder P, in units of 2&#8310;&#8304;</text>\n",
+        b"<g class='m small'>\n\
+        <text x='120' y='681'>0</text><text x='160' y='681'>1</text><text x='200' y='681'>2</text><text x='240' y='681'>3</text>\n\
+        <text x='280' y='681'>4</text><text x='320' y='681'>5</text><text x='360' y='681'>6</text><text x='400' y='681'>7</text>\n\
+        <text x='440' y='681'>8</text><text x='480' y='681'>9</text><text x='520' y='681'>10</text><text x='560' y='681'>11</text>\n\
+        <text x='600' y='681'>12</text><text x='640' y='681'>13</text><text x='680' y='681'>14</text><text x='720' y='681'>15</text>\n\
+        </g>\n\
+        <g class='e small'>\n\
+        <text x='90' y='681'>row</text><text x='90' y='72'>column</text>\n\
+        <text x='90' y='665'>16</text><text x='90' y='569'>32</text><text x='90' y='473'>48</text>\n\
+        <text x='90' y='377'>64</text><text x='90' y='281'>80</text><text x='90' y='185'>96</text>\n\
+        </g>\n",
     );
-    print_label(
-        b"small",
-        86,
-        805,
-        b"A cell is drawn at its truncated estimate t; P is from t to almost two columns above t.",
+    print_text(
+        b"<g class='m'>\n\
+        <text x='100' y='703'>1</text><text x='260' y='703'>1.25</text><text x='420' y='703'>1.5</text>\n\
+        <text x='580' y='703'>1.75</text><text x='740' y='703'>2</text>\n\
+        <text x='420' y='728'>divisor D, 1 to 2</text>\n\
+        <text transform='translate(24 372)rotate(-90)'>remainder P</text>\n\
+        </g>\n\
+        <g class='e'>\n\
+        <text x='56' y='665'>-6</text><text x='56' y='569'>-4</text><text x='56' y='473'>-2</text><text x='56' y='377'>0</text>\n\
+        <text x='56' y='281'>2</text><text x='56' y='185'>4</text><text x='56' y='89'>6</text>\n\
+        </g>\n\
+        <text x='748' y='121'>8/3 D</text><text x='748' y='217'>5/3 D</text><text x='748' y='249'>4/3 D</text>\n\
+        <text x='748' y='313'>2/3 D</text><text x='748' y='345'>1/3 D</text><text x='748' y='409'>-1/3 D</text>\n\
+        <text x='748' y='441'>-2/3 D</text><text x='748' y='505'>-4/3 D</text><text x='748' y='537'>-5/3 D</text>\n\
+        <text x='748' y='633'>-8/3 D</text>\n\
+        <g class='small'>\n\
+        <text x='758' y='232'>1 or 2</text><text x='758' y='328'>0 or 1</text>\n\
+        <text x='758' y='424'>-1 or 0</text><text x='758' y='520'>-2 or -1</text>\n\
+        </g>\n\
+        <text class='small' x='100' y='754'>D and P are in units of 2^60. A cell is drawn at its truncated estimate t; \
+        P is from t to almost two columns above t.</text>\n",
     );
-}
-
-// A digit's colour and its name.
-fn print_key(shade: u64, y: u64, name: &[u8])
-    requires { ⌜ y < 1000 ⌝ }
-{
-    print_text(b"<path class='s");
-    print_number(shade, b"' d='M746 ");
-    print_number(y, b"h34v20h-34z'/>\n");
-    print_label(b"", 790, y + 15, name);
 }
 
 pub(crate) fn print_legend() {
-    print_text(b"<text x='746' y='96' font-weight='bold'>digit</text>\n");
-    print_key(4, 106, b"2");
-    print_key(3, 132, b"1");
-    print_key(2, 158, b"0");
-    print_key(1, 184, b"&#8722;1");
-    print_key(0, 210, b"&#8722;2");
     print_text(
-        b"<path class='s9' d='M746 256h17v20h-17z'/><path class='s7' d='M763 256h17v20h-17z'/>\n",
+        b"<text x='836' y='96' font-weight='bold'>digit q</text>\n\
+        <path class='q4' d='M836 106h34v20h-34z'/><text x='880' y='121'>2</text>\n\
+        <path class='q3' d='M836 133h34v20h-34z'/><text x='880' y='148'>1</text>\n\
+        <path class='q2' d='M836 160h34v20h-34z'/><text x='880' y='175'>0</text>\n\
+        <path class='q1' d='M836 187h34v20h-34z'/><text x='880' y='202'>-1</text>\n\
+        <path class='q0' d='M836 214h34v20h-34z'/><text x='880' y='229'>-2</text>\n\
+        <path class='out q4' d='M836 256h17v20h-17z'/><path class='out q2' d='M853 256h17v20h-17z'/>\n\
+        <text x='880' y='264'>out of range:</text><text x='880' y='282'>any digit will do</text>\n\
+        <path class='q2' d='M836 310h34v6h-34z'/><path class='over bad' d='M836 310h34v6h-34z'/>\n\
+        <text x='880' y='318'>bad cell</text>\n\
+        <path class='over range' d='M836 350h34'/>\n\
+        <text x='880' y='355'>range of P:</text><text x='880' y='373'>-8/3 D to 8/3 D</text>\n\
+        <path class='over line' d='M836 406h34'/>\n\
+        <text x='880' y='411'>q is allowed from</text><text x='880' y='429'>(q - 2/3) D</text>\n\
+        <text x='880' y='447'>to (q + 2/3) D</text>\n\
+        </svg>\n",
     );
-    print_label(b"", 790, 264, b"pale: a cell");
-    print_label(b"", 790, 281, b"without a point");
-    print_text(
-        b"<path class='bad' d='M750 311h26v6h-26z'/><ellipse class='ring' cx='763' cy='314' rx='19' ry='11'/>\n",
-    );
-    print_label(b"", 790, 319, b"bad cell");
-    print_text(b"<path class='bound' d='M746 352h34'/>\n");
-    print_label(b"", 790, 357, b"P = &#177;8/3&#183;D");
-    print_text(b"</svg>\n");
+}
+
+// The two lines of a refusal, as the listing program prints them.
+pub(crate) fn print_refusal(refusal: Refusal) {
+    let mut out = [0u8; 56];
+    let end = printing::text::append_refusal(&mut out, 0, refusal);
+    print_text(&out[..end]);
 }

@@ -1,9 +1,9 @@
--- `plot::print_refusal` is safe and ends: the two lines fit the buffer.
+-- `plot::picture::print_refusal` is safe and ends: the two lines fit the buffer.
 use mathlib.Core.Path.{sym}
 use lib.Seq.{length-take-le}
 use borrow.Author.Needs.{needs}
-use Rattle.plot.proofs.print_refusal.Statement.{statement}
-use Rattle.plot.proofs.print_refusal.Tie as tie
+use Rattle.plot.proofs.picture.print_refusal.Statement.{statement}
+use Rattle.plot.proofs.picture.print_refusal.Tie as tie
 
 array-share-prefix-out : tie.Need-array-share-prefix-out
 array-share-prefix-out c = search needs

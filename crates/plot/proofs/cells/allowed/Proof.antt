@@ -1,10 +1,10 @@
--- `plot::allowed` meets its contract: it is what the check of the single cell says.
+-- `plot::cells::allowed` meets its contract: it is what the check of the single cell says.
 use native.Mathlib.Omega.{arith}
 use Rattle.selection.proofs.Verdicts.{verdict-says, never-refused}
 use Rattle.plot.proofs.Points.{allowed-yes, allowed-no}
 use borrow.Author.Needs.{needs}
-use Rattle.plot.proofs.allowed.Statement.{statement}
-use Rattle.plot.proofs.allowed.Tie as tie
+use Rattle.plot.proofs.cells.allowed.Statement.{statement}
+use Rattle.plot.proofs.cells.allowed.Tie as tie
 
 returns : tie.Need-returns
 returns c = allowed-yes (verdict-says (c .before .before .check-cell .ensures .1) (c .enum-told .given .1) .1)

@@ -1,8 +1,8 @@
--- `plot::has_point` meets its contract: a witness is a point, and no point keeps both -2 and 2.
+-- `plot::cells::has_point` meets its contract: a witness is a point, and no point keeps both -2 and 2.
 use Rattle.plot.proofs.Points.{no-point, broken-point, point-yes, point-no}
 use borrow.Author.Needs.{needs}
-use Rattle.plot.proofs.has_point.Statement.{statement}
-use Rattle.plot.proofs.has_point.Tie as tie
+use Rattle.plot.proofs.cells.has_point.Statement.{statement}
+use Rattle.plot.proofs.cells.has_point.Tie as tie
 
 returns : tie.Need-returns
 returns c = point-no (no-point (c .before .before .before .allowed .ensures .yes (c .before .before .if1 .taken)) (c .before .allowed2 .ensures .yes (c .if2 .taken)))
