@@ -42,6 +42,24 @@ refuses() {
 9 1500'
 }
 
+# Where its output is full or closed, the program $1 on the input $2 says so.
+loses() {
+    echo "$1: not all was written" >"$work/expected"
+    "$root/target/bin/$1" <"$2" 2>"$work/found" >/dev/full
+    same "$1: its output is full" "$work/expected"
+    "$root/target/bin/$1" <"$2" 2>"$work/found" >&-
+    same "$1: its output is closed" "$work/expected"
+}
+
+# The program $1 says that a read failed, and prints nothing: its input is a folder, or closed.
+unread() {
+    echo "$1: not all was read" >"$work/expected"
+    "$root/target/bin/$1" <"$work" >"$work/found" 2>&1
+    same "$1: its input is a folder" "$work/expected"
+    "$root/target/bin/$1" <&- >"$work/found" 2>&1
+    same "$1: its input is closed" "$work/expected"
+}
+
 # A copy of the table $1 whose byte at the index $2 is the octal $3, in $work/changed.
 changed() {
     cp "$1" "$work/changed"

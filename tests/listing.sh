@@ -1,5 +1,6 @@
 #!/bin/sh
-# The listing program on the inputs that the documents show, and on what is no table; the maker. Whole outputs.
+# The listing program on the inputs that the documents show, and on what is no table; the maker. Whole outputs,
+# and what is said where not all was read or written.
 # Drawn inputs are in tests/host/tests/listing.rs. Run it after `rt check listing maker` has written target/bin/.
 # shellcheck source=tests/cases.sh
 . "$(dirname "$0")/cases.sh"
@@ -31,4 +32,8 @@ refuses listing
 echo "$names" >"$work/expected"
 same 'a table that comes in two parts' "$work/expected"
 
-ends listing 10
+loses listing "$kept"
+loses maker /dev/null
+unread listing
+
+ends listing 16

@@ -1,17 +1,19 @@
 #!/bin/sh
-# The vector program on damaged files: each damage is seen, and counted in its file's line and in the total.
+# The vector program on damaged files: each damage is seen, and counted in its file's line and in the total, or told.
 # Run it after `rt check vectors` has written target/bin/.
 # shellcheck source=tests/cases.sh
 . "$(dirname "$0")/cases.sh"
 
-# The case $1: in a folder of the files with `llvm` as file $2, the program prints its stored output changed by the sed commands $3.
+# The case $1: in a folder of the files with `llvm` as file $2, the program prints its stored output changed by the sed commands $3,
+# and says the line $4, if any, on standard error.
 runs() {
     rm -rf "$work/data"
     cp -r "$root/crates/vectors/data" "$work/data"
     rm "$work/data/div-llvm.txt"
-    [ ! -f "$2" ] || cp "$2" "$work/data/div-llvm.txt"
-    sed "$3" "$root/crates/vectors/stdout" >"$work/expected"
+    [ ! -e "$2" ] || cp -r "$2" "$work/data/div-llvm.txt"
+    { sed "$3" "$root/crates/vectors/stdout"; [ $# -lt 4 ] || echo "$4"; } >"$work/expected"
     (cd "$work/data" && "$root/target/bin/vectors" >"$work/found" 2>"$work/said")
+    cat "$work/said" >>"$work/found"
     same "$1" "$work/expected"
 }
 
@@ -31,6 +33,17 @@ head -c -1 "$llvm" >"$work/short"
 runs 'a last line cut short' "$work/short" "$one"
 sed '4d' "$llvm" >"$work/fewer"
 runs 'a line left out' "$work/fewer" 's/llvm.txt 28/llvm.txt 27/; s/total 6098/total 6097/'
-runs 'no file' "$work/none" '/llvm/d; s/total 6098/total 6070/'
 
-ends vectors 8
+without='/llvm/d; s/total 6098/total 6070/'
+runs 'no file' "$work/none" "$without" 'div-llvm.txt: No such file or directory'
+mkdir "$work/folder"
+runs 'a folder' "$work/folder" "$without" 'div-llvm.txt: Is a directory'
+yes "$(head -n 1 "$llvm")" | head -n 16000 >"$work/long"
+runs '16,000 lines' "$work/long" 's/llvm.txt 28/llvm.txt 16000/; s/total 6098/total 22070/'
+head -n 1 "$llvm" >>"$work/long"
+runs '16,001 lines' "$work/long" "$without" 'div-llvm.txt: more than 16000 lines'
+
+cd "$root/crates/vectors/data" || exit 1
+loses vectors /dev/null
+
+ends vectors 13

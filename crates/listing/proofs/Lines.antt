@@ -1,11 +1,5 @@
 -- Laws of the listing's lines: the computed ones are those in document 01's words, and there are no others.
-use mathlib.Core.Path.{_≡_, refl, sym, ap, subst, _∙_}
-use mathlib.Core.List.{List, _++_}
-use Prim.Native.Nat.{ℕ, zero, suc, _+_, _/_, _%_, _≤_, _<_}
-use native.Mathlib.Numerals.{add-one}
-use native.Mathlib.Omega.{arith}
-use lib.IntN.{ℤ}
-use lib.ListN.{getD}
+use Rattle.laws.proofs.Basics.{_≡_, refl, sym, ap, subst, _∙_, List, _++_, ℕ, zero, suc, _+_, _/_, _%_, _≤_, _<_, add-one, arith, ℤ, getD}
 use Rattle.selection.specs.Cell.{LeastWitness, CellChecked, digit}
 use Rattle.selection.specs.Computed.{cellOf}
 use Rattle.selection.specs.Table.{Table}

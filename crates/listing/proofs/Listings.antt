@@ -1,14 +1,8 @@
 -- The computed listing is the one in document 01's words and there is no other, and the text in the buffer is it.
-use mathlib.Core.Path.{_≡_, refl, sym, ap, _∙_}
-use mathlib.Core.List.{List, _++_}
-use mathlib.Core.Logic.{_≢_}
-use Prim.Native.Nat.{ℕ, _≤_, _<_}
+use Rattle.laws.proofs.Basics.{_≡_, refl, sym, ap, _∙_, List, _++_, _≢_, ℕ, _≤_, _<_, arith, length, take, drop, length-take, ne-eqb}
 use native.Mathlib.Decide.{decLe}
 use native.Mathlib.Nat.{add-zero, lt-of-not-le}
-use native.Mathlib.Omega.{arith}
-use lib.ListN.{length, take, drop, length-take}
 use lib.Seq.{take-all}
-use borrow.Author.Tests.{ne-eqb}
 use Rattle.selection.specs.Answer.{refusal}
 use Rattle.selection.specs.Table.{Table, ReportMeaning}
 use Rattle.selection.specs.Computed.{reportOf}

@@ -8,6 +8,7 @@ ghost use Rattle.listing.specs.Listing.{Listed, Lists, ListsRead, lineOf
 use libc::STDERR_FILENO;
 use libc::STDIN_FILENO;
 use libc::STDOUT_FILENO;
+use printing::input::read_input;
 use printing::text::append;
 use printing::text::append_number;
 use printing::text::append_signed;
@@ -122,12 +123,16 @@ fn listing_of_input(bytes: &[u8; INPUT], count: usize, out: &mut [u8; ROOM]) -> 
     listing(&all[..count], out)
 }
 
-// A write that fails is told, since a lost line would make a bad cell look allowed.
+// A read or a write that fails is told: a table that is read in part would look too short, and a lost line would make a bad cell look allowed.
 fn main() {
     let mut bytes = [0u8; INPUT];
-    let count = io::read_full(STDIN_FILENO, &mut bytes);
+    let input = read_input(STDIN_FILENO, &mut bytes);
+    if input.failed {
+        io::write_all(STDERR_FILENO, b"listing: not all was read\n");
+        return;
+    }
     let mut out = [0u8; ROOM];
-    let end = listing_of_input(&bytes, count, &mut out);
+    let end = listing_of_input(&bytes, input.count, &mut out);
     if !io::write_all(STDOUT_FILENO, &out[..end]) {
         io::write_all(STDERR_FILENO, b"listing: not all was written\n");
     }

@@ -1,6 +1,7 @@
 // The table maker as a program: writes the made table's 2,048 bytes to standard output.
 ghost use mathlib.Core.Path.{_≡_};
 ghost use Rattle.selection.specs.Computed.{madeTable};
+use libc::STDERR_FILENO;
 use libc::STDOUT_FILENO;
 
 fn made() -> [u8; 2048]
@@ -12,5 +13,7 @@ fn made() -> [u8; 2048]
 }
 
 fn main() {
-    io::write_all(STDOUT_FILENO, &made());
+    if !io::write_all(STDOUT_FILENO, &made()) {
+        io::write_all(STDERR_FILENO, b"maker: not all was written\n");
+    }
 }

@@ -1,13 +1,8 @@
 -- Laws of decimal digits: those that `io::decimal` makes are the number's, at most 20 of them, and they spell the number.
-use mathlib.Core.Path.{_≡_, refl, ap, _∙_}
-use mathlib.Core.List.{List, [], _∷_, _++_}
+use Rattle.laws.proofs.Basics.{_≡_, refl, ap, _∙_, List, [], _∷_, _++_, ℕ, zero, suc, _+_, _*_, _-_, _/_, _%_, _^_, _≤_, _<_, arith, ltb, lt-ltb, le-ltb}
 use Prim.Native.Char.{code}
-use Prim.Native.Nat.{ℕ, zero, suc, _+_, _*_, _-_, _/_, _%_, _^_, _≤_, _<_}
 use native.Mathlib.Decide.{decLt}
 use native.Mathlib.Nat.{pow-suc, one-le-pow, pow-le-pow-right, lt-of-not-le}
-use native.Mathlib.Omega.{arith}
-use lib.Dec.{ltb}
-use borrow.Author.Tests.{lt-ltb, le-ltb}
 use Rattle.laws.proofs.Tests.{by-cond}
 use Rattle.io.specs.Digits.{digits, Fewest, glyph}
 use Rattle.printing.specs.Text.{decimalUpto, decimalOf, spelledAfter}

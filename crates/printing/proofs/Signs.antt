@@ -1,16 +1,8 @@
 -- A signed number in decimal: a sign where the test finds it below zero, and the digits of its magnitude.
-use mathlib.Core.Path.{_≡_, refl, subst}
-use mathlib.Core.Bool.{true, false}
-use mathlib.Core.List.{List, _++_}
-use Prim.Native.Nat.{ℕ}
-use native.Mathlib.Omega.{arith}
-use lib.Dec.{T}
-use lib.IntN.{ℤ, pos, negsuc, natAbs}
-use lib.Signed.{ltZ}
+use Rattle.laws.proofs.Basics.{_≡_, refl, subst, true, false, List, _++_, ℕ, arith, T, ℤ, pos, negsuc, natAbs, ltZ, ltb-true}
 use mir.Facts.{toZ-ofZ}
 use mir.Syntax.{w64}
 use mir.Val.{toZ, ofZ, SFits}
-use borrow.Author.Tests.{ltb-true}
 use Rattle.printing.specs.Text.{ascii, decimalOf, signedOf}
 
 below : (z : ℤ) → ltZ z (pos 0) ≡ true → ascii "-" ++ decimalOf (natAbs z) ≡ signedOf z

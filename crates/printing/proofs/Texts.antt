@@ -1,11 +1,6 @@
 -- Laws of text in a lent buffer: a text is stored byte by byte, and one text after another.
-use mathlib.Core.Path.{_≡_, refl, sym, subst, _∙_}
-use mathlib.Core.List.{List, [], _++_, append-assoc, append-nil}
-use Prim.Native.Nat.{ℕ, _+_, _≤_, _<_}
+use Rattle.laws.proofs.Basics.{_≡_, refl, sym, subst, _∙_, List, [], _++_, append-assoc, append-nil, ℕ, _+_, _≤_, _<_, add-one, arith, length, getD, set, take, drop, length-append, length-take, length-drop, take-append-drop}
 use native.Mathlib.Nat.{add-zero}
-use native.Mathlib.Numerals.{add-one}
-use native.Mathlib.Omega.{arith}
-use lib.ListN.{length, getD, set, take, drop, length-append, length-take, length-drop, take-append-drop}
 use lib.Seq.{take-at, take-length, drop-append-add, drop-drop, paste, paste-suc}
 use Rattle.printing.specs.Text.{Appended}
 

@@ -1,4 +1,5 @@
-// Text in a lent buffer, for the programs.
+// Text in a lent buffer and reading into one, for the programs.
+pub mod input;
 pub mod text;
 
 ghost use mathlib.Core.Path.{_≡_};

@@ -1,4 +1,4 @@
--- What the vector program prints: a line of names, a line for each file that was read, in the order below, and a line for all of them.
+-- What the vector program prints: a line of names, a line for each file of which all was read, in the order below, and a line for all of them.
 use mathlib.Core.Path.{_≡_}
 use mathlib.Core.List.{List, [], _++_}
 use Prim.Native.Nat.{ℕ, _+_, _≤_}
@@ -14,7 +14,7 @@ use Rattle.vectors.specs.declared.FileRun.the-variants.{Unread, Counted}
 abbrev pub countsText : List ℕ → Counts → List ℕ
 countsText name n = name ++ ascii " " ++ (decimalOf (n .run) ++ ascii " ") ++ (decimalOf (n .differ) ++ ascii "\n")
 
--- a file's line; there is none where it could not be read
+-- a file's line; there is none where not all of it was read
 abbrev pub fileText : List ℕ → FileRun → List ℕ
 fileText name Unread = []
 fileText name (Counted n) = countsText name n

@@ -1,13 +1,15 @@
 -- A line of the vector files, 56 bytes: operands a and b, direction, expected pattern (hexadecimal) and flags (two decimal digits), parted by spaces, and the end of line.
+use mathlib.Core.Path.{_≡_}
 use mathlib.Core.Bool.{Bool, true, false, cond, not}
 use mathlib.Core.List.{List}
 use Prim.Native.Char.{code}
-use Prim.Native.Nat.{ℕ, zero, suc, _+_, _*_, _-_, _/_, _≤_}
+use Prim.Native.Nat.{ℕ, zero, suc, _+_, _*_, _-_, _/_}
 use lib.Dec.{ltb, leb, eqb}
 use lib.ListN.{length, getD, take, drop}
 use Rattle.division.specs.declared.binary64.Binary64Answer.{Binary64Answer}
 use Rattle.selection.specs.Computed.{madeTable, countBelow}
 use Rattle.division.specs.Binary64.{binary64Of}
+use Rattle.printing.specs.declared.input.Input.{Input}
 use Rattle.vectors.specs.declared.Vector.{Vector}
 use Rattle.vectors.specs.declared.Counts.{Counts}
 use Rattle.vectors.specs.declared.FileRun.{FileRun}
@@ -79,7 +81,12 @@ linesIn s = (length s + 55) / 56
 unfoldable pub countsOf : List ℕ → Counts
 countsOf s = record { run = linesIn s; differ = countBelow (differsAt s) (linesIn s) }
 
--- nothing is told of a file, or the counts of the bytes that were read of it. No contract says which bytes a read gives
-pub data Ran : FileRun → Type 0 where
-  unread : Ran Unread
-  counted : (s : List ℕ) → length s ≤ 896001 → Ran (Counted (countsOf s))
+-- what is told of a file of which that was read into the buffer s: nothing where a read failed or where there are more than 16,000 lines, and otherwise its counts
+abbrev pub runOf : List ℕ → Input → FileRun
+runOf s i = cond (i .failed) Unread (cond (leb 896001 (i .count)) Unread (Counted (countsOf (take (i .count) s))))
+
+-- f is what is told of a file. No contract says which bytes a read gives
+pub record Ran (f : FileRun) : Type 0 where
+  pub buffer : List ℕ
+  pub input : Input
+  pub told : f ≡ runOf buffer input

@@ -2,10 +2,14 @@
 ghost use mathlib.Core.Path.{_≡_};
 ghost use Prim.Native.Nat.{_+_, _*_, _^_, _≤_, _<_};
 ghost use lib.ListN.{length, take};
+ghost use Rattle.io.specs.Counts.{Counts as Counts·io};
 ghost use Rattle.printing.specs.Text.{Appended};
-ghost use Rattle.vectors.specs.Vectors.{nibbleOf, hexOf, vectorOf, isDecimal, isHex, fitsAt, formedUpto, differsIn, lineDiffers, lineAt, countsOf, Ran};
+ghost use Rattle.vectors.specs.Vectors.{nibbleOf, hexOf, vectorOf, isDecimal, isHex, fitsAt, formedUpto, differsIn, lineDiffers, lineAt, countsOf, runOf, Ran};
 ghost use Rattle.vectors.specs.Report.{countsText, added, Room, WithFile, Reports};
+use libc::STDERR_FILENO;
 use libc::STDOUT_FILENO;
+use printing::input::Input;
+use printing::input::read_input;
 use printing::text::append;
 use printing::text::append_number;
 
@@ -23,7 +27,7 @@ struct Counts {
     differ: u64,
 }
 
-// What is told of a file: nothing where it could not be opened, or its counts.
+// What is told of a file: nothing where not all of it was read, or its counts.
 enum FileRun {
     Unread,
     Counted(Counts),
@@ -38,7 +42,7 @@ struct Page {
 // Room for the longest report: 16 bytes of names, and six lines of a name and two numbers of 20 digits.
 const ROOM: usize = 344;
 
-// Room for the bytes of 16,000 lines and one byte more, so that a longer file has a line that differs.
+// Room for the bytes of 16,000 lines and one byte more, so that a longer file is seen.
 const FILE: usize = 896001;
 
 fn nibble(c: u8) -> u64
@@ -179,7 +183,7 @@ fn line_of(bytes: &[u8], k: usize) -> &[u8]
 
 // The last line may be cut short.
 fn count_lines(bytes: &[u8]) -> Counts
-    requires { ⌜ length (now bytes) ≤ 896001 ⌝ }
+    requires { ⌜ length (now bytes) ≤ 896000 ⌝ }
     ensures { λ r. ⌜ r ≡ countsOf (now (bytes .entry)) ⌝ }
 {
     let lines = (bytes.len() + 55) / 56;
@@ -197,19 +201,54 @@ fn count_lines(bytes: &[u8]) -> Counts
     }
 }
 
-// A file that cannot be opened is told on standard error.
-fn run_file(name: &[u8]) -> FileRun
-    ensures { λ r. ⌜ Ran r ⌝ }
+// A file that cannot be opened, or of which a read fails, is told on standard error.
+fn read_file(name: &[u8], bytes: &mut [u8; FILE]) -> Input
+    ensures { λ r. ⌜ Counts·io (r .count) (now (bytes .exit)) ⌝ }
 {
     let fd = os::open_read(name);
     if fd < 0 {
         os::fail(name);
+        return Input {
+            count: 0,
+            failed: true,
+        };
+    }
+    let input = read_input(fd, bytes);
+    if input.failed {
+        os::fail(name);
+    }
+    libc::close(fd);
+    input
+}
+
+fn tell_too_long(name: &[u8]) {
+    io::write_all(STDERR_FILENO, name);
+    io::write_all(STDERR_FILENO, b": more than 16000 lines\n");
+}
+
+// What is told of a file of which that was read.
+fn run_of(name: &[u8], bytes: &[u8; FILE], input: Input) -> FileRun
+    requires { ⌜ input .count ≤ length (now bytes) ⌝ }
+    ensures { λ r. ⌜ r ≡ runOf (now (bytes .entry)) input ⌝ }
+{
+    if input.failed {
         return FileRun::Unread;
     }
+    let count = input.count;
+    if FILE <= count {
+        tell_too_long(name);
+        return FileRun::Unread;
+    }
+    let all: &[u8] = bytes;
+    FileRun::Counted(count_lines(&all[..count]))
+}
+
+fn run_file(name: &[u8]) -> FileRun
+    ensures { λ r. ⌜ Ran r ⌝ }
+{
     let mut bytes = [0u8; FILE];
-    let length = io::read_full(fd, &mut bytes);
-    libc::close(fd);
-    FileRun::Counted(count_lines(&bytes[..length]))
+    let input = read_file(name, &mut bytes);
+    run_of(name, &bytes, input)
 }
 
 // A name, the number of lines and how many of them differ.
@@ -226,7 +265,7 @@ fn append_counts(out: &mut [u8], at: usize, name: &[u8], counts: Counts) -> usiz
 
 // The report with one file more.
 fn with_counts(out: &mut [u8], page: Page, name: &[u8], counts: Counts) -> Page
-    requires { ⌜ Room (now out) page (now name) × (counts .run ≤ 16001) × (counts .differ ≤ 16001) ⌝ }
+    requires { ⌜ Room (now out) page (now name) × (counts .run ≤ 16000) × (counts .differ ≤ 16000) ⌝ }
     ensures { λ r. ⌜ Appended (now (out .entry)) (page .end) (countsText (now (name .entry)) counts) (now (out .exit)) (r .end) ⌝ }
     ensures { λ r. ⌜ r .total ≡ added (page .total) counts ⌝ }
     ensures { λ r. ⌜ r .end ≤ page .end + length (now (name .entry)) + 43 ⌝ }
@@ -242,11 +281,11 @@ fn with_counts(out: &mut [u8], page: Page, name: &[u8], counts: Counts) -> Page
     }
 }
 
-// Runs a file. One that could not be read adds nothing.
+// Runs a file. One of which not all was read adds nothing.
 fn with_file(out: &mut [u8], page: Page, name: &[u8]) -> Page
     requires { ⌜ Room (now out) page (now name) ⌝ }
     ensures { λ r. ⌜ WithFile (now (out .entry)) page (now (name .entry)) (now (out .exit)) r ⌝ }
-    ensures { λ r. ⌜ (r .end ≤ page .end + length (now (name .entry)) + 43) × (r .total .run ≤ page .total .run + 16001) × (r .total .differ ≤ page .total .differ + 16001) ⌝ }
+    ensures { λ r. ⌜ (r .end ≤ page .end + length (now (name .entry)) + 43) × (r .total .run ≤ page .total .run + 16000) × (r .total .differ ≤ page .total .differ + 16000) ⌝ }
 {
     let run = run_file(name);
     match run {
@@ -274,5 +313,7 @@ fn report(out: &mut [u8; ROOM]) -> usize
 fn main() {
     let mut out = [0u8; ROOM];
     let end = report(&mut out);
-    io::write_all(STDOUT_FILENO, &out[..end]);
+    if !io::write_all(STDOUT_FILENO, &out[..end]) {
+        io::write_all(STDERR_FILENO, b"vectors: not all was written\n");
+    }
 }

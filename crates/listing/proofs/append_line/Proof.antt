@@ -1,14 +1,10 @@
 -- `listing::append_line` meets its contract: no text, or three numbers and the witness, one after another.
-use mathlib.Core.Path.{sym, ap}
-use native.Mathlib.Omega.{arith}
-use mathlib.Core.List.{_++_}
-use lib.IntN.{ℤ}
+use Rattle.laws.proofs.Basics.{sym, ap, arith, _++_, ℤ, needs}
 use mir.Facts.{toZ-ofZ}
 use mir.Syntax.{w64}
 use Rattle.printing.specs.Text.{ascii, signedOf}
 use Rattle.printing.proofs.Texts.{appended-none, appended-then, appended-as}
 use Rattle.listing.specs.Listing.{lineText}
-use borrow.Author.Needs.{needs}
 use Rattle.listing.proofs.append_line.Statement.{statement}
 use Rattle.listing.proofs.append_line.Tie as tie
 

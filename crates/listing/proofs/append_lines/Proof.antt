@@ -1,8 +1,5 @@
 -- `listing::append_lines` meets its contract: after k turns the buffer has the lines of the first k cells.
-use mathlib.Core.Path.{_≡_, refl, ap, _∙_}
-use Prim.Native.Nat.{_+_, _*_, _-_, _≤_}
-use native.Mathlib.Omega.{arith}
-use lib.ListN.{length}
+use Rattle.laws.proofs.Basics.{_≡_, refl, ap, _∙_, _+_, _*_, _-_, _≤_, arith, length}
 use Rattle.printing.specs.Text.{Appended}
 use Rattle.printing.proofs.Texts.{appended-none, appended-then, appended-as, appended-size}
 use Rattle.listing.specs.Listing.{linesUpto}

@@ -1,7 +1,6 @@
 -- `listing::append_table` meets its contract: the line of names, and the lines after it.
-use native.Mathlib.Omega.{arith}
+use Rattle.laws.proofs.Basics.{arith, needs}
 use Rattle.printing.proofs.Texts.{appended-then}
-use borrow.Author.Needs.{needs}
 use Rattle.listing.proofs.append_table.Statement.{statement}
 use Rattle.listing.proofs.append_table.Tie as tie
 

@@ -1,13 +1,9 @@
 -- `listing::append_witness` meets its contract: two numbers, one after another.
-use native.Mathlib.Omega.{arith}
-use mathlib.Core.Path.{ap}
-use mathlib.Core.List.{_++_}
-use lib.IntN.{ℤ}
+use Rattle.laws.proofs.Basics.{arith, ap, _++_, ℤ, needs}
 use mir.Facts.{toZ-ofZ}
 use mir.Syntax.{w64}
 use Rattle.printing.specs.Text.{ascii, signedOf}
 use Rattle.printing.proofs.Texts.{appended-then, appended-as}
-use borrow.Author.Needs.{needs}
 use Rattle.listing.proofs.append_witness.Statement.{statement}
 use Rattle.listing.proofs.append_witness.Tie as tie
 

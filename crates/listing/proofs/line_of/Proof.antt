@@ -1,11 +1,9 @@
 -- `listing::line_of` meets its contract: a line is what the check of the single cell says.
-use mathlib.Core.Path.{_∙_}
+use Rattle.laws.proofs.Basics.{_∙_, arith, needs}
 use mir.Syntax.{w64}
 use mir.Facts.{toZ-ofZ}
-use native.Mathlib.Omega.{arith}
 use Rattle.selection.proofs.Verdicts.{never-refused}
 use Rattle.listing.proofs.Lines.{line-is, allowed-line, disallowed-line}
-use borrow.Author.Needs.{needs}
 use Rattle.listing.proofs.line_of.Statement.{statement}
 use Rattle.listing.proofs.line_of.Tie as tie
 

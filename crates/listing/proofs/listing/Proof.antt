@@ -1,8 +1,7 @@
 -- `listing::listing` meets its contract: what the check passes or calls bad is a table, and its text is the listing; so is the refusal's.
-use native.Mathlib.Omega.{arith}
+use Rattle.laws.proofs.Basics.{arith, needs}
 use Rattle.selection.proofs.Verdicts.{passed-table, bad-table}
 use Rattle.listing.proofs.Listings.{printed}
-use borrow.Author.Needs.{needs}
 use Rattle.listing.proofs.listing.Statement.{statement}
 use Rattle.listing.proofs.listing.Tie as tie
 

@@ -1,9 +1,7 @@
 -- `listing::listing_of_input` meets its contract: there is room for more than a table, so that what was read settles what is printed.
-use mathlib.Core.Path.{sym}
-use native.Mathlib.Omega.{arith}
+use Rattle.laws.proofs.Basics.{sym, arith, needs}
 use lib.Seq.{length-take-le}
 use Rattle.listing.proofs.Listings.{lists-read}
-use borrow.Author.Needs.{needs}
 use Rattle.listing.proofs.listing_of_input.Statement.{statement}
 use Rattle.listing.proofs.listing_of_input.Tie as tie
 

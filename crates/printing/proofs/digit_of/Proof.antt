@@ -1,13 +1,8 @@
 -- `printing::digit_of` meets its contract: a byte is below 256, so its digit fits.
-use mathlib.Core.Path.{refl, _∙_}
-use Prim.Native.Nat.{ℕ, _<_}
-use native.Mathlib.Omega.{arith}
-use lib.Dec.{ltb, ltb→lt, nltb→le}
-use lib.IntN.{pos, _-ℤ_}
+use Rattle.laws.proofs.Basics.{refl, _∙_, ℕ, _<_, arith, ltb, ltb→lt, nltb→le, pos, _-ℤ_, needs}
 use mir.Facts.{toZ-ofZ, toZ-pos}
 use mir.Syntax.{w64}
 use mir.Val.{SFits}
-use borrow.Author.Needs.{needs}
 use Rattle.laws.proofs.Tests.{by-cond}
 use Rattle.selection.specs.Cell.{digit}
 use Rattle.printing.proofs.digit_of.Statement.{statement}

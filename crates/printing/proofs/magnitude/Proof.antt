@@ -1,17 +1,8 @@
 -- `printing::magnitude` meets its contract: a number below zero is -n - 1, and then n fits and so does n + 1.
-use mathlib.Core.Path.{_≡_, refl, sym, ap, subst, _∙_}
-use mathlib.Core.Bool.{true, false}
-use Prim.Native.Nat.{ℕ, zero, suc, _+_, _^_, _<_}
-use native.Mathlib.Numerals.{add-one}
-use native.Mathlib.Omega.{arith}
-use lib.Dec.{T}
-use lib.IntN.{ℤ, pos, negsuc, negℤ, natAbs, negℤ-negℤ, _+ℤ_, _-ℤ_, +ℤ-one, +ℤ-idl}
-use lib.Signed.{ltZ, nonNeg}
+use Rattle.laws.proofs.Basics.{_≡_, refl, sym, ap, subst, _∙_, true, false, ℕ, zero, suc, _+_, _^_, _<_, add-one, arith, T, ℤ, pos, negsuc, negℤ, natAbs, negℤ-negℤ, _+ℤ_, _-ℤ_, +ℤ-one, +ℤ-idl, ltZ, nonNeg, needs, ltb-true}
 use mir.Facts.{toZ-ofZ, fits-natAbs}
 use mir.Syntax.{w64}
 use mir.Val.{toZ, ofZ, Fits, SFits}
-use borrow.Author.Needs.{needs}
-use borrow.Author.Tests.{ltb-true}
 use Rattle.printing.proofs.magnitude.Statement.{statement}
 use Rattle.printing.proofs.magnitude.Tie as tie
 

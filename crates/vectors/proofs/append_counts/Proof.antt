@@ -1,7 +1,6 @@
 -- `vectors::append_counts` meets its contract: four texts, one after another.
-use native.Mathlib.Omega.{arith}
+use Rattle.laws.proofs.Basics.{arith, needs}
 use Rattle.printing.proofs.Texts.{appended-then}
-use borrow.Author.Needs.{needs}
 use Rattle.vectors.proofs.append_counts.Statement.{statement}
 use Rattle.vectors.proofs.append_counts.Tie as tie
 

@@ -1,12 +1,8 @@
 -- `vectors::count_lines` meets its contract: after k lines, so many of them differ.
-use mathlib.Core.Path.{_≡_, refl, sym, ap, _∙_}
-use mathlib.Core.Logic.{⊎-elim}
-use Prim.Native.Nat.{ℕ, _+_, _-_, _≤_}
-use native.Mathlib.Omega.{arith}
+use Rattle.laws.proofs.Basics.{_≡_, refl, sym, ap, _∙_, ⊎-elim, ℕ, _+_, _-_, _≤_, arith, needs}
 use Rattle.selection.specs.Computed.{countBelow}
 use Rattle.selection.proofs.Counts.{count-one, count-other, count-most}
 use Rattle.vectors.specs.Vectors.{lineDiffers, differsAt, linesIn, countsOf}
-use borrow.Author.Needs.{needs}
 use Rattle.vectors.proofs.count_lines.Statement.{statement}
 use Rattle.vectors.proofs.count_lines.Tie as tie
 

@@ -1,9 +1,5 @@
 -- `vectors::differs` meets its contract: the unit's answer is the one that the contract of the division names.
-use mathlib.Core.Path.{_≡_, subst}
-use mathlib.Core.Bool.{Bool, true, not}
-use lib.Dec.{eqb}
-use borrow.Author.Needs.{needs}
-use borrow.Author.Tests.{eq-eqb, ne-eqb}
+use Rattle.laws.proofs.Basics.{_≡_, subst, Bool, true, not, eqb, needs, eq-eqb, ne-eqb}
 use Rattle.division.specs.declared.binary64.Binary64Answer.{Binary64Answer}
 use Rattle.vectors.specs.declared.Vector.{Vector}
 use Rattle.vectors.specs.Vectors.{differsFrom}

@@ -1,15 +1,7 @@
 -- `vectors::fits` meets its contract: the arms are the definition's cases.
-use mathlib.Core.Path.{_≡_, _∙_}
-use mathlib.Core.Bool.{false, cond}
-use mathlib.Core.List.{_∷_, []}
-use mathlib.Core.Logic.{_⊎_, ⊎-elim, inl, inr}
-use Prim.Native.Nat.{ℕ, _<_}
+use Rattle.laws.proofs.Basics.{_≡_, _∙_, false, cond, _∷_, [], _⊎_, ⊎-elim, inl, inr, ℕ, _<_, arith, ltb, needs, lt-ltb, le-ltb, ne-eqb}
 use Prim.{⊥}
-use native.Mathlib.Omega.{arith}
-use lib.Dec.{ltb}
 use types.Run.{OneOf}
-use borrow.Author.Needs.{needs}
-use borrow.Author.Tests.{lt-ltb, le-ltb, ne-eqb}
 use Rattle.vectors.specs.Vectors.{parts}
 use Rattle.vectors.proofs.fits.Statement.{statement}
 use Rattle.vectors.proofs.fits.Tie as tie

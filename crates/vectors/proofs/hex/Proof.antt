@@ -1,12 +1,6 @@
 -- `vectors::hex` meets its contract: after i digits the value is what they spell, below 16^i.
-use mathlib.Core.Path.{_≡_, refl, ap, subst, _∙_}
-use mathlib.Core.List.{List}
-use Prim.Native.Nat.{ℕ, _+_, _*_, _-_, _^_, _≤_, _<_}
+use Rattle.laws.proofs.Basics.{_≡_, refl, ap, subst, _∙_, List, ℕ, _+_, _*_, _-_, _^_, _≤_, _<_, add-one, arith, getD, needs}
 use native.Mathlib.Nat.{pow-succ', pow-le-pow-right}
-use native.Mathlib.Numerals.{add-one}
-use native.Mathlib.Omega.{arith}
-use lib.ListN.{getD}
-use borrow.Author.Needs.{needs}
 use Rattle.vectors.specs.Vectors.{hexOf, nibbleOf}
 use Rattle.vectors.proofs.hex.Statement.{statement}
 use Rattle.vectors.proofs.hex.Tie as tie

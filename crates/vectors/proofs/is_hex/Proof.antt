@@ -1,7 +1,5 @@
 -- `vectors::is_hex` meets its contract, case by case.
-use mathlib.Core.Path.{sym, _∙_}
-use borrow.Author.Needs.{needs}
-use borrow.Author.Tests.{lt-ltb, le-ltb}
+use Rattle.laws.proofs.Basics.{sym, _∙_, needs, lt-ltb, le-ltb}
 use Rattle.vectors.proofs.is_hex.Statement.{statement}
 use Rattle.vectors.proofs.is_hex.Tie as tie
 

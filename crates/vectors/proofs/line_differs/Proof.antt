@@ -1,7 +1,5 @@
 -- `vectors::line_differs` meets its contract, test by test.
-use mathlib.Core.Path.{ap, _∙_}
-use borrow.Author.Needs.{needs}
-use borrow.Author.Tests.{eq-eqb, ne-eqb}
+use Rattle.laws.proofs.Basics.{ap, _∙_, needs, eq-eqb, ne-eqb}
 use Rattle.vectors.specs.Vectors.{differsIn}
 use Rattle.vectors.proofs.Turned.{turned}
 use Rattle.vectors.proofs.line_differs.Statement.{statement}

@@ -1,11 +1,6 @@
 -- `vectors::line_of` meets its contract: what is left after the lines before, or its first 56 bytes.
-use mathlib.Core.Path.{_≡_, sym, ap, _∙_}
-use mathlib.Core.List.{List}
-use Prim.Native.Nat.{ℕ, _*_, _-_, _≤_}
-use native.Mathlib.Omega.{arith}
-use lib.ListN.{length, take, drop, length-take, length-drop}
+use Rattle.laws.proofs.Basics.{_≡_, sym, ap, _∙_, List, ℕ, _*_, _-_, _≤_, arith, length, take, drop, length-take, length-drop, needs}
 use lib.Seq.{take-all}
-use borrow.Author.Needs.{needs}
 use Rattle.vectors.proofs.line_of.Statement.{statement}
 use Rattle.vectors.proofs.line_of.Tie as tie
 

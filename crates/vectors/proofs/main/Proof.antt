@@ -1,7 +1,6 @@
 -- `vectors::main` is safe and ends: the text that is written is a part of the buffer.
-use mathlib.Core.Path.{sym}
+use Rattle.laws.proofs.Basics.{sym, needs}
 use lib.Seq.{length-take-le}
-use borrow.Author.Needs.{needs}
 use Rattle.vectors.proofs.main.Statement.{statement}
 use Rattle.vectors.proofs.main.Tie as tie
 
@@ -11,4 +10,5 @@ slice-aggregate-write-all c = sym (length-take-le _ _ (c .before .report .ensure
 pub main-spec : {M : Type 1} → statement M
 main-spec =
     tie.close (tie.spec (λ c κs. search needs) (λ c. search needs) slice-aggregate-write-all
-    (λ c κs. search needs) (λ c. search needs))
+    (λ c κs. search needs) (λ c. search needs) (λ c κs. search needs) (λ c. search needs)
+    (λ c. search needs))

@@ -1,7 +1,5 @@
 -- `vectors::nibble` meets its contract, case by case.
-use native.Mathlib.Omega.{arith}
-use borrow.Author.Needs.{needs}
-use borrow.Author.Tests.{lt-ltb, le-ltb, le-leb, lt-leb}
+use Rattle.laws.proofs.Basics.{arith, needs, lt-ltb, le-ltb, le-leb, lt-leb}
 use Rattle.vectors.proofs.nibble.Statement.{statement}
 use Rattle.vectors.proofs.nibble.Tie as tie
 

@@ -1,12 +1,10 @@
 -- `vectors::report` meets its contract: seven texts, one after another, and the sum of the counts.
-use mathlib.Core.Path.{_≡_, ap, _∙_}
-use native.Mathlib.Omega.{arith}
+use Rattle.laws.proofs.Basics.{_≡_, ap, _∙_, arith, needs}
 use Rattle.printing.specs.Text.{ascii}
 use Rattle.printing.proofs.Texts.{appended-then, appended-as, appended-take, appended-size}
 use Rattle.vectors.specs.Report.{countsText, withRun}
 use Rattle.vectors.specs.declared.Counts.{Counts}
 use Rattle.vectors.specs.declared.FileRun.{FileRun}
-use borrow.Author.Needs.{needs}
 use Rattle.vectors.proofs.report.Statement.{statement}
 use Rattle.vectors.proofs.report.Tie as tie
 

@@ -1,13 +1,6 @@
 -- `vectors::well_formed` meets its contract: the bytes so far fit, and one that does not settles it.
-use mathlib.Core.Path.{_≡_, refl, subst, sym}
-use mathlib.Core.Bool.{Bool, true, false, cond}
-use mathlib.Core.List.{List}
-use Prim.Native.Nat.{ℕ, zero, suc, _+_, _-_, _≤_}
+use Rattle.laws.proofs.Basics.{_≡_, refl, subst, sym, Bool, true, false, cond, List, ℕ, zero, suc, _+_, _-_, _≤_, add-one, arith, getD, needs}
 use native.Mathlib.Nat.{zero-add, suc-add}
-use native.Mathlib.Numerals.{add-one}
-use native.Mathlib.Omega.{arith}
-use lib.ListN.{getD}
-use borrow.Author.Needs.{needs}
 use Rattle.vectors.specs.Vectors.{fitsAt, formedUpto}
 use Rattle.vectors.proofs.Turned.{turned}
 use Rattle.vectors.proofs.well_formed.Statement.{statement}

@@ -1,11 +1,9 @@
 -- `vectors::with_file` meets its contract: nothing, or one line more.
-use mathlib.Core.Path.{refl, subst}
-use native.Mathlib.Omega.{arith}
+use Rattle.laws.proofs.Basics.{refl, subst, arith, needs}
 use Rattle.printing.proofs.Texts.{appended-none}
-use Rattle.vectors.specs.Vectors.{Ran, unread}
+use Rattle.vectors.specs.Vectors.{Ran}
 use Rattle.vectors.specs.declared.FileRun.the-variants.{Unread, Counted}
 use Rattle.vectors.proofs.Runs.{few-told}
-use borrow.Author.Needs.{needs}
 use Rattle.vectors.proofs.with_file.Statement.{statement}
 use Rattle.vectors.proofs.with_file.Tie as tie
 
@@ -15,7 +13,7 @@ with-counts-requires c κs =
     (c .before .before .before .before .before .before .before .pre, small .0, small .1)
 
 returns : tie.Need-returns
-returns c = (record { file = Unread; ran = unread; text = appended-none _ _; total = refl }, omega arith)
+returns c = (record { file = Unread; ran = subst Ran (c .enum-told .given .1) (c .before .before .run-file .ensures); text = appended-none _ _; total = refl }, omega arith)
 
 returns-2 : tie.Need-returns-2
 returns-2 c =

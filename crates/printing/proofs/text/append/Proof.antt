@@ -1,8 +1,5 @@
 -- `printing::text::append` meets its contract: after i turns the first i bytes of the text stand in the buffer.
-use mathlib.Core.Path.{_≡_, refl}
-use Prim.Native.Nat.{_-_, _≤_}
-use native.Mathlib.Omega.{arith}
-use lib.ListN.{length, length-set}
+use Rattle.laws.proofs.Basics.{_≡_, refl, _-_, _≤_, arith, length, length-set}
 use lib.Seq.{paste, paste-zero}
 use Rattle.printing.proofs.Texts.{pasted, pasted-all}
 use Rattle.printing.proofs.text.append.Statement.{statement}

@@ -1,10 +1,7 @@
 -- `printing::text::append_number` meets its contract: what `io::decimal` makes is the number in decimal, of at most 20 digits.
-use Prim.Native.Nat.{_≤_}
-use mathlib.Core.Path.{_∙_}
-use native.Mathlib.Omega.{arith}
+use Rattle.laws.proofs.Basics.{_≤_, _∙_, arith, needs}
 use Rattle.printing.proofs.Decimals.{decimal-count, decimal-is}
 use Rattle.printing.proofs.Texts.{appended-then, appended-as}
-use borrow.Author.Needs.{needs}
 use Rattle.printing.proofs.text.append_number.Statement.{statement}
 use Rattle.printing.proofs.text.append_number.Tie as tie
 

@@ -1,8 +1,7 @@
 -- `printing::text::append_signed` meets its contract: below zero a sign goes first, and the magnitude's digits follow.
-use native.Mathlib.Omega.{arith}
+use Rattle.laws.proofs.Basics.{arith, needs}
 use Rattle.printing.proofs.Signs.{with-sign, without-sign}
 use Rattle.printing.proofs.Texts.{appended-then, appended-as}
-use borrow.Author.Needs.{needs}
 use Rattle.printing.proofs.text.append_signed.Statement.{statement}
 use Rattle.printing.proofs.text.append_signed.Tie as tie
 
