@@ -9,5 +9,6 @@ for table in kept pentium-1994; do
     same "$table" "$root/docs/$table.svg"
 done
 refuses plot
+loses plot "$pentium"
 
-ends plot 6
+ends plot 8

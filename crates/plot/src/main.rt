@@ -5,94 +5,101 @@ mod print;
 
 ghost use Prim.Native.Nat.{_≤_, _<_};
 ghost use Rattle.selection.specs.Table.{Table};
+use libc::STDERR_FILENO;
 use libc::STDIN_FILENO;
 use selection::table::Outcome;
 
 // Up to so many bad cells, each stretch of them in a row gets a ring.
 const FEW: u64 = 16;
 
-fn draw_cell(table: &[u8], k: usize)
+fn draw_cell(table: &[u8], k: usize) -> bool
     requires { ⌜ Table (now table) × (k < 2048) ⌝ }
 {
     let cell = cells::cell_at(table, k);
     if cells::is_drawn(cell.column) {
-        picture::print_cell(cell);
+        picture::print_cell(cell)
+    } else {
+        true
     }
 }
 
 // The marks of a row's bad cells. The cell at the end of a stretch of them is none, so the next one starts past it.
-fn mark_row(table: &[u8], row: usize, rings: bool)
+fn mark_row(table: &[u8], row: usize, rings: bool) -> bool
     requires { ⌜ Table (now table) × (row ≤ 15) ⌝ }
 {
     let mut from: usize = 0;
     while from < 128 {
         let end = cells::bad_end(table, row, from);
-        if from < end {
-            mark(row as u64, from as u64, end as u64, rings);
+        if from < end && !mark(row as u64, from as u64, end as u64, rings) {
+            return false;
         }
         from = end + 1;
     }
+    true
 }
 
-fn mark(row: u64, from: u64, end: u64, ring: bool)
+fn mark(row: u64, from: u64, end: u64, ring: bool) -> bool
     requires { ⌜ (row ≤ 15) × (from < end) × (end ≤ 112) ⌝ }
 {
-    picture::print_mark(row, from, end);
-    if ring {
-        picture::print_ring(row, from, end);
-    }
+    picture::print_mark(row, from, end) && (!ring || picture::print_ring(row, from, end))
 }
 
-fn draw_cells(table: &[u8])
+fn draw_cells(table: &[u8]) -> bool
     requires { ⌜ Table (now table) ⌝ }
 {
     for k in 0..2048 {
-        draw_cell(table, k);
+        if !draw_cell(table, k) {
+            return false;
+        }
     }
+    true
 }
 
 // The marks come last, above all cells and lines.
-fn draw_marks(table: &[u8], rings: bool)
+fn draw_marks(table: &[u8], rings: bool) -> bool
     requires { ⌜ Table (now table) ⌝ }
 {
     for row in 0..16 {
-        mark_row(table, row, rings);
+        if !mark_row(table, row, rings) {
+            return false;
+        }
     }
+    true
 }
 
 // All of the picture after its head.
-fn draw_table(table: &[u8], count: u64)
+fn draw_table(table: &[u8], count: u64) -> bool
     requires { ⌜ Table (now table) ⌝ }
 {
-    draw_cells(table);
-    picture::print_frame();
-    draw_marks(table, count <= FEW);
-    picture::print_axes();
-    picture::print_legend();
+    draw_cells(table)
+        && picture::print_frame()
+        && draw_marks(table, count <= FEW)
+        && picture::print_axes()
+        && picture::print_legend()
 }
 
 // The check tells a table, passed or bad, from what gets the two lines of a refusal.
-fn draw(bytes: &[u8]) {
+fn draw(bytes: &[u8]) -> bool {
     let report = selection::table::check_table(bytes);
     let outcome = report.outcome;
     match outcome {
-        Outcome::Passed => {
-            picture::print_start();
-            picture::print_passed();
-            draw_table(bytes, 0);
-        }
+        Outcome::Passed => picture::print_start()
+            && picture::print_passed()
+            && draw_table(bytes, 0),
         Outcome::Bad(cell) => {
-            picture::print_start();
-            picture::print_bad(report.count, cell.row, cell.column);
-            draw_table(bytes, report.count);
+            picture::print_start()
+                && picture::print_bad(report.count, cell.row, cell.column)
+                && draw_table(bytes, report.count)
         }
         Outcome::Refused(refusal) => picture::print_refusal(refusal),
     }
 }
 
-// One byte more than a table has, so that a longer input is seen.
+// One byte more than a table has, so that a longer input is seen. A write that fails is told: a picture cut short lacks its marks.
 fn main() {
     let mut bytes = [0u8; 2049];
     let length = io::read_full(STDIN_FILENO, &mut bytes);
-    draw(&bytes[..length]);
+    if !draw(&bytes[..length]) {
+        io::write_all(STDERR_FILENO, b"plot: not all was written\n");
+    }
 }

@@ -16,5 +16,5 @@ draw-cell-requires c κs = (c .before .before .before .pre, omega arith)
 
 pub draw-cells-spec : {M : Type 1} → statement M
 draw-cells-spec =
-    tie.close (tie.spec Inv-loop μ-loop (λ c. omega arith) draw-cell-requires (λ c. omega arith)
-    (λ c. omega arith) (λ c. omega arith) (λ c. search needs))
+    tie.close (tie.spec Inv-loop μ-loop (λ c. omega arith) draw-cell-requires (λ c. search needs)
+    (λ c. omega arith) (λ c. omega arith) (λ c. omega arith) (λ c. search needs))

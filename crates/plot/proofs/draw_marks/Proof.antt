@@ -16,5 +16,5 @@ mark-row-requires c κs = (c .before .before .before .pre, omega arith)
 
 pub draw-marks-spec : {M : Type 1} → statement M
 draw-marks-spec =
-    tie.close (tie.spec Inv-loop μ-loop (λ c. omega arith) mark-row-requires (λ c. omega arith)
-    (λ c. omega arith) (λ c. omega arith) (λ c. search needs))
+    tie.close (tie.spec Inv-loop μ-loop (λ c. omega arith) mark-row-requires (λ c. search needs)
+    (λ c. omega arith) (λ c. omega arith) (λ c. omega arith) (λ c. search needs))

@@ -20,6 +20,6 @@ mark-requires c κs = let hr = c .before .before .before .before .before .pre .1
 
 pub mark-row-spec : {M : Type 1} → statement M
 mark-row-spec =
-    tie.close (tie.spec Inv-loop μ-loop (λ c. omega arith) bad-end-requires mark-requires
+    tie.close (tie.spec Inv-loop μ-loop (λ c. omega arith) bad-end-requires mark-requires (λ c. search needs)
     (λ c. omega (arith, c .before .bad-end .ensures .within)) (λ c. omega (arith, c .before .bad-end .ensures .starts))
     (λ c. omega (arith, c .before .bad-end .ensures .within)) (λ c. search needs))
