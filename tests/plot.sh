@@ -1,6 +1,7 @@
 #!/bin/sh
-# The pictures in docs/ are what the plot program draws, and what is no table gets the listing's two lines. Whether a picture is
-# its table's is asked by tests/host/tests/plot.rs. Run it after `rt check plot` has written target/bin/.
+# The pictures in docs/ are what the plot program draws, what is no table gets the listing's two lines, and it is told where not all
+# was written. Whether a picture is its table's is asked by tests/host/tests/plot.rs. Run it after `rt check plot` has written
+# target/bin/.
 # shellcheck source=tests/cases.sh
 . "$(dirname "$0")/cases.sh"
 
@@ -11,4 +12,12 @@ done
 refuses plot
 loses plot "$pentium"
 
-ends plot 8
+# A file that may not grow to the picture's end: a limit in blocks of 512 bytes, and a write past it fails.
+size=$(wc -c <"$root/docs/pentium-1994.svg")
+blocks=$(((size - 1) / 512))
+(trap '' XFSZ && ulimit -f "$blocks" && "$root/target/bin/plot" <"$pentium" >"$work/found" 2>"$work/said")
+cat "$work/said" >>"$work/found"
+{ head -c $((blocks * 512)) "$root/docs/pentium-1994.svg"; echo 'plot: not all was written'; } >"$work/expected"
+same 'a picture cut short' "$work/expected"
+
+ends plot 9
