@@ -10,6 +10,7 @@ for table in kept pentium-1994; do
     same "$table" "$root/docs/$table.svg"
 done
 refuses plot
+unread plot
 loses plot "$pentium"
 
 # A file that may not grow to the picture's end: a limit in blocks of 512 bytes, and a write past it fails.
@@ -20,4 +21,4 @@ cat "$work/said" >>"$work/found"
 { head -c $((blocks * 512)) "$root/docs/pentium-1994.svg"; echo 'plot: not all was written'; } >"$work/expected"
 same 'a picture cut short' "$work/expected"
 
-ends plot 9
+ends plot 11

@@ -1,10 +1,5 @@
 -- Bad cells: what a cell's test says of it, one more in a row, and that all of them are drawn.
-use mathlib.Core.Path.{_≡_, subst}
-use mathlib.Core.Bool.{true, false}
-use mathlib.Core.List.{List}
-use mathlib.Core.Logic.{⊎-elim}
-use Prim.Native.Nat.{ℕ, _+_, _*_, _-_, _/_, _%_, _≤_, _<_}
-use native.Mathlib.Omega.{arith}
+use Rattle.laws.proofs.Basics.{_≡_, subst, true, false, List, ⊎-elim, ℕ, _+_, _*_, _-_, _/_, _%_, _≤_, _<_, arith}
 use Rattle.laws.proofs.Division.{le-or-lt}
 use Rattle.selection.specs.Table.{BadAt}
 use Rattle.plot.specs.Plot.{HasPoint, Shown, BadTo}

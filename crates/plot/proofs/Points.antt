@@ -1,12 +1,5 @@
 -- A cell without a point is one that allows both -2 and 2: where there is a point, it keeps at most one of them. Points lie in the columns 20 to 106.
-use mathlib.Core.Path.{sym, subst}
-use mathlib.Core.Bool.{Bool, true, false}
-use mathlib.Core.List.{[], _∷_}
-use Prim.Native.Nat.{ℕ, _≤_, _<_}
-use native.Mathlib.Omega.{arith}
-use lib.Dec.{T}
-use lib.IntN.{ℤ}
-use lib.ListN.{getD}
+use Rattle.laws.proofs.Basics.{sym, subst, Bool, true, false, [], _∷_, ℕ, _≤_, _<_, arith, T, ℤ, getD}
 use Rattle.laws.proofs.Diff.{diffs, by-diff}
 use Rattle.laws.proofs.Tests.{up-to-four}
 use Rattle.selection.specs.Cell.{Keeps, Allows, digit}

@@ -7,6 +7,7 @@ ghost use Prim.Native.Nat.{_≤_, _<_};
 ghost use Rattle.selection.specs.Table.{Table};
 use libc::STDERR_FILENO;
 use libc::STDIN_FILENO;
+use printing::input::read_input;
 use selection::table::Outcome;
 
 // Up to so many bad cells, each stretch of them in a row gets a ring.
@@ -95,11 +96,17 @@ fn draw(bytes: &[u8]) -> bool {
     }
 }
 
-// One byte more than a table has, so that a longer input is seen. A write that fails is told: a picture cut short lacks its marks.
+// One byte more than a table has, so that a longer input is seen. A read that fails is told, since a table read in part would look too short, and so is
+// a write: a picture cut short lacks its marks.
 fn main() {
     let mut bytes = [0u8; 2049];
-    let length = io::read_full(STDIN_FILENO, &mut bytes);
-    if !draw(&bytes[..length]) {
+    let input = read_input(STDIN_FILENO, &mut bytes);
+    if input.failed {
+        io::write_all(STDERR_FILENO, b"plot: not all was read\n");
+        return;
+    }
+    let count = input.count;
+    if !draw(&bytes[..count]) {
         io::write_all(STDERR_FILENO, b"plot: not all was written\n");
     }
 }

@@ -1,6 +1,5 @@
 -- `plot::draw_cell` is safe and ends: what is drawn is in the picture.
-use native.Mathlib.Omega.{arith}
-use borrow.Author.Needs.{needs}
+use Rattle.laws.proofs.Basics.{arith, needs}
 use Rattle.plot.proofs.draw_cell.Statement.{statement}
 use Rattle.plot.proofs.draw_cell.Tie as tie
 

@@ -1,7 +1,5 @@
 -- `plot::draw_cells` is safe and ends: k runs to 2,048.
-use Prim.Native.Nat.{_-_, _≤_}
-use native.Mathlib.Omega.{arith}
-use borrow.Author.Needs.{needs}
+use Rattle.laws.proofs.Basics.{_-_, _≤_, arith, needs}
 use Rattle.plot.proofs.draw_cells.Statement.{statement}
 use Rattle.plot.proofs.draw_cells.Tie as tie
 

@@ -1,7 +1,5 @@
 -- `plot::draw_marks` is safe and ends: row runs to 16.
-use Prim.Native.Nat.{_-_, _≤_}
-use native.Mathlib.Omega.{arith}
-use borrow.Author.Needs.{needs}
+use Rattle.laws.proofs.Basics.{_-_, _≤_, arith, needs}
 use Rattle.plot.proofs.draw_marks.Statement.{statement}
 use Rattle.plot.proofs.draw_marks.Tie as tie
 

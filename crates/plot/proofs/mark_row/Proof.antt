@@ -1,8 +1,6 @@
 -- `plot::mark_row` is safe and ends: a stretch of bad cells ends no earlier than it starts, and its cells are drawn.
-use Prim.Native.Nat.{_-_, _≤_}
-use native.Mathlib.Omega.{arith}
+use Rattle.laws.proofs.Basics.{_-_, _≤_, arith, needs}
 use Rattle.plot.proofs.BadCells.{bad-drawn}
-use borrow.Author.Needs.{needs}
 use Rattle.plot.proofs.mark_row.Statement.{statement}
 use Rattle.plot.proofs.mark_row.Tie as tie
 

@@ -1,8 +1,7 @@
 -- `plot::cells::allowed` meets its contract: it is what the check of the single cell says.
-use native.Mathlib.Omega.{arith}
+use Rattle.laws.proofs.Basics.{arith, needs}
 use Rattle.selection.proofs.Verdicts.{verdict-says, never-refused}
 use Rattle.plot.proofs.Points.{allowed-yes, allowed-no}
-use borrow.Author.Needs.{needs}
 use Rattle.plot.proofs.cells.allowed.Statement.{statement}
 use Rattle.plot.proofs.cells.allowed.Tie as tie
 

@@ -1,6 +1,5 @@
 -- `plot::cells::bad_end` meets its contract: all columns passed are bad.
-use Prim.Native.Nat.{_-_, _≤_}
-use native.Mathlib.Omega.{arith}
+use Rattle.laws.proofs.Basics.{_-_, _≤_, arith}
 use Rattle.plot.proofs.BadCells.{AllBad, bad-more, shown-bad, shown-good}
 use Rattle.plot.proofs.cells.bad_end.Statement.{statement}
 use Rattle.plot.proofs.cells.bad_end.Tie as tie

@@ -1,6 +1,5 @@
 -- `plot::cells::cell_at` meets its contract: each field is what its call says.
-use native.Mathlib.Omega.{arith}
-use borrow.Author.Needs.{needs}
+use Rattle.laws.proofs.Basics.{arith, needs}
 use Rattle.plot.proofs.cells.cell_at.Statement.{statement}
 use Rattle.plot.proofs.cells.cell_at.Tie as tie
 

@@ -1,7 +1,6 @@
 -- `plot::picture::print_refusal` is safe and ends: the two lines fit the buffer.
-use mathlib.Core.Path.{sym}
+use Rattle.laws.proofs.Basics.{sym, needs}
 use lib.Seq.{length-take-le}
-use borrow.Author.Needs.{needs}
 use Rattle.plot.proofs.picture.print_refusal.Statement.{statement}
 use Rattle.plot.proofs.picture.print_refusal.Tie as tie
 
