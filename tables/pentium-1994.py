@@ -2,7 +2,7 @@
 """Writes pentium-1994.table beside this file, by the cell rule of tests/data/listing_model.py.
 
 In each cell the allowed digit farthest from zero, 0 in a cell without a point; then 0 in the five cells that the
-1994 Pentium held as 0. The gate needs none of it: it compares the stored bytes with another model's.
+1994 Pentium is reported to have held as 0. The gate needs none of it: it compares the stored bytes with another model's.
 """
 import os
 import sys

@@ -10,7 +10,7 @@ use Rattle.selection.specs.declared.Admission.the-variants.{Refused}
 use Rattle.selection.specs.declared.table.Outcome.{Outcome}
 use Rattle.selection.specs.declared.table.Outcome.the-variants as O
 use Rattle.selection.proofs.Verdicts.{cell-refuses}
-use Rattle.selection.proofs.Ladders.{Ladder, first-is, refused-by, refuses}
+use Rattle.selection.proofs.Ladders.{Ladder, by-number, first-is, refused-by, refuses}
 use Rattle.selection.proofs.MadeTables.{kept-passes, limits-told, make-answer}
 use Rattle.selection.proofs.Orders.{passed-last}
 use Rattle.selection.proofs.Reports.{report-checked, table-ladder, admission-ladder}
@@ -22,6 +22,7 @@ use Rattle.division.specs.WholeSteps.{wholeThrough}
 use Rattle.division.specs.Binary64.{binary64Rungs, binary64Zeros, binary64Values}
 use Rattle.division.specs.Binary64Steps.{binary64Through}
 use Rattle.division.specs.Demand1.{Carries, CheckRefuses, RunRefuses, Demand1}
+use Rattle.division.proofs.Conditions.{conditions}
 use Rattle.division.proofs.Calls.{whole-ladder, whole-lent, binary64-ladder, binary64-lent}
 
 -- the check, from its report
@@ -62,6 +63,8 @@ module _ (N D n : ℕ) (b : List ℕ) (place : ℕ) where
 pub demand-1 : Demand1
 demand-1 =
     record {
+      order = by-number;
+      conditions = conditions;
       check-cell = cell-refuses;
       row-limits = λ r. limits-told r refl .1 .refuses;
       make-table = λ s. make-answer s _ _ refl refl .2 .refuses;

@@ -2,15 +2,17 @@
 -- and zeros, and a lent buffer keeps its contents. (That every call finishes is the language's own promise.)
 use mathlib.Core.Path.{_≡_}
 use mathlib.Core.List.{List, _++_}
-use Prim.Native.Nat.{ℕ, _+_, _*_, _<_}
+use mathlib.Core.Logic.{_⊎_}
+use Prim.Native.Nat.{ℕ, _+_, _*_, _^_, _≤_, _<_}
 use lib.ListN.{length, getD}
 use Rattle.selection.specs.Answer.{refusal, refusalOf, cellNumbers, cellZeros, reportNumbers, reportZeros}
 use Rattle.selection.specs.declared.numbers.ReportNumbers.{ReportNumbers}
-use Rattle.selection.specs.Refusals.{Wrongs, ladder, FirstRefusal, RefusedBy, Refuses}
+use Rattle.selection.specs.Refusals.{Wrongs, ladder, rank, FirstRefusal, RefusedBy, Refuses}
 use Rattle.selection.specs.Cell.{LeastWitness, cellRungs, digit}
 use Rattle.selection.specs.Maker.{limitsRungs, limitsZeros, makeRungs}
 use Rattle.selection.specs.Table.{BadAt, Tally, tableRungs}
 use Rattle.selection.specs.Computed.{cellOf, rowLimitsOf, makeOf, madeBuffer, madeTable, reportOf}
+use Rattle.recurrence.specs.Recurrence.{Operands}
 use Rattle.recurrence.specs.Run.{runRungs, runZeros, runOf, bufferOf}
 use Rattle.division.specs.Whole.{wholeRungs, wholeZeros, wholeOf}
 use Rattle.division.specs.Binary64.{binary64Rungs, binary64Zeros, binary64Of}
@@ -32,7 +34,23 @@ pub record RunRefuses (C : ℕ → ℕ → Type 0) (t : List ℕ) (N D n : ℕ) 
   pub answer : Refuses C (λ x. x .refusal) runZeros (runOf t N D n b place)
   pub buffer : (k p : ℕ) → FirstRefusal C k p → bufferOf t N D n b place ≡ b
 
+-- the caller's conditions once more, in numbers: where one holds and none before it, the call refuses so, whatever else it is handed
+pub record Conditions : Type 0 where
+  pub row-column : (r c b : ℕ) → (15 < r) ⊎ (127 < c) → cellNumbers (cellOf r c b) ≡ cellZeros (refusal 1 0)
+  pub byte : (r c b : ℕ) → r ≤ 15 → c ≤ 127 → 4 < b → cellNumbers (cellOf r c b) ≡ cellZeros (refusal 9 (128 * r + c))
+  pub row : (r : ℕ) → 15 < r → rowLimitsOf r ≡ limitsZeros (refusal 1 0)
+  pub room : (s : List ℕ) → length s < 2048 → makeOf s ≡ refusal 7 0
+  pub digits : (t : List ℕ) (N D n : ℕ) (b : List ℕ) (place : ℕ) → (n ≡ 0) ⊎ (31 < n) → runOf t N D n b place ≡ runZeros (refusal 2 0)
+  pub operands : (t : List ℕ) (N D n : ℕ) (b : List ℕ) (place : ℕ) → 1 ≤ n → n ≤ 31 → (D < 2 ^ 60) ⊎ ((2 ^ 61 ≤ D) ⊎ (2 ^ 61 ≤ N)) → runOf t N D n b place ≡ runZeros (refusal 3 0)
+  pub buffer : (t : List ℕ) (N D n : ℕ) (b : List ℕ) (place : ℕ) → Operands N D → 1 ≤ n → n ≤ 31 → length b < place + n → runOf t N D n b place ≡ runZeros (refusal 7 0)
+  pub large : (t : List ℕ) (a b : ℕ) → (2 ^ 60 ≤ a) ⊎ (2 ^ 60 ≤ b) → wholeOf t a b ≡ wholeZeros (refusal 4 0)
+  pub by-zero : (t : List ℕ) (a : ℕ) → a < 2 ^ 60 → wholeOf t a 0 ≡ wholeZeros (refusal 5 0)
+  pub direction : (t : List ℕ) (d a b : ℕ) → 3 < d → binary64Of t d a b ≡ binary64Zeros (refusal 6 0)
+
 pub record Demand1 : Type 0 where
+  -- the order is that of the numbers, from 1 to 10
+  pub order : (m n : ℕ) → m < n → n < 10 → rank (m + 1) < rank (n + 1)
+  pub conditions : Conditions
   pub check-cell : (r c b : ℕ) → Refuses (Wrongs (cellRungs r c b)) (λ x. x .refusal) cellZeros (cellNumbers (cellOf r c b))
   pub row-limits : (r : ℕ) → Refuses (Wrongs (limitsRungs r)) (λ x. x .refusal) limitsZeros (rowLimitsOf r)
   pub make-table : (s : List ℕ) → RefusedBy (Wrongs (makeRungs (length s))) (makeOf s)

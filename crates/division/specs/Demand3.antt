@@ -11,7 +11,7 @@ use Rattle.selection.specs.Computed.{cellOf}
 use Rattle.selection.specs.Demand.{RefusedExactly, CellTold}
 use Rattle.selection.specs.declared.table.Report.{Report}
 use Rattle.recurrence.specs.Recurrence.{Operands}
-use Rattle.recurrence.specs.Run.{longest, runOf}
+use Rattle.recurrence.specs.Run.{runOf}
 use Rattle.recurrence.specs.Demand.{RunClaim}
 use Rattle.division.specs.Whole.{wholeOf}
 use Rattle.division.specs.Binary64.{binary64Of}
@@ -24,7 +24,7 @@ pub record SameThrough (t u : List ℕ) : Type 0 where
 
 pub record Demand3 : Type 0 where
   -- all n steps of every run through a table that passes, together
-  pub runs : (t : List ℕ) → Passes t → (N D n : ℕ) (b : List ℕ) (place : ℕ) → Operands N D → 1 ≤ n → n ≤ longest → place + n ≤ length b → RunClaim t N D n b place
+  pub runs : (t : List ℕ) → Passes t → (N D n : ℕ) (b : List ℕ) (place : ℕ) → Operands N D → 1 ≤ n → n ≤ 31 → place + n ≤ length b → RunClaim t N D n b place
   -- the same answers through any two tables that pass
   pub same : (t u : List ℕ) → Passes t → Passes u → SameThrough t u
   -- the check refuses exactly when some point leads out of the range

@@ -23,6 +23,11 @@ const TOP_END: u64 = 0x4000_0000_0000_0000;
 
 const TOP_BITS: u64 = 0xffc0_0000_0000_0000;
 
+// The spans: a divisor is from 2^60 to 2^61 - 1, a dividend from 0 to 2^61 - 1.
+const DIVISOR_LEAST: u64 = 0x1000_0000_0000_0000;
+
+const OPERAND_MOST: u64 = 0x1fff_ffff_ffff_ffff;
+
 // The most digits that a run gives.
 pub const LONGEST: usize = 31;
 
@@ -221,13 +226,13 @@ fn argument_refusal(dividend: u64, divisor: u64, n: usize, len: usize, place: us
     if LONGEST < n {
         return refused(2);
     }
-    if divisor < 1152921504606846976 {
+    if divisor < DIVISOR_LEAST {
         return refused(3);
     }
-    if 2305843009213693951 < divisor {
+    if OPERAND_MOST < divisor {
         return refused(3);
     }
-    if 2305843009213693951 < dividend {
+    if OPERAND_MOST < dividend {
         return refused(3);
     }
     if len < place {

@@ -222,6 +222,17 @@ module _ {rs : List Rung} (c : Ladder rs) where
       same Admitted = e
       same (Refused f) = z f
 
+-- the first rung of a ladder: where its condition holds, and where not
+pub rung-holds : (k p : ℕ) (c : Condition) (rs : List Rung) → Holds c → ladder (numberAt k p c ∷ rs) ≡ Refused (refusal k p)
+rung-holds k p c rs h = rw (holds-test c h) refl
+
+pub rung-past : (k p : ℕ) (c : Condition) (rs : List Rung) → (Holds c → ⊥) → ladder (numberAt k p c ∷ rs) ≡ ladder rs
+rung-past k p c rs n = go (holds c) refl
+  where
+    go : (x : Bool) → holds c ≡ x → firstOf (cond x (Refused (refusal k p)) Admitted) (ladder rs) ≡ ladder rs
+    go true e = absurd (n (test-true c e))
+    go false e = refl
+
 -- one ladder after another
 pub ladder-append : (rs ss : List Rung) → ladder (rs ++ ss) ≡ firstOf (ladder rs) (ladder ss)
 ladder-append [] ss = refl

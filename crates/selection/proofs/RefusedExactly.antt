@@ -1,5 +1,5 @@
 -- Refused exactly when a point leaves the range, and a single cell's verdict: demand 3's words on the check.
-use Rattle.laws.proofs.Basics.{refl, _↔_, List, ℕ, zero, suc, _+_, _*_, _/_, _%_, _<_, arith, ℤ, pos, _-ℤ_, _*ℤ_, getD}
+use Rattle.laws.proofs.Basics.{refl, sym, _↔_, List, ℕ, zero, suc, _+_, _*_, _/_, _%_, _<_, arith, ℤ, pos, _-ℤ_, _*ℤ_, getD}
 use Rattle.laws.proofs.Diff.{diffs, by-diff}
 use Rattle.selection.specs.Word.{Within}
 use Rattle.selection.specs.Answer.{refusal, cellNumbers, outcomeNumbers, reportNumbers}
@@ -56,7 +56,8 @@ first-leaves {t} {r} {c} {D} {P} n f =
     let k = 128 * r + c in
     let w : LeastWitness (k / 128) (k % 128) (digit (getD t k 0)) D P = rw (cell-row r c (f .column), cell-column r c (f .column)) (f .witness) in
     record {
-      place = refl;
+      row = sym (cell-row r c (f .column));
+      column = sym (cell-column r c (f .column));
       cell = record { here = of-bad (f .first .here); before = λ j h s. f .first .before j h (to-bad s) };
       leaves = of-against (w .against);
       divisor-least = λ D P l. w .divisor-least D P (to-against l);

@@ -1,7 +1,7 @@
 -- What the answers to a table and to a cell tell a caller, by their cases.
-use Rattle.laws.proofs.Basics.{_≡_, refl, sym, subst, List, ℕ, _≤_}
+use Rattle.laws.proofs.Basics.{_≡_, refl, sym, subst, List, [], _∷_, ℕ, _≤_, ap, _∙_, _⊎_, ⊎-elim, _<_, _+_, _*_, arith}
 use Rattle.selection.specs.Answer.{refusal, answerBy, cellNumbers, cellZeros}
-use Rattle.selection.specs.Refusals.{Wrongs, ladder, Refuses}
+use Rattle.selection.specs.Refusals.{Wrongs, ladder, Refuses, below, eitherOf, numberAt}
 use Rattle.selection.specs.Cell.{cellRungs, CellChecked, CellMeaning}
 use Rattle.selection.specs.Search.{searchOf, cellVerdictOf}
 use Rattle.selection.specs.Computed.{cellOf}
@@ -18,7 +18,7 @@ use Rattle.selection.specs.declared.table.Outcome.{Outcome}
 use Rattle.selection.specs.declared.table.Outcome.the-variants as O
 use Rattle.selection.specs.declared.table.Report.{Report}
 use Rattle.selection.proofs.BiasedPoints.{cell-ladder, known-not-refused}
-use Rattle.selection.proofs.Ladders.{refuses}
+use Rattle.selection.proofs.Ladders.{refuses, rung-holds, rung-past}
 
 -- the check's answer, by its case
 outcome-says : {t : List ℕ} {a : Report} {o : Outcome} → Checked t a → a .outcome ≡ o → ReportMeaning t (a .count) o
@@ -51,3 +51,12 @@ module _ (r c b : ℕ) where
       none : (h : SearchResult) → cellNumbers (cellVerdictOf h) .refusal ≡ refusal 0 0
       none NoWitness = refl
       none (LeastAt d w) = refl
+
+  -- and these are its two refusals in numbers
+  pub cell-row-column : (15 < r) ⊎ (127 < c) → cellNumbers (cellOf r c b) ≡ cellZeros (refusal 1 0)
+  cell-row-column h = ap (λ (v : Admission). cellNumbers (answerBy C.Refused (cellVerdictOf (searchOf r c b)) v)) (rung-holds 1 0 (eitherOf (below 15 r) (below 127 c)) (numberAt 9 (128 * r + c) (below 4 b) ∷ []) h)
+
+  pub cell-byte : r ≤ 15 → c ≤ 127 → 4 < b → cellNumbers (cellOf r c b) ≡ cellZeros (refusal 9 (128 * r + c))
+  cell-byte hr hc h =
+      ap (λ (v : Admission). cellNumbers (answerBy C.Refused (cellVerdictOf (searchOf r c b)) v))
+      (rung-past 1 0 (eitherOf (below 15 r) (below 127 c)) (numberAt 9 (128 * r + c) (below 4 b) ∷ []) (⊎-elim (λ x. omega arith) (λ x. omega arith)) ∙ rung-holds 9 (128 * r + c) (below 4 b) [] h)

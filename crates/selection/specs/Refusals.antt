@@ -1,4 +1,4 @@
--- Who sends bad input: document 01's section of that name, and document 02's order. What a call refuses is a list of rungs: each call's stands with its answer.
+-- Who sends bad input: document 01's section of that name, in one order of all refusals. What a call refuses is a list of rungs: each call's stands with its answer.
 use mathlib.Core.Path.{_≡_}
 use mathlib.Core.Bool.{Bool, cond, not, _||_}
 use mathlib.Core.List.{List, [], _∷_}

@@ -93,7 +93,7 @@ fn count_bad(table: &[u8]) -> u64
 }
 
 // A refusal, with no count.
-fn refused(number: u64, place: u64) -> Report
+fn refused_report(number: u64, place: u64) -> Report
     ensures { λ r. ⌜ r ≡ refusedReport (refusal number place) ⌝ }
 {
     Report {
@@ -134,11 +134,11 @@ pub fn check_table(table: &[u8]) -> Report
     ensures { λ r. ⌜ (r ≡ reportOf (now (table .entry))) × (Checked (now (table .entry)) r) ⌝ }
 {
     if table.len() != 2048 {
-        return refused(8, 0);
+        return refused_report(8, 0);
     }
     let above = first_above(table);
     if above < 2048 {
-        return refused(9, above as u64);
+        return refused_report(9, above as u64);
     }
     let bad = first_bad(table);
     if bad < 2048 {

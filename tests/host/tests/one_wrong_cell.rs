@@ -9,7 +9,7 @@ use host::draw::Draw;
 const SEED: u64 = 0x5EED_0991;
 const DIGITS: usize = 28;
 
-/// Row and column of the cells that the 1994 Pentium held as 0.
+/// Row and column of the cells that the 1994 Pentium is reported to have held as 0.
 const FIVE: [(u64, u64); 5] = [(1, 87), (4, 91), (7, 95), (10, 99), (13, 103)];
 
 /// The one of them that the division below meets.

@@ -11,11 +11,11 @@ table-ok c = is-table _ (c .before .before .if1 .left) (rw (← c .before .first
 
 returns : tie.Need-returns
 unfolding reportOf
-returns c = report-is (rw (c .refused .ensures) (simp (ne-eqb _ _ (c .before .if1 .taken))))
+returns c = report-is (rw (c .refused-report .ensures) (simp (ne-eqb _ _ (c .before .if1 .taken))))
 
 returns-2 : tie.Need-returns-2
 unfolding reportOf
-returns-2 c = report-is (rw (c .refused2 .ensures) (simp (eq-eqb _ _ (c .before .before .before .if1 .left), ← c .before .before .first-above .ensures, lt-ltb _ _ (c .before .if2 .taken))))
+returns-2 c = report-is (rw (c .refused-report2 .ensures) (simp (eq-eqb _ _ (c .before .before .before .if1 .left), ← c .before .before .first-above .ensures, lt-ltb _ _ (c .before .if2 .taken))))
 
 first-bad-requires : tie.Need-first-bad-requires
 first-bad-requires c κs = table-ok c

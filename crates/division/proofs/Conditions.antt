@@ -1,0 +1,78 @@
+-- The caller's conditions in numbers: each follows from its rung.
+use Rattle.laws.proofs.Basics.{_≡_, refl, ap, _∙_, List, [], _∷_, _++_, _⊎_, inl, inr, ⊎-elim, ℕ, _+_, _-_, _^_, _≤_, _<_, arith, length}
+use Rattle.selection.specs.Answer.{refusal, answerBy}
+use Rattle.selection.specs.Maker.{limitsZeros}
+use Rattle.selection.specs.Table.{tableRungs}
+use Rattle.selection.specs.Computed.{limitsOf}
+use Rattle.selection.specs.Refusals.{Condition, Rung, below, atMost, same, eitherOf, number, ladder}
+use Rattle.selection.proofs.Ladders.{rung-holds, rung-past}
+use Rattle.selection.proofs.Verdicts.{cell-row-column, cell-byte}
+use Rattle.recurrence.specs.Recurrence.{Operands, resultOf}
+use Rattle.recurrence.specs.Run.{longest, runRungs, runZeros, runValues, runOf}
+use Rattle.division.specs.Whole.{wholeRungs, wholeZeros, wholeValues, wholeOf}
+use Rattle.division.specs.WholeSteps.{wholeThrough}
+use Rattle.division.specs.Binary64.{binary64Rungs, binary64Zeros, binary64Values, binary64Of}
+use Rattle.division.specs.Binary64Steps.{binary64Through}
+use Rattle.division.specs.Demand1.{Conditions}
+
+module _ (t : List ℕ) (N D n : ℕ) (b : List ℕ) (place : ℕ) where
+  wrong-count : Condition
+  wrong-count = eitherOf (same n 0) (below longest n)
+
+  -- the rungs after the first, and after the second
+  later : List Rung
+  later = number 7 (below (length b) (place + n)) ∷ tableRungs t
+
+  wrong-operands : Condition
+  wrong-operands = eitherOf (below D (2 ^ 60)) (eitherOf (below (2 ^ 61 - 1) D) (below (2 ^ 61 - 1) N))
+
+  digits : (n ≡ 0) ⊎ (31 < n) → runOf t N D n b place ≡ runZeros (refusal 2 0)
+  unfolding runRungs wrong-count wrong-operands later
+  digits h = ap (answerBy runZeros (runValues (resultOf t N D n))) (rung-holds 2 0 wrong-count (number 3 wrong-operands ∷ later) h)
+
+  counted : 1 ≤ n → n ≤ 31 → ladder (runRungs N D n (length b) place ++ tableRungs t) ≡ ladder (number 3 wrong-operands ∷ later)
+  unfolding runRungs wrong-count wrong-operands later
+  counted h l = rung-past 2 0 wrong-count (number 3 wrong-operands ∷ later) (⊎-elim (λ x. omega arith) (λ x. omega arith))
+
+  operands : 1 ≤ n → n ≤ 31 → (D < 2 ^ 60) ⊎ ((2 ^ 61 ≤ D) ⊎ (2 ^ 61 ≤ N)) → runOf t N D n b place ≡ runZeros (refusal 3 0)
+  unfolding wrong-operands
+  operands h l w =
+      ap (answerBy runZeros (runValues (resultOf t N D n)))
+      (counted h l ∙ rung-holds 3 0 wrong-operands later (⊎-elim inl (λ v. inr (⊎-elim (λ x. inl (omega arith)) (λ x. inr (omega arith)) v)) w))
+
+  buffer : Operands N D → 1 ≤ n → n ≤ 31 → length b < place + n → runOf t N D n b place ≡ runZeros (refusal 7 0)
+  unfolding wrong-operands later
+  buffer o h l w =
+      ap (answerBy runZeros (runValues (resultOf t N D n)))
+      (counted h l
+      ∙ rung-past 3 0 wrong-operands later (⊎-elim (λ x. omega (arith, o .least)) (⊎-elim (λ x. omega (arith, o .most)) (λ x. omega (arith, o .dividend))))
+      ∙ rung-holds 7 0 (below (length b) (place + n)) (tableRungs t) w)
+
+module _ (t : List ℕ) (a b : ℕ) where
+  large : (2 ^ 60 ≤ a) ⊎ (2 ^ 60 ≤ b) → wholeOf t a b ≡ wholeZeros (refusal 4 0)
+  unfolding wholeRungs
+  large h = ap (answerBy wholeZeros (wholeValues (wholeThrough t a b))) (rung-holds 4 0 (eitherOf (atMost (2 ^ 60) a) (atMost (2 ^ 60) b)) (number 5 (same b 0) ∷ tableRungs t) h)
+
+  direction : (d : ℕ) → 3 < d → binary64Of t d a b ≡ binary64Zeros (refusal 6 0)
+  unfolding binary64Rungs
+  direction d h = ap (answerBy binary64Zeros (binary64Values (binary64Through t d a b))) (rung-holds 6 0 (below 3 d) (tableRungs t) h)
+
+by-zero : (t : List ℕ) (a : ℕ) → a < 2 ^ 60 → wholeOf t a 0 ≡ wholeZeros (refusal 5 0)
+unfolding wholeRungs
+by-zero t a h =
+    ap (answerBy wholeZeros (wholeValues (wholeThrough t a 0)))
+    (rung-past 4 0 (eitherOf (atMost (2 ^ 60) a) (atMost (2 ^ 60) 0)) (number 5 (same 0 0) ∷ tableRungs t) (⊎-elim (λ x. omega arith) (λ x. omega arith)) ∙ rung-holds 5 0 (same 0 0) (tableRungs t) refl)
+
+pub conditions : Conditions
+conditions = record {
+  row-column = cell-row-column;
+  byte = cell-byte;
+  row = λ r h. ap (answerBy limitsZeros (record { refusal = refusal 0 0; limits = limitsOf r })) (rung-holds 1 0 (below 15 r) [] h);
+  room = λ s h. ap (answerBy (λ f. f) (refusal 0 0)) (rung-holds 7 0 (below (length s) 2048) [] h);
+  digits = digits;
+  operands = operands;
+  buffer = buffer;
+  large = large;
+  by-zero = by-zero;
+  direction = λ t d a b. direction t a b d;
+}
