@@ -7,10 +7,11 @@
    Every call ends, and answers by value. The first two fields of an answer are the refusal (0: none) and its place.
    Where a call refuses, every other field is 0 (but see quendaric_check_table) and every lent buffer is unchanged.
    Look at the refusal first: zeros beside a refusal are no answer, and some of them look like one.
-   Where several refusals apply, the one with the least number is given. The place is 0 except for 9 and 10.
+   Where several refusals apply, the first in the order that the call's comment names is given: by number, but that 11
+   comes after 6 and before 7. The place is 0 except for 9 and 10.
 
-   A pointer must be valid for its length; with length 0 it is not read and may be NULL. Tables and buffers may be at
-   any address and must not overlap. No call keeps a pointer, allocates memory, or has state of its own, so all of them
+   A pointer must be valid for its length; with length 0 it is not read and may be NULL. Tables and byte buffers may be
+   at any address, lists of uint64_t are aligned as such, and what a call writes must not overlap what it reads. No call keeps a pointer, allocates memory, or has state of its own, so all of them
    are reentrant and may be called from any thread.
 
    The archive is for x86-64: the System V calling convention, a size_t of 64 bits. The calls use vector registers, and
@@ -48,26 +49,27 @@ extern "C" {
 #endif
 
 /* The version of these calls; CHANGELOG.md tells what changed. */
-#define QUENDARIC_VERSION "1.0.0"
+#define QUENDARIC_VERSION "1.1.0"
 #define QUENDARIC_VERSION_MAJOR 1
-#define QUENDARIC_VERSION_MINOR 0
+#define QUENDARIC_VERSION_MINOR 1
 #define QUENDARIC_VERSION_PATCH 0
 
 #define QUENDARIC_TABLE_LENGTH 2048
 #define QUENDARIC_MOST_DIGITS 31
 #define QUENDARIC_STACK 512
 
-/* Refusals. 1 to 7 are the caller's to mend, 8 to 10 the table maker's. */
+/* Refusals. 8 to 10 are the table maker's to mend, the others the caller's. */
 #define QUENDARIC_REFUSED_CELL 1      /* row above 15 or column above 127 */
 #define QUENDARIC_REFUSED_DIGITS 2    /* number of digits 0 or above 31 */
 #define QUENDARIC_REFUSED_SPAN 3      /* dividend or divisor outside its span */
 #define QUENDARIC_REFUSED_TOO_LARGE 4 /* a or b is 2^60 or more */
 #define QUENDARIC_REFUSED_BY_ZERO 5   /* b is 0 */
 #define QUENDARIC_REFUSED_DIRECTION 6 /* direction above 3 */
-#define QUENDARIC_REFUSED_ROOM 7      /* the buffer ends before the last byte to write */
+#define QUENDARIC_REFUSED_ROOM 7      /* the buffer or list ends before the last place to write */
 #define QUENDARIC_REFUSED_LENGTH 8    /* the table's length is not 2,048 */
 #define QUENDARIC_REFUSED_BYTE 9      /* a byte above 4; the place is the first such index */
 #define QUENDARIC_REFUSED_BAD_CELL 10 /* a digit that can drive the remainder out of range; the place is the first */
+#define QUENDARIC_REFUSED_LISTS 11    /* the two input lists differ in length */
 
 /* Rounding directions of binary64 division. */
 #define QUENDARIC_NEAREST 0 /* to nearest, ties to even */
@@ -145,6 +147,15 @@ typedef struct {
   uint64_t flags;
 } quendaric_binary64;
 
+/* flags: the sum of each flag that at least one sample raised; count: the number of samples. Beside a refusal both are
+   0 as they are for an empty run, but nothing was divided and no word was written. */
+typedef struct {
+  uint64_t refusal;
+  uint64_t place;
+  uint64_t flags;
+  uint64_t count;
+} quendaric_samples;
+
 /* Examines a single cell: is the digit byte - 2 allowed in it? A digit that is not allowed is an ordinary answer, not
    a refusal. Refuses 1; 9 with place 128 * row + column. */
 QUENDARIC_ANSWER
@@ -198,6 +209,15 @@ quendaric_binary64 quendaric_divide_binary64(const uint8_t *table, size_t table_
 /* The same through the kept table. Refuses 6, with the pattern 0 that reads as 0.0. */
 QUENDARIC_ANSWER
 quendaric_binary64 quendaric_divide_binary64_kept(uint64_t a, uint64_t b, uint64_t direction);
+
+/* A run of samples in one direction, through the table: concentrations[j] is the pattern that quendaric_divide_binary64
+   gives for currents[j] and sensitivities[j], for every j below currents_length. Later words of the third list keep
+   their contents. Checks the table once, for an empty run too. Refuses 6, 11, 7, 8, 9, 10, in this order. */
+QUENDARIC_ANSWER
+quendaric_samples quendaric_divide_samples(const uint8_t *table, size_t table_length, const uint64_t *currents,
+                                           size_t currents_length, const uint64_t *sensitivities,
+                                           size_t sensitivities_length, uint64_t *concentrations,
+                                           size_t concentrations_length, uint64_t direction);
 
 #ifdef __cplusplus
 }

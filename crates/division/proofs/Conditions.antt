@@ -4,7 +4,8 @@ use Rattle.selection.specs.Answer.{refusal, answerBy}
 use Rattle.selection.specs.Maker.{limitsZeros}
 use Rattle.selection.specs.Table.{tableRungs}
 use Rattle.selection.specs.Computed.{limitsOf}
-use Rattle.selection.specs.Refusals.{Condition, Rung, below, atMost, same, eitherOf, number, ladder}
+use Rattle.selection.specs.Refusals.{Condition, Rung, below, atMost, same, differ, eitherOf, number, ladder}
+use Rattle.selection.specs.declared.Admission.{Admission}
 use Rattle.selection.proofs.Ladders.{rung-holds, rung-past}
 use Rattle.selection.proofs.Verdicts.{cell-row-column, cell-byte}
 use Rattle.recurrence.specs.Recurrence.{Operands, resultOf}
@@ -13,6 +14,8 @@ use Rattle.division.specs.Whole.{wholeRungs, wholeZeros, wholeValues, wh
 use Rattle.division.specs.WholeSteps.{wholeThrough}
 use Rattle.division.specs.Binary64.{binary64Rungs, binary64Zeros, binary64Values, binary64Of}
 use Rattle.division.specs.Binary64Steps.{binary64Through}
+use Rattle.division.specs.Samples.{samplesRungs, samplesZeros, samplesValues, flagsThrough, samplesOf}
+use Rattle.division.specs.declared.samples.SamplesAnswer.{SamplesAnswer}
 use Rattle.division.specs.Demand1.{Conditions}
 
 module _ (t : List ℕ) (N D n : ℕ) (b : List ℕ) (place : ℕ) where
@@ -63,6 +66,32 @@ by-zero t a h =
     ap (answerBy wholeZeros (wholeValues (wholeThrough t a 0)))
     (rung-past 4 0 (eitherOf (atMost (2 ^ 60) a) (atMost (2 ^ 60) 0)) (number 5 (same 0 0) ∷ tableRungs t) (⊎-elim (λ x. omega arith) (λ x. omega arith)) ∙ rung-holds 5 0 (same 0 0) (tableRungs t) refl)
 
+module _ (t : List ℕ) (d : ℕ) (xs ys given : List ℕ) where
+  -- the rungs after the first
+  lists : List Rung
+  lists = number 11 (differ (length xs) (length ys)) ∷ number 7 (below (length given) (length xs)) ∷ tableRungs t
+
+  answer : Admission → SamplesAnswer
+  answer = answerBy samplesZeros (samplesValues (flagsThrough t d xs ys (length xs)) (length xs))
+
+  samples-direction : 3 < d → samplesOf t d xs ys given ≡ samplesZeros (refusal 6 0)
+  unfolding samplesRungs lists answer
+  samples-direction h = ap answer (rung-holds 6 0 (below 3 d) lists h)
+
+  directed : d ≤ 3 → ladder (samplesRungs d (length xs) (length ys) (length given) ++ tableRungs t) ≡ ladder lists
+  unfolding samplesRungs lists
+  directed h = rung-past 6 0 (below 3 d) lists (λ x. omega arith)
+
+  samples-lengths : d ≤ 3 → (length xs ≡ length ys → ⊥) → samplesOf t d xs ys given ≡ samplesZeros (refusal 11 0)
+  unfolding lists answer
+  samples-lengths h w = ap answer (directed h ∙ rung-holds 11 0 (differ (length xs) (length ys)) (number 7 (below (length given) (length xs)) ∷ tableRungs t) w)
+
+  samples-room : d ≤ 3 → length xs ≡ length ys → length given < length xs → samplesOf t d xs ys given ≡ samplesZeros (refusal 7 0)
+  unfolding lists answer
+  samples-room h e w =
+      ap answer
+      (directed h ∙ rung-past 11 0 (differ (length xs) (length ys)) (number 7 (below (length given) (length xs)) ∷ tableRungs t) (λ x. x e) ∙ rung-holds 7 0 (below (length given) (length xs)) (tableRungs t) w)
+
 pub conditions : Conditions
 conditions = record {
   row-column = cell-row-column;
@@ -75,4 +104,7 @@ conditions = record {
   large = large;
   by-zero = by-zero;
   direction = λ t d a b. direction t a b d;
+  samples-direction = samples-direction;
+  samples-lengths = samples-lengths;
+  samples-room = samples-room;
 }

@@ -1,10 +1,11 @@
 -- Demand 1: the answers of all calls are those of their ladders.
-use Rattle.laws.proofs.Basics.{_≡_, refl, sym, ap, subst, _∙_, List, _++_, ⊎-elim, ℕ, _+_, _*_, _<_, arith, length, getD}
+use Rattle.laws.proofs.Basics.{_≡_, refl, sym, ap, subst, _∙_, List, _++_, ⊎-elim, ℕ, _+_, _*_, _<_, arith, length, getD, lit<}
 use Rattle.selection.specs.Answer.{refusal, refusalOf, answerBy, admissionOf, outcomeNumbers, reportNumbers, reportZeros}
-use Rattle.selection.specs.Refusals.{Rung, Wrongs, ladder, RefusedBy}
+use Rattle.selection.specs.Refusals.{Rung, Wrongs, ladder, rank, RefusedBy}
 use Rattle.selection.specs.Cell.{LeastWitness, digit}
 use Rattle.selection.specs.Table.{ReportMeaning, tableRungs}
 use Rattle.selection.specs.Computed.{madeTable, reportOf}
+use Rattle.selection.specs.declared.Refusal.{Refusal}
 use Rattle.selection.specs.declared.Admission.{Admission}
 use Rattle.selection.specs.declared.Admission.the-variants.{Refused}
 use Rattle.selection.specs.declared.table.Outcome.{Outcome}
@@ -21,9 +22,11 @@ use Rattle.division.specs.Whole.{wholeRungs, wholeZeros, wholeValues}
 use Rattle.division.specs.WholeSteps.{wholeThrough}
 use Rattle.division.specs.Binary64.{binary64Rungs, binary64Zeros, binary64Values}
 use Rattle.division.specs.Binary64Steps.{binary64Through}
-use Rattle.division.specs.Demand1.{Carries, CheckRefuses, RunRefuses, Demand1}
+use Rattle.division.specs.Samples.{samplesZeros, samplesValues, flagsThrough, filledThrough}
+use Rattle.division.specs.Demand1.{Carries, CheckRefuses, RefusesLent, RunRefuses, Demand1}
 use Rattle.division.proofs.Conditions.{conditions}
 use Rattle.division.proofs.Calls.{whole-ladder, whole-lent, binary64-ladder, binary64-lent}
+use Rattle.division.proofs.SampleRuns.{samples-lent}
 
 -- the check, from its report
 module _ (t : List ℕ) where
@@ -53,17 +56,27 @@ module _ (t : List ℕ) where
         carries = λ p x. check-carries (a .count) (a .outcome) (report-checked t .means) p (admission-ladder t ∙ first-is (table-ladder t) 10 p x);
       }
 
+-- a call that answers by the refusal v of its ladder, and writes s into the list b
+refuses-lent : {X : Type 0} {rs : List Rung} {v : Admission} → Ladder rs → (refused : X → Refusal) (zeros : Refusal → X) (done : X) (b s : List ℕ) → refused done ≡ refusal 0 0 → ((f : Refusal) → refused (zeros f) ≡ f) → v ≡ ladder rs
+    → RefusesLent (Wrongs rs) refused zeros (answerBy zeros done v) b (answerBy (λ f. b) s v)
+refuses-lent c refused zeros done b s h k e = record {
+  answer = refuses c refused zeros done h k e;
+  kept = λ n p x. ap (answerBy (λ f. b) s) (e ∙ first-is c n p x);
+}
+
 module _ (N D n : ℕ) (b : List ℕ) (place : ℕ) where
   run-refuses : (t : List ℕ) {rs : List Rung} → Ladder rs → ladder (runRungs N D n (length b) place ++ tableRungs t) ≡ ladder rs → RunRefuses (Wrongs rs) t N D n b place
-  run-refuses t c e = record {
-    answer = refuses c (λ x. x .refusal) runZeros (runValues (resultOf t N D n)) refl (λ f. refl) e;
-    buffer = λ k p x. ap (answerBy (λ f. b) (written b place (digits t N D n) n)) (e ∙ first-is c k p x);
-  }
+  run-refuses t c e = refuses-lent c (λ x. x .refusal) runZeros (runValues (resultOf t N D n)) b (written b place (digits t N D n) n) refl (λ f. refl) e
+
+rank-11 : (rank 6 < rank 11) × (rank 11 < rank 7)
+unfolding rank
+rank-11 = (lit< tt, lit< tt)
 
 pub demand-1 : Demand1
 demand-1 =
     record {
       order = by-number;
+      order-11 = rank-11;
       conditions = conditions;
       check-cell = cell-refuses;
       row-limits = λ r. limits-told r refl .1 .refuses;
@@ -74,6 +87,9 @@ demand-1 =
       run = λ t N D n b place. run-refuses N D n b place t (run-lent N D n (length b) place t) refl;
       whole = λ t a b. refuses (whole-lent a b t) (λ x. x .refusal) wholeZeros (wholeValues (wholeThrough t a b)) refl (λ f. refl) refl;
       binary64 = λ t direction a b. refuses (binary64-lent direction t) (λ x. x .refusal) binary64Zeros (binary64Values (binary64Through t direction a b)) refl (λ f. refl) refl;
+      samples = λ t direction currents sensitivities given.
+          refuses-lent (samples-lent direction (length currents) (length sensitivities) (length given) t) (λ x. x .refusal) samplesZeros
+          (samplesValues (flagsThrough t direction currents sensitivities (length currents)) (length currents)) given (filledThrough t direction currents sensitivities (length currents) given) refl (λ f. refl) refl;
       run-kept = λ N D n b place. run-refuses N D n b place madeTable (run-ladder N D n (length b) place) (passed-last kept-passes (runRungs N D n (length b) place));
       whole-kept = λ a b. refuses (whole-ladder a b) (λ x. x .refusal) wholeZeros (wholeValues (wholeThrough madeTable a b)) refl (λ f. refl) (passed-last kept-passes (wholeRungs a b));
       binary64-kept = λ direction a b. refuses (binary64-ladder direction) (λ x. x .refusal) binary64Zeros (binary64Values (binary64Through madeTable direction a b)) refl (λ f. refl) (passed-last kept-passes (binary64Rungs direction));

@@ -1,5 +1,5 @@
 -- Demand 2.
-use Rattle.laws.proofs.Basics.{refl, sym, List, ℕ, _^_, _≤_, _<_}
+use Rattle.laws.proofs.Basics.{_≡_, refl, sym, List, ℕ, _^_, _≤_, _<_, length}
 use native.Mathlib.Nat.{div-add-mod', mod-lt}
 use Rattle.laws.proofs.Division.{quotient}
 use Rattle.selection.specs.Table.{Passes}
@@ -7,7 +7,9 @@ use Rattle.selection.proofs.Orders.{passed-last}
 use Rattle.selection.proofs.MadeTables.{kept-passes}
 use Rattle.division.specs.Whole.{wholeRungs, wholeOf}
 use Rattle.division.specs.Binary64.{binary64Rungs, binary64Of}
-use Rattle.division.specs.Demand2.{Divides, DividesBinary64, RightThrough, Demand2}
+use Rattle.division.specs.Samples.{samplesOf, concentrationsOf}
+use Rattle.division.specs.Demand2.{Divides, DividesBinary64, DividesSamples, RightThrough, Demand2}
+use Rattle.division.proofs.SampleRuns.{samples-right, compensated-one}
 use Rattle.division.proofs.Calls.{whole-clear, direction-clear}
 use Rattle.division.proofs.WholeThrough.{whole-divides}
 use Rattle.division.proofs.IeeeLaws.{ieee-through}
@@ -24,8 +26,14 @@ module _ (t : List ℕ) (p : Passes t) where
       rw (passed-last p (binary64Rungs direction), direction-clear direction h)
       (record { done = refl; meaning = ieee-through t p direction a b; only = λ x i. ieee-one direction a b i (ieee-through t p direction a b) })
 
+  samples : (direction : ℕ) (currents sensitivities given : List ℕ) → direction ≤ 3 → length currents ≡ length sensitivities → length currents ≤ length given
+      → DividesSamples t direction currents sensitivities given (concentrationsOf t direction currents sensitivities given) (samplesOf t direction currents sensitivities given)
+  samples direction currents sensitivities given h e l =
+      let m = samples-right t p direction h currents sensitivities given e l in
+      record { meaning = m; only = λ y other n. compensated-one y _ n m }
+
   right : RightThrough t
-  right = record { whole = whole; binary64 = binary64 }
+  right = record { whole = whole; binary64 = binary64; samples = samples }
 
 pub demand-2 : Demand2
 demand-2 = record { passed = right; kept = right _ kept-passes }

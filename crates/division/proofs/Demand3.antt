@@ -24,6 +24,7 @@ use Rattle.division.specs.Demand3.{Demand3}
 use Rattle.division.proofs.WholeThrough.{whole-divides}
 use Rattle.division.proofs.Binary64Through.{binary64-through}
 use Rattle.division.proofs.Calls.{whole-spans}
+use Rattle.division.proofs.SampleRuns.{samples-same}
 
 whole-same : (t u : List ℕ) → Passes t → Passes u → (a b : ℕ) → wholeOf t a b ≡ wholeOf u a b
 whole-same t u p q a b = rw (passed-last p (wholeRungs a b), passed-last q (wholeRungs a b)) (go (ladder (wholeRungs a b)) refl)
@@ -51,7 +52,13 @@ pub demand-3 : Demand3
 demand-3 =
     record {
       runs = run-claim;
-      same = λ t u p q. record { run = run-same t u p q; whole = whole-same t u p q; binary64 = binary64-same t u p q };
+      same = λ t u p q. record {
+        run = run-same t u p q;
+        whole = whole-same t u p q;
+        binary64 = binary64-same t u p q;
+        samples = λ d xs ys given. samples-same t u p q d xs ys given .0;
+        concentrations = λ d xs ys given. samples-same t u p q d xs ys given .1;
+      };
       refused = λ t h a c. refused-exactly h c;
       answered = λ t. (reportOf t, report-checked t, λ b c. checked-one b (reportOf t) c (report-checked t));
       passed = passed;

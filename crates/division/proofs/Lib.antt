@@ -10,6 +10,7 @@ pub mod Classes
 pub mod WholeThrough
 pub mod Binary64Through
 pub mod Calls
+pub mod SampleRuns
 pub mod Conditions
 pub mod Demand1
 pub mod Demand3

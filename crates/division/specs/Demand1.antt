@@ -1,11 +1,12 @@
--- Demand 1: each call refuses exactly under the conditions of document 01's "Who sends bad input", in their order; a refused answer is its number, its place
--- and zeros, and a lent buffer keeps its contents. (That every call finishes is the language's own promise.)
+-- Demand 1: each call refuses exactly under the conditions of document 01's "Who sends bad input" and of document 02's requests, in their order; a refused answer is its
+-- number, its place and zeros, and a lent buffer keeps its contents. (That every call finishes is the language's own promise.)
 use mathlib.Core.Path.{_≡_}
 use mathlib.Core.List.{List, _++_}
 use mathlib.Core.Logic.{_⊎_}
 use Prim.Native.Nat.{ℕ, _+_, _*_, _^_, _≤_, _<_}
 use lib.ListN.{length, getD}
 use Rattle.selection.specs.Answer.{refusal, refusalOf, cellNumbers, cellZeros, reportNumbers, reportZeros}
+use Rattle.selection.specs.declared.Refusal.{Refusal}
 use Rattle.selection.specs.declared.numbers.ReportNumbers.{ReportNumbers}
 use Rattle.selection.specs.Refusals.{Wrongs, ladder, rank, FirstRefusal, RefusedBy, Refuses}
 use Rattle.selection.specs.Cell.{LeastWitness, cellRungs, digit}
@@ -16,6 +17,7 @@ use Rattle.recurrence.specs.Recurrence.{Operands}
 use Rattle.recurrence.specs.Run.{runRungs, runZeros, runOf, bufferOf}
 use Rattle.division.specs.Whole.{wholeRungs, wholeZeros, wholeOf}
 use Rattle.division.specs.Binary64.{binary64Rungs, binary64Zeros, binary64Of}
+use Rattle.division.specs.Samples.{samplesRungs, samplesZeros, samplesOf, concentrationsOf}
 
 -- what the check's refusal 10 at the place p carries: the number of bad cells, the first of them, its witness
 pub record Carries (t : List ℕ) (p : ℕ) (x : ReportNumbers) : Type 0 where
@@ -29,10 +31,14 @@ pub record CheckRefuses (t : List ℕ) (x : ReportNumbers) : Type 0 where
   pub besides : (n p : ℕ) → n < 10 → FirstRefusal (Wrongs (tableRungs t)) n p → x ≡ reportZeros (refusal n p)
   pub carries : (p : ℕ) → FirstRefusal (Wrongs (tableRungs t)) 10 p → Carries t p x
 
--- a run that refuses by C, and its buffer
-pub record RunRefuses (C : ℕ → ℕ → Type 0) (t : List ℕ) (N D n : ℕ) (b : List ℕ) (place : ℕ) : Type 0 where
-  pub answer : Refuses C (λ x. x .refusal) runZeros (runOf t N D n b place)
-  pub buffer : (k p : ℕ) → FirstRefusal C k p → bufferOf t N D n b place ≡ b
+-- a call that refuses by C and is lent a list to write, b before and c after
+pub record RefusesLent {X : Type 0} (C : ℕ → ℕ → Type 0) (refused : X → Refusal) (zeros : Refusal → X) (x : X) (b c : List ℕ) : Type 0 where
+  pub answer : Refuses C refused zeros x
+  pub kept : (n p : ℕ) → FirstRefusal C n p → c ≡ b
+
+-- a run, and its buffer
+abbrev pub RunRefuses : (ℕ → ℕ → Type 0) → List ℕ → ℕ → ℕ → ℕ → List ℕ → ℕ → Type 0
+RunRefuses C t N D n b place = RefusesLent C (λ x. x .refusal) runZeros (runOf t N D n b place) b (bufferOf t N D n b place)
 
 -- the caller's conditions once more, in numbers: where one holds and none before it, the call refuses so, whatever else it is handed
 pub record Conditions : Type 0 where
@@ -46,10 +52,14 @@ pub record Conditions : Type 0 where
   pub large : (t : List ℕ) (a b : ℕ) → (2 ^ 60 ≤ a) ⊎ (2 ^ 60 ≤ b) → wholeOf t a b ≡ wholeZeros (refusal 4 0)
   pub by-zero : (t : List ℕ) (a : ℕ) → a < 2 ^ 60 → wholeOf t a 0 ≡ wholeZeros (refusal 5 0)
   pub direction : (t : List ℕ) (d a b : ℕ) → 3 < d → binary64Of t d a b ≡ binary64Zeros (refusal 6 0)
+  pub samples-direction : (t : List ℕ) (d : ℕ) (currents sensitivities given : List ℕ) → 3 < d → samplesOf t d currents sensitivities given ≡ samplesZeros (refusal 6 0)
+  pub samples-lengths : (t : List ℕ) (d : ℕ) (currents sensitivities given : List ℕ) → d ≤ 3 → (length currents ≡ length sensitivities → ⊥) → samplesOf t d currents sensitivities given ≡ samplesZeros (refusal 11 0)
+  pub samples-room : (t : List ℕ) (d : ℕ) (currents sensitivities given : List ℕ) → d ≤ 3 → length currents ≡ length sensitivities → length given < length currents → samplesOf t d currents sensitivities given ≡ samplesZeros (refusal 7 0)
 
 pub record Demand1 : Type 0 where
-  -- the order is that of the numbers, from 1 to 10
+  -- the order is that of the numbers, from 1 to 10; 11 comes after 6 and before 7
   pub order : (m n : ℕ) → m < n → n < 10 → rank (m + 1) < rank (n + 1)
+  pub order-11 : (rank 6 < rank 11) × (rank 11 < rank 7)
   pub conditions : Conditions
   pub check-cell : (r c b : ℕ) → Refuses (Wrongs (cellRungs r c b)) (λ x. x .refusal) cellZeros (cellNumbers (cellOf r c b))
   pub row-limits : (r : ℕ) → Refuses (Wrongs (limitsRungs r)) (λ x. x .refusal) limitsZeros (rowLimitsOf r)
@@ -61,6 +71,8 @@ pub record Demand1 : Type 0 where
   pub run : (t : List ℕ) (N D n : ℕ) (b : List ℕ) (place : ℕ) → RunRefuses (Wrongs (runRungs N D n (length b) place ++ tableRungs t)) t N D n b place
   pub whole : (t : List ℕ) (a b : ℕ) → Refuses (Wrongs (wholeRungs a b ++ tableRungs t)) (λ x. x .refusal) wholeZeros (wholeOf t a b)
   pub binary64 : (t : List ℕ) (direction a b : ℕ) → Refuses (Wrongs (binary64Rungs direction ++ tableRungs t)) (λ x. x .refusal) binary64Zeros (binary64Of t direction a b)
+  pub samples : (t : List ℕ) (direction : ℕ) (currents sensitivities given : List ℕ)
+      → RefusesLent (Wrongs (samplesRungs direction (length currents) (length sensitivities) (length given) ++ tableRungs t)) (λ x. x .refusal) samplesZeros (samplesOf t direction currents sensitivities given) given (concentrationsOf t direction currents sensitivities given)
   -- over the kept table no table is refused
   pub run-kept : (N D n : ℕ) (b : List ℕ) (place : ℕ) → RunRefuses (Wrongs (runRungs N D n (length b) place)) madeTable N D n b place
   pub whole-kept : (a b : ℕ) → Refuses (Wrongs (wholeRungs a b)) (λ x. x .refusal) wholeZeros (wholeOf madeTable a b)

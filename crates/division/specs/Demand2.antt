@@ -1,16 +1,19 @@
--- Demand 2: whole numbers and binary64 are right, through every table that passes and through the kept one.
+-- Demand 2: whole numbers, binary64 and samples are right, through every table that passes and through the kept one.
 use mathlib.Core.Path.{_≡_}
 use mathlib.Core.List.{List}
 use Prim.Native.Nat.{ℕ, _+_, _*_, _^_, _≤_, _<_}
+use lib.ListN.{length}
 use Rattle.selection.specs.Answer.{refusal}
 use Rattle.selection.specs.Table.{Passes}
 use Rattle.selection.specs.Computed.{madeTable}
 use Rattle.division.specs.Whole.{wholeOf}
 use Rattle.division.specs.Binary64.{binary64Of}
+use Rattle.division.specs.Samples.{Compensated, samplesOf, concentrationsOf}
 use Rattle.division.specs.Ieee.{Ieee}
 use Rattle.division.specs.declared.whole.WholeAnswer.{WholeAnswer}
 use Rattle.division.specs.declared.format.Binary64Result.{Binary64Result}
 use Rattle.division.specs.declared.binary64.Binary64Answer.{Binary64Answer}
+use Rattle.division.specs.declared.samples.SamplesAnswer.{SamplesAnswer}
 
 -- the answer is no refusal; a = Q·b + R with R below b for its quotient Q and its remainder R, and for no others
 pub record Divides (a b : ℕ) (x : WholeAnswer) : Type 0 where
@@ -25,10 +28,17 @@ pub record DividesBinary64 (direction a b : ℕ) (x : Binary64Answer) : Type 0 w
   pub meaning : Ieee direction a b (record { pattern = x .pattern; flags = x .flags })
   pub only : (y : Binary64Result) → Ieee direction a b y → y ≡ record { pattern = x .pattern; flags = x .flags }
 
--- through the table t, for all operands that no refusal names: 4, 5; 6
+-- the answer and the third list are those of the samples divided one by one, and there are no others
+pub record DividesSamples (t : List ℕ) (direction : ℕ) (currents sensitivities given out : List ℕ) (x : SamplesAnswer) : Type 0 where
+  pub meaning : Compensated t direction currents sensitivities given out x
+  pub only : (y : SamplesAnswer) (other : List ℕ) → Compensated t direction currents sensitivities given other y → (y ≡ x) × (other ≡ out)
+
+-- through the table t, for all operands that no refusal names: 4, 5; 6; 6, 11, 7
 pub record RightThrough (t : List ℕ) : Type 0 where
   pub whole : (a b : ℕ) → a < 2 ^ 60 → 0 < b → b < 2 ^ 60 → Divides a b (wholeOf t a b)
   pub binary64 : (direction a b : ℕ) → direction ≤ 3 → DividesBinary64 direction a b (binary64Of t direction a b)
+  pub samples : (direction : ℕ) (currents sensitivities given : List ℕ) → direction ≤ 3 → length currents ≡ length sensitivities → length currents ≤ length given
+      → DividesSamples t direction currents sensitivities given (concentrationsOf t direction currents sensitivities given) (samplesOf t direction currents sensitivities given)
 
 pub record Demand2 : Type 0 where
   pub passed : (t : List ℕ) → Passes t → RightThrough t

@@ -1,4 +1,4 @@
--- Demand 3, whole: one claim about the check, the run, whole numbers and binary64.
+-- Demand 3, whole: one claim about the check, the run, whole numbers, binary64 and samples.
 use mathlib.Core.Path.{_≡_}
 use mathlib.Core.List.{List}
 use mathlib.Core.Logic.{_↔_}
@@ -15,12 +15,15 @@ use Rattle.recurrence.specs.Run.{runOf}
 use Rattle.recurrence.specs.Demand.{RunClaim}
 use Rattle.division.specs.Whole.{wholeOf}
 use Rattle.division.specs.Binary64.{binary64Of}
+use Rattle.division.specs.Samples.{samplesOf, concentrationsOf}
 
 -- through two tables the same answers, for every argument, refusals included
 pub record SameThrough (t u : List ℕ) : Type 0 where
   pub run : (N D n : ℕ) (b : List ℕ) (place : ℕ) → runOf t N D n b place ≡ runOf u N D n b place
   pub whole : (a b : ℕ) → wholeOf t a b ≡ wholeOf u a b
   pub binary64 : (direction a b : ℕ) → binary64Of t direction a b ≡ binary64Of u direction a b
+  pub samples : (direction : ℕ) (currents sensitivities given : List ℕ) → samplesOf t direction currents sensitivities given ≡ samplesOf u direction currents sensitivities given
+  pub concentrations : (direction : ℕ) (currents sensitivities given : List ℕ) → concentrationsOf t direction currents sensitivities given ≡ concentrationsOf u direction currents sensitivities given
 
 pub record Demand3 : Type 0 where
   -- all n steps of every run through a table that passes, together

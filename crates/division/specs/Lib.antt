@@ -8,6 +8,7 @@ pub mod Whole
 pub mod Significands
 pub mod Binary64Steps
 pub mod Binary64
+pub mod Samples
 pub mod Demand1
 pub mod Demand2
 pub mod Demand3

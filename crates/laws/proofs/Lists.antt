@@ -1,8 +1,10 @@
 -- A list by its index, a lent list filled from the front, and a part of a list lent and put back.
 use Rattle.laws.proofs.Basics.{_≡_, refl, sym, ap, subst, _∙_, ⊎-elim, List, [], _∷_, _++_, append-assoc, append-nil, ℕ, zero, suc, _+_, _-_, _≤_, _<_, add-one, arith, length, getD, take, drop, set, length-append, length-take, length-drop, drop-of-length-le}
 use native.Mathlib.Nat.{add-zero, add-suc, suc-add, zero-add, not-suc-le-zero, le-of-suc-le-suc, eq-or-lt-of-le}
-use lib.Seq.{drop-drop, drop-cons, set-at, getD-set-same, getD-set-other}
-use Rattle.laws.specs.Lists.{listFrom, filled}
+use lib.Seq.{drop-drop, drop-cons, set-at, getD-set-same, getD-set-other, getD-append-add, getD-drop, ext-getD}
+use lib.ListN.{List·getD-append}
+use Rattle.laws.specs.Lists.{listFrom, filled, KeptFrom, FilledWith}
+use Rattle.laws.proofs.Division.{le-or-lt}
 
 module _ {X : Type 0} (f : ℕ → X) where
   pub list-length : (i n : ℕ) → length (listFrom f i n) ≡ n
@@ -39,6 +41,28 @@ module _ {X : Type 0} (f : ℕ → X) where
 
     pub fill-all : (n : ℕ) → length o ≤ n → filled f n o ≡ listFrom f 0 n
     fill-all n h = rw (drop-of-length-le o {i = n} h, append-nil)
+
+    -- what stands at a place that is filled, and at one past them
+    pub fill-at : (d : X) (n k : ℕ) → k < n → getD (filled f n o) k d ≡ f k
+    fill-at d n k h = List·getD-append (listFrom f 0 n) (drop n o) d k (omega (arith, list-length 0 n)) ∙ list-at d 0 n k h ∙ ap f (zero-add k)
+
+    pub fill-rest : (d : X) (n k : ℕ) → n ≤ k → getD (filled f n o) k d ≡ getD o k d
+    fill-rest d n k h =
+        let e : k ≡ n + (k - n) = omega arith in
+        rw e (ap (λ (m : ℕ). getD (filled f n o) (m + (k - n)) d) (sym (list-length 0 n)) ∙ getD-append-add (listFrom f 0 n) (drop n o) (k - n) d ∙ getD-drop n o (k - n) d)
+
+-- a filled list, place by place; and lists that are kept from n on and agree before are the same
+pub fill-kept : (f : ℕ → ℕ) (n : ℕ) (o : List ℕ) → n ≤ length o → KeptFrom n o (filled f n o)
+fill-kept f n o h = record { size = fill-length f o n h; rest = fill-rest f o 0 n }
+
+pub fill-right : (f : ℕ → ℕ) (n : ℕ) (o : List ℕ) → n ≤ length o → FilledWith f n o (filled f n o)
+fill-right f n o h = record { each = fill-at f o 0 n; kept = fill-kept f n o h }
+
+pub kept-one : {n : ℕ} {o a b : List ℕ} → KeptFrom n o a → KeptFrom n o b → ((j : ℕ) → j < n → getD a j 0 ≡ getD b j 0) → a ≡ b
+kept-one {n} {o} {a} {b} x y e = ext-getD 0 a b (x .size ∙ sym (y .size)) (λ j l. ⊎-elim (λ h. x .rest j h ∙ sym (y .rest j h)) (e j) (le-or-lt n j))
+
+pub filled-one : {f : ℕ → ℕ} {n : ℕ} {o a b : List ℕ} → FilledWith f n o a → FilledWith f n o b → a ≡ b
+filled-one x y = kept-one (x .kept) (y .kept) (λ j h. x .each j h ∙ sym (y .each j h))
 
 -- n entries from a on, lent and put back
 pub part-length : (b : List ℕ) (a n : ℕ) → a + n ≤ length b → length (take (a + n - a) (drop a b)) ≡ n

@@ -5,7 +5,9 @@ ghost use Rattle.selection.specs.Computed.{cellOf, reportOf, rowLimitsOf, makeO
 ghost use Rattle.recurrence.specs.Run.{runOf, bufferOf};
 ghost use Rattle.division.specs.Whole.{wholeOf};
 ghost use Rattle.division.specs.Binary64.{binary64Of};
+ghost use Rattle.division.specs.Samples.{samplesOf, concentrationsOf};
 use division::binary64::Binary64Answer;
+use division::samples::SamplesAnswer;
 use division::whole::WholeAnswer;
 use recurrence::RunAnswer;
 use selection::Refusal;
@@ -109,4 +111,18 @@ pub extern "C" fn quendaric_divide_binary64_kept(a: u64, b: u64, direction: u64)
     ensures { λ r. ⌜ r ≡ binary64Of madeTable direction a b ⌝ }
 {
     division::binary64::divide_binary64_kept(a, b, direction)
+}
+
+// A run of samples through a lent table, their concentrations into the third list.
+#[no_mangle]
+pub extern "C" fn quendaric_divide_samples(
+    table: &[u8],
+    currents: &[u64],
+    sensitivities: &[u64],
+    concentrations: &mut [u64],
+    direction: u64,
+) -> SamplesAnswer
+    ensures { λ r. ⌜ (r ≡ samplesOf (now (table .entry)) direction (now (currents .entry)) (now (sensitivities .entry)) (now (concentrations .entry))) × (now (concentrations .exit) ≡ concentrationsOf (now (table .entry)) direction (now (currents .entry)) (now (sensitivities .entry)) (now (concentrations .entry))) ⌝ }
+{
+    division::samples::divide_samples(table, currents, sensitivities, concentrations, direction)
 }
