@@ -6,20 +6,10 @@
    Build: gcc -Iinclude examples/reading.c target/staticlib/libquendaric.a -o reading */
 
 #include "quendaric.h"
+#include "parse.h"
 #include "read_table.h"
-#include <errno.h>
 #include <inttypes.h>
-#include <math.h>
 #include <stdio.h>
-#include <stdlib.h>
-
-/* Is the whole word a finite number in the range of double? Then that is put into *x. */
-static int parse(const char *word, double *x) {
-  char *end;
-  errno = 0; /* strtod answers a number below the range by 0, and tells it by ERANGE alone */
-  *x = strtod(word, &end);
-  return end != word && *end == '\0' && isfinite(*x) && errno != ERANGE;
-}
 
 int main(int argc, char **argv) {
   table_file table;

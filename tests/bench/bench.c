@@ -110,6 +110,11 @@ static int agree(void) {
     differ += b64_softfloat(i, 0) != quendaric_divide_binary64_kept(a[i], b[i], 0).pattern;
 #endif
   }
+  static uint64_t list[PAIRS];
+  quendaric_samples run = quendaric_divide_samples(table, sizeof table, a, PAIRS, b, PAIRS, list, PAIRS, 0);
+  differ += run.refusal != 0 || run.count != PAIRS;
+  for (int i = 0; i < PAIRS; i++)
+    differ += list[i] != quendaric_divide_binary64_kept(a[i], b[i], 0).pattern;
   differ += plain_check(table) != 0 || quendaric_check_table(table, sizeof table).refusal != 0;
   return differ;
 }
@@ -213,6 +218,36 @@ static void growth(void) {
   }
 }
 
+/* Lists of samples, the check counted once, beside the single call and the recurrence in C on the same operands: ns a sample. */
+static void samples(void) {
+  static uint64_t current[100000], sensitivity[100000], concentration[100000];
+  for (int i = 0; i < 100000; i++)
+    current[i] = a[i % PAIRS] ^ (bits() & 0xffff), sensitivity[i] = b[i % PAIRS] ^ (bits() & 0xffff);
+  printf("%-58s %7s %7s %7s   %s\n", "samples, ns each", "list", "single", "C", "list / single, list / C");
+  for (int n = 1000; n <= 100000; n *= 100) {
+    double best[3] = {0, 0, 0};
+    for (int round = 0; round < 200000 / n * 4 + 20; round++) {
+      double start = now();
+      quendaric_samples run = quendaric_divide_samples(table, sizeof table, current, n, sensitivity, n, concentration, n, 0);
+      keep(&best[0], (now() - start) / n);
+      uint64_t x = run.flags ^ run.refusal;
+      start = now();
+      for (int i = 0; i < n; i++)
+        x ^= quendaric_divide_binary64_kept(current[i], sensitivity[i], 0).pattern;
+      keep(&best[1], (now() - start) / n);
+      start = now();
+      for (int i = 0; i < n; i++)
+        x ^= plain_binary64(table, current[i], sensitivity[i], 0).pattern;
+      keep(&best[2], (now() - start) / n);
+      sink = x;
+    }
+    printf("%-51s %6d %7.1f %7.1f %7.1f   %.3f, at most 1.05: %s; %.3f, at most 0.65: %s\n", "normal numbers, nearest, a list of", n, best[0],
+           best[1], best[2], best[0] / best[1], best[0] / best[1] <= 1.05 ? "met" : "MISSED", best[0] / best[2],
+           best[0] / best[2] <= 0.65 ? "met" : "MISSED");
+  }
+  printf("\n");
+}
+
 int main(int argc, char **argv) {
   prepare();
   if (argc == 3) {
@@ -251,6 +286,7 @@ int main(int argc, char **argv) {
   ratio("check of a passing table / kept run", "check", "run-kept", 250);
   ratio("check of a passing table / C count in 128-bit numbers", "check", "check-plain", 0);
   lent_alone();
+  samples();
   growth();
   return 0;
 }

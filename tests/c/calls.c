@@ -92,7 +92,7 @@ static void runs(const uint8_t *table) {
   SAME(buffer[0], 3);
 }
 
-/* Runs that are refused: the lowest number, and every byte of the buffer as it was. */
+/* Runs that are refused: the first in order, and every byte of the buffer as it was. */
 static void refused_runs(const uint8_t *table) {
   uint8_t buffer[40];
   uint8_t bad[QUENDARIC_TABLE_LENGTH];
@@ -162,6 +162,38 @@ static void divisions(const uint8_t *table) {
   }
 }
 
+/* Samples: the concentrations and the joined flags; each refusal, and the third list as it was. */
+static void samples(uint8_t *table) {
+  const size_t length = QUENDARIC_TABLE_LENGTH;
+  static const uint64_t current[3] = {0x3FF0000000000000ull, 0x3FF0000000000000ull, 0x4008000000000000ull};
+  static const uint64_t sensitivity[3] = {0x4008000000000000ull, 0, 0x4008000000000000ull};
+  uint64_t list[4] = {7, 7, 7, 7};
+  quendaric_samples run = quendaric_divide_samples(table, length, current, 3, sensitivity, 3, list, 4, QUENDARIC_NEAREST);
+  SAME(run.refusal, 0);
+  SAME(run.place, 0);
+  SAME(run.flags, QUENDARIC_INEXACT + QUENDARIC_DIVISION_BY_ZERO);
+  SAME(run.count, 3);
+  SAME(list[0], 0x3FD5555555555555ull);
+  SAME(list[1], 0x7FF0000000000000ull);
+  SAME(list[2], 0x3FF0000000000000ull);
+  SAME(list[3], 7);
+  run = quendaric_divide_samples(table, length, NULL, 0, NULL, 0, NULL, 0, QUENDARIC_NEAREST);
+  SAME(run.refusal, 0);
+  SAME(run.count, 0);
+  memset(list, 0, sizeof list);
+  SAME(quendaric_divide_samples(table, 5, current, 3, sensitivity, 2, list, 2, 4).refusal, QUENDARIC_REFUSED_DIRECTION);
+  SAME(quendaric_divide_samples(table, 5, current, 3, sensitivity, 2, list, 2, 0).refusal, QUENDARIC_REFUSED_LISTS);
+  SAME(quendaric_divide_samples(table, 5, current, 3, sensitivity, 3, list, 2, 0).refusal, QUENDARIC_REFUSED_ROOM);
+  SAME(quendaric_divide_samples(table, 5, NULL, 0, NULL, 0, NULL, 0, 0).refusal, QUENDARIC_REFUSED_LENGTH);
+  table[215] = 2;
+  run = quendaric_divide_samples(table, length, current, 3, sensitivity, 3, list, 4, 0);
+  SAME(run.refusal, QUENDARIC_REFUSED_BAD_CELL);
+  SAME(run.place, 215);
+  SAME(run.flags + run.count, 0);
+  table[215] = 4;
+  SAME(list[0] + list[1] + list[2] + list[3], 0);
+}
+
 int main(void) {
   uint8_t table[QUENDARIC_TABLE_LENGTH];
   memset(table, untouched, sizeof table);
@@ -171,5 +203,6 @@ int main(void) {
   refused_runs(table);
   nothing_lent(table);
   divisions(table);
+  samples(table);
   return differences != 0;
 }

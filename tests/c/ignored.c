@@ -2,9 +2,9 @@
 
 #include "quendaric.h"
 
-void ignored(const uint8_t *table, uint8_t *buffer);
+void ignored(const uint8_t *table, uint8_t *buffer, uint64_t *words);
 
-void ignored(const uint8_t *table, uint8_t *buffer) {
+void ignored(const uint8_t *table, uint8_t *buffer, uint64_t *words) {
   quendaric_check_cell(0, 0, 2);
   quendaric_check_table(table, 2048);
   quendaric_row_limits(0);
@@ -15,4 +15,5 @@ void ignored(const uint8_t *table, uint8_t *buffer) {
   quendaric_divide_whole_kept(1, 1);
   quendaric_divide_binary64(table, 2048, 1, 1, QUENDARIC_NEAREST);
   quendaric_divide_binary64_kept(1, 1, QUENDARIC_NEAREST);
+  quendaric_divide_samples(table, 2048, words, 1, words + 1, 1, words + 2, 1, QUENDARIC_NEAREST);
 }

@@ -53,6 +53,11 @@ FIELD(quendaric_binary64, pattern, 16, 8);
 FIELD(quendaric_binary64, flags, 24, 8);
 SIZE(quendaric_binary64, 32);
 
+REFUSAL(quendaric_samples);
+FIELD(quendaric_samples, flags, 16, 8);
+FIELD(quendaric_samples, count, 24, 8);
+SIZE(quendaric_samples, 32);
+
 int main(void) {
   char version[32];
   snprintf(version, sizeof version, "%d.%d.%d", QUENDARIC_VERSION_MAJOR, QUENDARIC_VERSION_MINOR,

@@ -1,7 +1,7 @@
 /* Would catch arguments that stand in another order in the archive than in the header: each call is made with numbers
-   that are all different, and its whole answer is held against a literal. For each pair of numbers the call is made once
-   more with the two exchanged, and the answer must then be another, so that no exchange is missed. The names of the
-   arguments are compared by tests/c/run. */
+   that are different, and its whole answer is held against a literal. For each pair of numbers the call is made once
+   more with the two exchanged, and the answer must then be another, so that no exchange is missed. (Two lengths that must
+   be equal are; which is which cannot be seen.) The names of the arguments are compared by tests/c/run. */
 
 #include "quendaric.h"
 #include <stdio.h>
@@ -50,6 +50,13 @@ static void divide_binary64_kept(const uint64_t *x, reply *y) {
   REPLY(y, quendaric_divide_binary64_kept(x[0], x[1], x[2]));
 }
 
+static void divide_samples(const uint64_t *x, reply *y) {
+  static const uint64_t current[1] = {0x3FF0000000000000ull}, sensitivity[1] = {0x4008000000000000ull};
+  uint64_t concentration[2] = {0, 0};
+  REPLY(y, quendaric_divide_samples(table, x[0], current, x[1], sensitivity, x[2], concentration, x[3], x[4]));
+  memcpy(y->buffer, concentration, sizeof concentration);
+}
+
 #define ONE 0x3FF0000000000000ull   /* 1.0 */
 #define THREE 0x4008000000000000ull /* 3.0 */
 #define N 0x1234567890ABCDEFull
@@ -80,6 +87,12 @@ static const struct {
     /* .., a, b, direction: 1/3 upward */
     {"divide_binary64", divide_binary64, 4, {2048, ONE, THREE, 2}, {{0, 0, 0x3FD5555555555556ull, 1}, {0}}},
     {"divide_binary64_kept", divide_binary64_kept, 3, {ONE, THREE, 2}, {{0, 0, 0x3FD5555555555556ull, 1}, {0}}},
+    /* .., lengths of the three lists, direction: 1/3 downward */
+    {"divide_samples",
+     divide_samples,
+     5,
+     {2048, 1, 1, 2, 3},
+     {{0, 0, 1, 1}, {0x55, 0x55, 0x55, 0x55, 0x55, 0x55, 0xD5, 0x3F}}},
 };
 
 /* Is it the answer of case i? Padding after a row's limits is left out: it is no part of the answer. */
@@ -104,6 +117,8 @@ int main(void) {
     }
     for (int j = 0; j < cases[i].arguments; j++)
       for (int k = j + 1; k < cases[i].arguments; k++) {
+        if (cases[i].argument[j] == cases[i].argument[k])
+          continue;
         uint64_t exchanged[MOST];
         memcpy(exchanged, cases[i].argument, sizeof exchanged);
         exchanged[j] = cases[i].argument[k];

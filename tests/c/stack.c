@@ -6,12 +6,12 @@
 #include <stdio.h>
 #include <string.h>
 
-enum { CALLS = 10, TURNS = 1000, PAINT = 0xA5 };
+enum { CALLS = 11, TURNS = 1000, PAINT = 0xA5 };
 
 static uint8_t stack[8192] __attribute__((aligned(64)));
 static uint8_t table[QUENDARIC_TABLE_LENGTH], buffer[QUENDARIC_MOST_DIGITS];
 static uint8_t *pointer; /* the caller's stack pointer */
-static uint64_t a, b;
+static uint64_t a, b, concentration;
 static int which;
 static volatile uint64_t sink;
 
@@ -23,7 +23,7 @@ static uint64_t bits(void) {
   return z ^ z >> 31;
 }
 
-/* One of the ten calls. */
+/* One of the calls. */
 static void call(void) {
   const size_t size = sizeof table, room = sizeof buffer, digits = 1 + a % 31;
   const uint64_t dividend = a >> 3, divisor = (uint64_t)1 << 60 | b >> 4, x = a >> (4 + b % 60),
@@ -39,7 +39,8 @@ static void call(void) {
   case 6: sink = quendaric_divide_whole(table, size, x, y).quotient; break;
   case 7: sink = quendaric_divide_whole_kept(x, y).quotient; break;
   case 8: sink = quendaric_divide_binary64(table, size, a, b, a % 4).pattern; break;
-  default: sink = quendaric_divide_binary64_kept(a, b, a % 4).pattern; break;
+  case 9: sink = quendaric_divide_binary64_kept(a, b, a % 4).pattern; break;
+  default: sink = quendaric_divide_samples(table, size, &a, 1, &b, 1, &concentration, 1, a % 4).flags; break;
   }
 }
 

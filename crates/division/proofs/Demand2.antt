@@ -1,15 +1,16 @@
 -- Demand 2.
-use Rattle.laws.proofs.Basics.{_≡_, refl, sym, List, ℕ, _^_, _≤_, _<_, length}
+use Rattle.laws.proofs.Basics.{_≡_, refl, sym, List, [], ℕ, _^_, _≤_, _<_, arith, length}
 use native.Mathlib.Nat.{div-add-mod', mod-lt}
+use Rattle.laws.specs.Lists.{listFrom}
 use Rattle.laws.proofs.Division.{quotient}
 use Rattle.selection.specs.Table.{Passes}
 use Rattle.selection.proofs.Orders.{passed-last}
 use Rattle.selection.proofs.MadeTables.{kept-passes}
 use Rattle.division.specs.Whole.{wholeRungs, wholeOf}
 use Rattle.division.specs.Binary64.{binary64Rungs, binary64Of}
-use Rattle.division.specs.Samples.{samplesOf, concentrationsOf}
+use Rattle.division.specs.Samples.{samplesRungs, samplesValues, joined, samplesOf, concentrationsOf}
 use Rattle.division.specs.Demand2.{Divides, DividesBinary64, DividesSamples, RightThrough, Demand2}
-use Rattle.division.proofs.SampleRuns.{samples-right, compensated-one}
+use Rattle.division.proofs.SampleRuns.{samples-clear, samples-right, compensated-one}
 use Rattle.division.proofs.Calls.{whole-clear, direction-clear}
 use Rattle.division.proofs.WholeThrough.{whole-divides}
 use Rattle.division.proofs.IeeeLaws.{ieee-through}
@@ -32,8 +33,12 @@ module _ (t : List ℕ) (p : Passes t) where
       let m = samples-right t p direction h currents sensitivities given e l in
       record { meaning = m; only = λ y other n. compensated-one y _ n m }
 
+  no-samples : (direction : ℕ) (given : List ℕ) → direction ≤ 3 → (samplesOf t direction [] [] given ≡ samplesValues 0 0) × (concentrationsOf t direction [] [] given ≡ given)
+  unfolding joined listFrom
+  no-samples direction given h = rw (passed-last p (samplesRungs direction 0 0 (length given)), samples-clear direction 0 0 (length given) h refl (omega arith)) (refl, refl)
+
   right : RightThrough t
-  right = record { whole = whole; binary64 = binary64; samples = samples }
+  right = record { whole = whole; binary64 = binary64; samples = samples; no-samples = no-samples }
 
 pub demand-2 : Demand2
 demand-2 = record { passed = right; kept = right _ kept-passes }

@@ -1,6 +1,6 @@
 -- Demand 2: whole numbers, binary64 and samples are right, through every table that passes and through the kept one.
 use mathlib.Core.Path.{_≡_}
-use mathlib.Core.List.{List}
+use mathlib.Core.List.{List, []}
 use Prim.Native.Nat.{ℕ, _+_, _*_, _^_, _≤_, _<_}
 use lib.ListN.{length}
 use Rattle.selection.specs.Answer.{refusal}
@@ -8,7 +8,7 @@ use Rattle.selection.specs.Table.{Passes}
 use Rattle.selection.specs.Computed.{madeTable}
 use Rattle.division.specs.Whole.{wholeOf}
 use Rattle.division.specs.Binary64.{binary64Of}
-use Rattle.division.specs.Samples.{Compensated, samplesOf, concentrationsOf}
+use Rattle.division.specs.Samples.{Compensated, samplesValues, samplesOf, concentrationsOf}
 use Rattle.division.specs.Ieee.{Ieee}
 use Rattle.division.specs.declared.whole.WholeAnswer.{WholeAnswer}
 use Rattle.division.specs.declared.format.Binary64Result.{Binary64Result}
@@ -39,6 +39,8 @@ pub record RightThrough (t : List ℕ) : Type 0 where
   pub binary64 : (direction a b : ℕ) → direction ≤ 3 → DividesBinary64 direction a b (binary64Of t direction a b)
   pub samples : (direction : ℕ) (currents sensitivities given : List ℕ) → direction ≤ 3 → length currents ≡ length sensitivities → length currents ≤ length given
       → DividesSamples t direction currents sensitivities given (concentrationsOf t direction currents sensitivities given) (samplesOf t direction currents sensitivities given)
+  -- both 0 for an empty run
+  pub no-samples : (direction : ℕ) (given : List ℕ) → direction ≤ 3 → (samplesOf t direction [] [] given ≡ samplesValues 0 0) × (concentrationsOf t direction [] [] given ≡ given)
 
 pub record Demand2 : Type 0 where
   pub passed : (t : List ℕ) → Passes t → RightThrough t

@@ -65,6 +65,15 @@ pub struct Binary64 {
     pub flags: u64,
 }
 
+#[repr(C)]
+#[derive(Clone, Copy, Debug, Default, PartialEq, Eq)]
+pub struct Samples {
+    pub refusal: u64,
+    pub place: u64,
+    pub flags: u64,
+    pub count: u64,
+}
+
 extern "C" {
     fn quendaric_check_cell(row: u64, column: u64, byte: u8) -> Cell;
     fn quendaric_check_table(table: *const u8, length: usize) -> Table;
@@ -92,13 +101,24 @@ extern "C" {
     fn quendaric_divide_whole_kept(a: u64, b: u64) -> Whole;
     fn quendaric_divide_binary64(table: *const u8, table_length: usize, a: u64, b: u64, direction: u64) -> Binary64;
     fn quendaric_divide_binary64_kept(a: u64, b: u64, direction: u64) -> Binary64;
+    fn quendaric_divide_samples(
+        table: *const u8,
+        table_length: usize,
+        currents: *const u64,
+        currents_length: usize,
+        sensitivities: *const u64,
+        sensitivities_length: usize,
+        concentrations: *mut u64,
+        concentrations_length: usize,
+        direction: u64,
+    ) -> Samples;
 }
 
-/// A call with a lent table, which it leaves as it was.
-fn lend<T>(table: &[u8], call: impl FnOnce(*const u8, usize) -> T) -> T {
-    let before = table.to_vec();
-    let answer = call(table.as_ptr(), table.len());
-    assert!(std::hint::black_box(table) == before, "a call changed a lent table");
+/// A call with a lent table or list to read, which it leaves as it was.
+fn lend<X: Clone + PartialEq, T>(lent: &[X], call: impl FnOnce(*const X, usize) -> T) -> T {
+    let before = lent.to_vec();
+    let answer = call(lent.as_ptr(), lent.len());
+    assert!(std::hint::black_box(lent) == before, "a call changed what it was lent to read");
     answer
 }
 
@@ -141,4 +161,21 @@ pub fn divide_binary64(table: Option<&[u8]>, a: u64, b: u64, direction: u64) -> 
         Some(table) => lend(table, |t, length| unsafe { quendaric_divide_binary64(t, length, a, b, direction) }),
         None => unsafe { quendaric_divide_binary64_kept(a, b, direction) },
     }
+}
+
+pub fn divide_samples(
+    table: &[u8],
+    currents: &[u64],
+    sensitivities: &[u64],
+    concentrations: &mut [u64],
+    direction: u64,
+) -> Samples {
+    let (start, room) = (concentrations.as_mut_ptr(), concentrations.len());
+    lend(table, |t, size| {
+        lend(currents, |a, many| {
+            lend(sensitivities, |b, as_many| unsafe {
+                quendaric_divide_samples(t, size, a, many, b, as_many, start, room, direction)
+            })
+        })
+    })
 }

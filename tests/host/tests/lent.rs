@@ -1,7 +1,7 @@
 //! Would catch a call that answers otherwise where a table or a buffer lies at an odd address, that writes into a table,
 //! or that writes outside its buffer: each call with its table and its buffer at every offset from 0 to 17 in a larger
 //! space, every byte of which is compared.
-use host::calls::{self, Binary64, Make, Run, Whole};
+use host::calls::{self, Binary64, Make, Run, Samples, Whole};
 use host::document::{rule, run, CELLS};
 
 const CANARY: u8 = 0x5A;
@@ -52,6 +52,14 @@ fn tables_at_any_address() {
         with_table(&table, whole, |t| calls::divide_whole(Some(t), 4195835, 3145727));
         let third = Binary64 { refusal, place, pattern: kept(0x3FD5_5555_5555_5555), flags: kept(1) };
         with_table(&table, third, |t| calls::divide_binary64(Some(t), 0x3FF0 << 48, 0x4008 << 48, 0));
+        let samples = Samples { refusal, place, flags: kept(1), count: kept(2) };
+        with_table(&table, samples, |t| {
+            let mut list = [7; 4];
+            let got = calls::divide_samples(t, &[0x3FF0 << 48; 2], &[0x4008 << 48; 2], &mut list[..3], 0);
+            let first = if refusal == 0 { third.pattern } else { 7 };
+            assert_eq!(list, [first, first, 7, 7]);
+            got
+        });
     }
 }
 

@@ -2,7 +2,7 @@
 //! and so does the one with the 1994 Pentium's five cells; every call must refuse both. The made table with these cells
 //! divides all rightly, and is refused too. docs/ONE-WRONG-CELL.md tells the story with these numbers. The draws are from
 //! the fixed seed below.
-use host::calls::{self, Binary64, Run, Whole};
+use host::calls::{self, Binary64, Run, Samples, Whole};
 use host::document::{breaks, rule, run, Trace, FULL};
 use host::draw::Draw;
 
@@ -143,6 +143,10 @@ fn every_call_refuses_the_tables_and_right_ones_divide_rightly() {
         assert_eq!(whole, Whole { refusal: 10, place, ..Default::default() });
         let binary64 = calls::divide_binary64(Some(table), a, b, 0);
         assert_eq!(binary64, Binary64 { refusal: 10, place, ..Default::default() });
+        let mut list = [7; 3];
+        let samples = calls::divide_samples(table, &[a, a], &[b, b], &mut list, 0);
+        assert_eq!(samples, Samples { refusal: 10, place, ..Default::default() });
+        assert_eq!(list, [7; 3]);
     }
     let good = rule().farthest();
     let mut buffer = [7u8; DIGITS];

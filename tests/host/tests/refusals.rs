@@ -1,6 +1,6 @@
 //! Would catch a refusal that is missing, raised without its condition, out of order, with a wrong place or with values
 //! that are not zeros, and a call that touches a lent buffer when it refuses or writes past its end.
-use host::calls::{self, Binary64, Cell, Limits, Make, Run, Table, Whole};
+use host::calls::{self, Binary64, Cell, Limits, Make, Run, Samples, Table, Whole};
 use host::document::{rule, run, CELLS};
 
 const CANARY: u8 = 0xA5;
@@ -38,7 +38,7 @@ fn tables() -> Vec<(Vec<u8>, u64, u64)> {
     list
 }
 
-/// The first condition that holds, in the order of the numbers; then the table's.
+/// The first condition that holds, in the call's order; then the table's.
 fn first(conditions: &[(u64, bool)], table: (u64, u64)) -> (u64, u64) {
     conditions.iter().find(|(_, holds)| *holds).map_or(table, |&(number, _)| (number, 0))
 }
@@ -205,4 +205,36 @@ fn binary64() {
             }
         }
     }
+}
+
+/// 6, 11, 7, and then the table's, also of an empty run; the three lists lie in one space, of which no word changes.
+#[test]
+fn samples() {
+    const WORD: u64 = 0x0123_4567_89AB_CDEF;
+    let mut seen = std::collections::BTreeMap::new();
+    for (table, fault, at) in tables() {
+        for direction in [0, 1, 2, 3, 4, 1 << 32, u64::MAX] {
+            for currents in 0..4usize {
+                for sensitivities in 0..4usize {
+                    for room in 0..5usize {
+                        let conditions = [(6, direction > 3), (11, currents != sensitivities), (7, room < currents)];
+                        let (refusal, place) = first(&conditions, (fault, at));
+                        *seen.entry(refusal).or_insert(0) += 1;
+                        let (a, b) = (vec![0x4008u64 << 48; currents], vec![0x4000u64 << 48; sensitivities]);
+                        let mut space = [WORD; 12];
+                        let got = calls::divide_samples(&table, &a, &b, &mut space[4..4 + room], direction);
+                        let mut want = [WORD; 12];
+                        if refusal == 0 {
+                            want[4..4 + currents].fill(0x3FF8 << 48);
+                            assert_eq!(got, Samples { count: currents as u64, ..Default::default() });
+                        } else {
+                            assert_eq!(got, Samples { refusal, place, ..Default::default() });
+                        }
+                        assert_eq!(space, want, "refusal {refusal}, {currents} {sensitivities} {room}");
+                    }
+                }
+            }
+        }
+    }
+    assert_eq!(seen.keys().copied().collect::<Vec<u64>>(), [0, 6, 7, 8, 9, 10, 11]);
 }

@@ -1,0 +1,76 @@
+//! Would catch a concentration that is not the single division's, or not the other dividers'; flags that are added and
+//! not joined, or joined over too many or too few samples; a wrong count; a word behind the last concentration that is
+//! written.
+use host::calls::{self, Samples};
+use host::dividers::{exact, processor};
+use host::document::rule;
+use host::draw::{landmarks, Draw};
+
+const CANARY: u64 = 0xA5A5_5A5A_C3C3_3C3C;
+
+/// Each of the flags 1, 2, 4, 8 and 16 that at least one sample raised, added up.
+fn joined(flags: &[u64]) -> u64 {
+    [1, 2, 4, 8, 16].iter().filter(|&&flag| flags.iter().any(|x| x / flag % 2 == 1)).sum()
+}
+
+/// One run in one direction, every word of the third list compared.
+fn compare(table: &[u8], currents: &[u64], sensitivities: &[u64], rest: usize, direction: u64) -> u64 {
+    let n = currents.len();
+    let mut out = vec![CANARY; n + rest];
+    let got = calls::divide_samples(table, currents, sensitivities, &mut out, direction);
+    let mut flags = Vec::new();
+    for j in 0..n {
+        let (a, b) = (currents[j], sensitivities[j]);
+        let single = calls::divide_binary64(Some(table), a, b, direction);
+        let want = exact(a, b, direction);
+        assert_eq!(want, processor(a, b, direction), "{a:016x} / {b:016x}, direction {direction}");
+        assert_eq!((single.refusal, out[j]), (0, single.pattern), "{a:016x} / {b:016x}, direction {direction}");
+        assert_eq!((out[j], single.flags), want, "{a:016x} / {b:016x}, direction {direction}");
+        flags.push(want.1);
+    }
+    assert_eq!(got, Samples { refusal: 0, place: 0, flags: joined(&flags), count: n as u64 });
+    assert!(out[n..].iter().all(|&word| word == CANARY), "{n} samples, {rest} words behind them");
+    got.flags
+}
+
+#[test]
+fn drawn_runs() {
+    let tables = [rule().made(), rule().farthest()];
+    let mut draw = Draw::new(12);
+    let mut seen = std::collections::BTreeSet::new();
+    for (turn, n) in (0..40).chain([100, 255, 256, 999, 1000]).enumerate() {
+        for direction in 0..4 {
+            let (currents, sensitivities): (Vec<u64>, Vec<u64>) = (0..n).map(|j| draw.operands(j + turn as u64)).unzip();
+            let rest = draw.below(5) as usize;
+            seen.insert(compare(&tables[turn % 2], &currents, &sensitivities, rest, direction));
+        }
+    }
+    assert!(seen.contains(&0) && seen.contains(&31) && seen.len() > 8, "joined flags seen: {seen:?}");
+}
+
+/// Patterns of every class over each other, and runs in which one sample alone raises a flag, or two raise the same.
+#[test]
+fn classes_and_flags() {
+    let made = rule().made();
+    let marks = landmarks();
+    let (one, three) = (0x3FF0u64 << 48, 0x4008u64 << 48);
+    for direction in 0..4 {
+        for &mark in &marks {
+            compare(&made, &marks, &vec![mark; marks.len()], 1, direction);
+        }
+        // inexact; inexact and underflow; inexact and overflow; by zero; invalid
+        let raising = [(one, three), (1, three), (0x7FEF << 48, 1), (one, 0), (0, 0)];
+        for (k, &(a, b)) in raising.iter().enumerate() {
+            for at in 0..7 {
+                let mut currents = vec![one; 7];
+                let mut sensitivities = vec![one; 7];
+                (currents[at], sensitivities[at]) = (a, b);
+                let flags = compare(&made, &currents, &sensitivities, 2, direction);
+                assert_eq!(flags, [1, 3, 5, 8, 16][k], "sample {at}");
+                (currents[(at + 3) % 7], sensitivities[(at + 3) % 7]) = (a, b);
+                assert_eq!(compare(&made, &currents, &sensitivities, 0, direction), flags, "the same flag twice");
+            }
+        }
+        assert_eq!(compare(&made, &[], &[], 3, direction), 0);
+    }
+}
