@@ -7,15 +7,16 @@
    Every call ends, and answers by value. The first two fields of an answer are the refusal (0: none) and its place.
    Where a call refuses, every other field is 0 (but see quendaric_check_table) and every lent buffer is unchanged.
    Look at the refusal first: zeros beside a refusal are no answer, and some of them look like one.
-   Where several refusals apply, the first in the order that the call's comment names is given: by number, but that 11
-   comes after 6 and before 7. The place is 0 except for 9 and 10.
+   Where several refusals apply, the first of them in the order 1 to 6, 11 to 13, 7 to 10 is given. The place is 0 except
+   for 9, 10 and 13.
 
-   A pointer must be valid for its length; with length 0 it is not read and may be NULL. Tables and byte buffers may be
-   at any address, lists of uint64_t are aligned as such, and what a call writes must not overlap what it reads. No call keeps a pointer, allocates memory, or has state of its own, so all of them
-   are reentrant and may be called from any thread.
+   A pointer must be valid for its length; with length 0 it is not read and may be NULL. Tables and buffers of bytes may
+   be at any address, lists of uint64_t are aligned as such. What a call writes must overlap nothing else that is lent to
+   it. No call keeps a pointer, allocates memory, or has state of its own, so all of them are reentrant and may be called from
+   any thread.
 
    The archive is for x86-64: the System V calling convention, a size_t of 64 bits. The calls use vector registers, and
-   of the stack at most QUENDARIC_STACK bytes below the caller's (440 measured on the archive, not proved). */
+   of the stack at most QUENDARIC_STACK bytes below the caller's (504 measured on the archive, not proved). */
 
 #ifndef QUENDARIC_H
 #define QUENDARIC_H
@@ -49,13 +50,14 @@ extern "C" {
 #endif
 
 /* The version of these calls; CHANGELOG.md tells what changed. */
-#define QUENDARIC_VERSION "1.1.0"
+#define QUENDARIC_VERSION "1.2.0"
 #define QUENDARIC_VERSION_MAJOR 1
-#define QUENDARIC_VERSION_MINOR 1
+#define QUENDARIC_VERSION_MINOR 2
 #define QUENDARIC_VERSION_PATCH 0
 
 #define QUENDARIC_TABLE_LENGTH 2048
 #define QUENDARIC_MOST_DIGITS 31
+#define QUENDARIC_WIDEST_WINDOW 4096
 #define QUENDARIC_STACK 512
 
 /* Refusals. 8 to 10 are the table maker's to mend, the others the caller's. */
@@ -65,11 +67,13 @@ extern "C" {
 #define QUENDARIC_REFUSED_TOO_LARGE 4 /* a or b is 2^60 or more */
 #define QUENDARIC_REFUSED_BY_ZERO 5   /* b is 0 */
 #define QUENDARIC_REFUSED_DIRECTION 6 /* direction above 3 */
-#define QUENDARIC_REFUSED_ROOM 7      /* the buffer or list ends before the last place to write */
+#define QUENDARIC_REFUSED_ROOM 7      /* a lent buffer or list ends before the last place to write */
 #define QUENDARIC_REFUSED_LENGTH 8    /* the table's length is not 2,048 */
 #define QUENDARIC_REFUSED_BYTE 9      /* a byte above 4; the place is the first such index */
 #define QUENDARIC_REFUSED_BAD_CELL 10 /* a digit that can drive the remainder out of range; the place is the first */
 #define QUENDARIC_REFUSED_LISTS 11    /* the two input lists differ in length */
+#define QUENDARIC_REFUSED_WIDTH 12    /* a window's width is 0, above 4,096 or above the number of readings */
+#define QUENDARIC_REFUSED_READING 13  /* a reading of 2^40 or more; the place is the first such index */
 
 /* Rounding directions of binary64 division. */
 #define QUENDARIC_NEAREST 0 /* to nearest, ties to even */
@@ -156,6 +160,12 @@ typedef struct {
   uint64_t count;
 } quendaric_samples;
 
+/* Beside a refusal nothing was written: what the lists hold are no means and no remainders. */
+typedef struct {
+  uint64_t refusal;
+  uint64_t place;
+} quendaric_averages;
+
 /* Examines a single cell: is the digit byte - 2 allowed in it? A digit that is not allowed is an ordinary answer, not
    a refusal. Refuses 1; 9 with place 128 * row + column. */
 QUENDARIC_ANSWER
@@ -218,6 +228,17 @@ quendaric_samples quendaric_divide_samples(const uint8_t *table, size_t table_le
                                            size_t currents_length, const uint64_t *sensitivities,
                                            size_t sensitivities_length, uint64_t *concentrations,
                                            size_t concentrations_length, uint64_t direction);
+
+/* The averages of a sliding window over readings in parts per billion, each below 2^40: for every full window of width
+   readings the mean, rounded down, and what is left over. For the window that begins at readings[j],
+   means[j] * width + remainders[j] = readings[j] + .. + readings[j + width - 1], with remainders[j] < width.
+   j runs from 0 to readings_length - width; what a longer list holds beyond that is kept. With a reading a second, the
+   fifteen-minute averages have the width 900. Divides through the kept table. Refuses 12, 13, 7, in
+   this order. */
+QUENDARIC_ANSWER
+quendaric_averages quendaric_average_windows(const uint64_t *readings, size_t readings_length, size_t width,
+                                             uint64_t *means, size_t means_length, uint64_t *remainders,
+                                             size_t remainders_length);
 
 #ifdef __cplusplus
 }

@@ -3,6 +3,7 @@
 #ifndef BASELINE_H
 #define BASELINE_H
 
+#include <stddef.h>
 #include <stdint.h>
 
 typedef struct {
@@ -24,6 +25,9 @@ baseline_binary64 ahead_binary64(const uint8_t *table, uint64_t a, uint64_t b, u
 
 /* The number of bad cells of a table, cell by cell in 128-bit whole numbers. */
 int plain_check(const uint8_t *table);
+
+/* Mean and remainder of every full window of width readings: a total that slides, and the machine's own division. */
+void plain_averages(const uint64_t *readings, size_t length, size_t width, uint64_t *means, uint64_t *remainders);
 
 /* The processor's own division, nearest, without flags. */
 uint64_t processor_binary64(uint64_t a, uint64_t b);

@@ -1,6 +1,7 @@
 /* Measures the unit beside the same division in C, interleaved round by round, and keeps the best round of each.
      bench            times and ratios
-     bench NAME N     N calls of one measure and nothing else, for a count of instructions */
+     bench NAME N     N calls of one measure and nothing else, for a count of instructions
+     bench windows N  the averages of N windows, likewise */
 #include "baseline.h"
 #include "quendaric.h"
 #include <math.h>
@@ -13,11 +14,12 @@
 #include "softfloat.h"
 #endif
 
-enum { PAIRS = 1024, ROUNDS = 600, DIFFERENCES = 4001 };
+enum { PAIRS = 1024, ROUNDS = 600, DIFFERENCES = 4001, READINGS = 100000, WIDTH = 900 };
 
 static uint8_t table[QUENDARIC_TABLE_LENGTH];
 static uint64_t dividend[PAIRS], divisor[PAIRS], a[PAIRS], b[PAIRS];
 static uint8_t out[40];
+static uint64_t readings[READINGS], means[READINGS], remainders[READINGS];
 static int digits = 28;
 
 static uint64_t run_plain(int i, uint64_t x) { return plain_run(table, dividend[i] ^ (x & 255), divisor[i], digits, out).quotient; }
@@ -88,6 +90,12 @@ static void prepare(void) {
     dividend[i] = ((a[i] & 0xfffffffffffffull) | 1ull << 52) << 8;
     divisor[i] = ((b[i] & 0xfffffffffffffull) | 1ull << 52) << 8;
   }
+  for (int i = 0; i < READINGS; i++)
+    readings[i] = bits() >> (24 + bits() % 32);
+}
+
+static void averages(size_t length, size_t width) {
+  sink = quendaric_average_windows(readings, length, width, means, READINGS, remainders, READINGS).refusal;
 }
 
 /* Every way gives the same answers before any is timed. */
@@ -110,6 +118,10 @@ static int agree(void) {
     differ += b64_softfloat(i, 0) != quendaric_divide_binary64_kept(a[i], b[i], 0).pattern;
 #endif
   }
+  static uint64_t other_means[READINGS], other_remainders[READINGS];
+  averages(READINGS, WIDTH);
+  plain_averages(readings, READINGS, WIDTH, other_means, other_remainders);
+  differ += memcmp(means, other_means, sizeof means) != 0 || memcmp(remainders, other_remainders, sizeof means) != 0;
   static uint64_t list[PAIRS];
   quendaric_samples run = quendaric_divide_samples(table, sizeof table, a, PAIRS, b, PAIRS, list, PAIRS, 0);
   differ += run.refusal != 0 || run.count != PAIRS;
@@ -248,8 +260,46 @@ static void samples(void) {
   printf("\n");
 }
 
+/* A single division of a window's sum: what the averages spend on each window. */
+static uint64_t window_alone(int i) { return quendaric_divide_whole_kept(WIDTH * readings[i] + (uint64_t)i, WIDTH).quotient; }
+
+/* Time a window, best of rounds: beside the same loop in C and beside a single division, and over widths and lengths. */
+static void averages_time(void) {
+  static const struct {
+    size_t width, length;
+  } shape[] = {{WIDTH, READINGS}, {1, READINGS},   {2, READINGS},   {30, READINGS},
+               {4096, READINGS},  {WIDTH, 1000}, {WIDTH, 10000}, {WIDTH, 50000}};
+  enum { SHAPES = sizeof shape / sizeof *shape };
+  double best[SHAPES] = {0}, plain = 0, alone = 0;
+  for (int round = 0; round < ROUNDS / 20; round++) {
+    for (int k = 0; k < SHAPES; k++) {
+      double start = now();
+      averages(shape[k].length, shape[k].width);
+      keep(&best[k], (now() - start) / (double)(shape[k].length - shape[k].width + 1));
+    }
+    double start = now();
+    plain_averages(readings, READINGS, WIDTH, means, remainders);
+    keep(&plain, (now() - start) / (READINGS - WIDTH + 1));
+    start = now();
+    for (int i = 0; i < READINGS; i++)
+      sink = window_alone(i);
+    keep(&alone, (now() - start) / READINGS);
+  }
+  printf("\n%-58s %7s\n", "averages, best of rounds", "ns");
+  for (int k = 0; k < SHAPES; k++)
+    printf("unit, a window, width %4zu over %6zu readings %17.1f\n", shape[k].width, shape[k].length, best[k]);
+  printf("%-58s %7.1f\n", "C with the machine's division, a window, width 900", plain);
+  printf("%-58s %7.1f\n", "unit, a kept whole number by 900", alone);
+  printf("%-58s %7.2f\n", "a window / a kept whole number by 900", best[0] / alone);
+  printf("%-58s %7.2f\n", "a window / the same loop in C", best[0] / plain);
+}
+
 int main(int argc, char **argv) {
   prepare();
+  if (argc == 3 && !strcmp(argv[1], "windows")) {
+    averages((size_t)atoi(argv[2]) + WIDTH - 1, WIDTH);
+    return sink != 0;
+  }
   if (argc == 3) {
     const measure *m = named(argv[1]);
     for (int i = 0, n = atoi(argv[2]); i < n; i++)
@@ -288,5 +338,6 @@ int main(int argc, char **argv) {
   lent_alone();
   samples();
   growth();
+  averages_time();
   return 0;
 }

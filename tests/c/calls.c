@@ -194,6 +194,45 @@ static void samples(uint8_t *table) {
   SAME(list[0] + list[1] + list[2] + list[3], 0);
 }
 
+/* A reading a second for half an hour with a spike of five minutes in it, and its 901 fifteen-minute averages. */
+enum { SECONDS = 1800, QUARTER = 900, WINDOWS = SECONDS - QUARTER + 1 };
+static uint64_t readings[SECONDS], means[WINDOWS + 1], remainders[WINDOWS + 1];
+
+static quendaric_averages averaged(size_t width, size_t room, size_t other) {
+  return quendaric_average_windows(readings, SECONDS, width, means, room, remainders, other);
+}
+
+static void averages(void) {
+  for (int i = 0; i < SECONDS; i++)
+    readings[i] = i < 600 || i >= 900 ? 1000 : 20001;
+  for (int i = 0; i <= WINDOWS; i++)
+    means[i] = remainders[i] = untouched;
+  SAME(averaged(QUARTER, WINDOWS - 1, WINDOWS).refusal, QUENDARIC_REFUSED_ROOM);
+  SAME(averaged(QUARTER, WINDOWS, WINDOWS - 1).refusal, QUENDARIC_REFUSED_ROOM);
+  readings[1790] = (uint64_t)1 << 40;
+  SAME(averaged(QUARTER, 0, 0).refusal, QUENDARIC_REFUSED_READING);
+  SAME(averaged(QUARTER, 0, 0).place, 1790);
+  SAME(averaged(0, 0, 0).refusal, QUENDARIC_REFUSED_WIDTH);
+  SAME(averaged(SECONDS + 1, WINDOWS, WINDOWS).refusal, QUENDARIC_REFUSED_WIDTH);
+  SAME(averaged(QUENDARIC_WIDEST_WINDOW + 1, WINDOWS, WINDOWS).refusal, QUENDARIC_REFUSED_WIDTH);
+  SAME(quendaric_average_windows(NULL, 0, 1, NULL, 0, NULL, 0).refusal, QUENDARIC_REFUSED_WIDTH);
+  SAME(means[0] == untouched && remainders[0] == untouched, 1);
+  readings[1790] = 1000;
+  quendaric_averages answer = averaged(QUARTER, WINDOWS + 1, WINDOWS + 1);
+  SAME(answer.refusal, 0);
+  SAME(answer.place, 0);
+  /* 300 readings of 20,001 and 600 of 1,000 by 900; from 601 on readings of the spike have left */
+  SAME(means[0], 7333);
+  SAME(remainders[0], 600);
+  SAME(means[600], 7333);
+  SAME(means[601], 7312);
+  SAME(remainders[601], 499);
+  SAME(means[900], 1000);
+  SAME(remainders[900], 0);
+  SAME(means[WINDOWS], untouched);
+  SAME(remainders[WINDOWS], untouched);
+}
+
 int main(void) {
   uint8_t table[QUENDARIC_TABLE_LENGTH];
   memset(table, untouched, sizeof table);
@@ -204,5 +243,6 @@ int main(void) {
   nothing_lent(table);
   divisions(table);
   samples(table);
+  averages();
   return differences != 0;
 }

@@ -37,6 +37,9 @@ SIZE(quendaric_limits, 24);
 REFUSAL(quendaric_made);
 SIZE(quendaric_made, 16);
 
+REFUSAL(quendaric_averages);
+SIZE(quendaric_averages, 16);
+
 REFUSAL(quendaric_ran);
 FIELD(quendaric_ran, quotient, 16, 8);
 FIELD(quendaric_ran, remainder, 24, 8);

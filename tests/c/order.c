@@ -13,9 +13,11 @@ enum { MOST = 6, ROOM = 16 };
 static uint8_t made[QUENDARIC_TABLE_LENGTH];
 static const uint8_t *const table = made;
 
-/* An answer word by word, and what the lent buffer holds after the call. */
+static const uint64_t readings[5] = {10, 20, 31, 40, 51};
+
+/* An answer word by word, behind it two lent lists of five, and what the lent buffer holds after the call. */
 typedef struct {
-  uint64_t word[7];
+  uint64_t word[12];
   uint8_t buffer[ROOM];
 } reply;
 
@@ -56,6 +58,10 @@ static void divide_samples(const uint64_t *x, reply *y) {
   REPLY(y, quendaric_divide_samples(table, x[0], current, x[1], sensitivity, x[2], concentration, x[3], x[4]));
   memcpy(y->buffer, concentration, sizeof concentration);
 }
+/* Both lists have one length: of two, no answer tells which is whose. */
+static void average_windows(const uint64_t *x, reply *y) {
+  REPLY(y, quendaric_average_windows(readings, x[0], x[1], y->word + 2, x[2], y->word + 7, x[2]));
+}
 
 #define ONE 0x3FF0000000000000ull   /* 1.0 */
 #define THREE 0x4008000000000000ull /* 3.0 */
@@ -93,6 +99,8 @@ static const struct {
      5,
      {2048, 1, 1, 2, 3},
      {{0, 0, 1, 1}, {0x55, 0x55, 0x55, 0x55, 0x55, 0x55, 0xD5, 0x3F}}},
+    /* number of readings, width, length of the lists: 101 and 142 by 4 */
+    {"average_windows", average_windows, 3, {5, 4, 3}, {{0, 0, 25, 35, 0, 0, 0, 1, 2}, {0}}},
 };
 
 /* Is it the answer of case i? Padding after a row's limits is left out: it is no part of the answer. */

@@ -6,10 +6,11 @@
 #include <stdio.h>
 #include <string.h>
 
-enum { CALLS = 11, TURNS = 1000, PAINT = 0xA5 };
+enum { CALLS = 12, TURNS = 1000, PAINT = 0xA5 };
 
 static uint8_t stack[8192] __attribute__((aligned(64)));
 static uint8_t table[QUENDARIC_TABLE_LENGTH], buffer[QUENDARIC_MOST_DIGITS];
+static uint64_t readings[8], means[8], remainders[8];
 static uint8_t *pointer; /* the caller's stack pointer */
 static uint64_t a, b, concentration;
 static int which;
@@ -40,7 +41,8 @@ static void call(void) {
   case 7: sink = quendaric_divide_whole_kept(x, y).quotient; break;
   case 8: sink = quendaric_divide_binary64(table, size, a, b, a % 4).pattern; break;
   case 9: sink = quendaric_divide_binary64_kept(a, b, a % 4).pattern; break;
-  default: sink = quendaric_divide_samples(table, size, &a, 1, &b, 1, &concentration, 1, a % 4).flags; break;
+  case 10: sink = quendaric_divide_samples(table, size, &a, 1, &b, 1, &concentration, 1, a % 4).flags; break;
+  default: sink = quendaric_average_windows(readings, 8, 1 + a % 8, means, 8, remainders, 8).refusal; break;
   }
 }
 
@@ -66,6 +68,7 @@ int main(void) {
   for (which = 0; which < CALLS; which++)
     for (int turn = 0; turn < TURNS; turn++) {
       a = bits(), b = bits();
+      readings[turn % 8] = a >> 24;
       long now = used();
       most = now > most ? now : most;
     }

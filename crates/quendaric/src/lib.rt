@@ -1,4 +1,4 @@
-// The C interface: thin exports of the three layers. A slice is a pointer and a length; an answer comes back as the layer's own struct.
+// The C interface: thin exports of the three layers and of the averages. A slice is a pointer and a length; an answer comes back as the layer's own struct.
 ghost use mathlib.Core.Path.{_≡_};
 ghost use Rattle.selection.specs.Answer.{cellNumbers, reportNumbers};
 ghost use Rattle.selection.specs.Computed.{cellOf, reportOf, rowLimitsOf, makeOf, madeBuffer, madeTable};
@@ -6,6 +6,7 @@ ghost use Rattle.recurrence.specs.Run.{runOf, bufferOf};
 ghost use Rattle.division.specs.Whole.{wholeOf};
 ghost use Rattle.division.specs.Binary64.{binary64Of};
 ghost use Rattle.division.specs.Samples.{samplesOf, concentrationsOf};
+ghost use Rattle.exposure.specs.Computed.{averagesOf, meansOf, remaindersOf};
 use division::binary64::Binary64Answer;
 use division::samples::SamplesAnswer;
 use division::whole::WholeAnswer;
@@ -125,4 +126,17 @@ pub extern "C" fn quendaric_divide_samples(
     ensures { λ r. ⌜ (r ≡ samplesOf (now (table .entry)) direction (now (currents .entry)) (now (sensitivities .entry)) (now (concentrations .entry))) × (now (concentrations .exit) ≡ concentrationsOf (now (table .entry)) direction (now (currents .entry)) (now (sensitivities .entry)) (now (concentrations .entry))) ⌝ }
 {
     division::samples::divide_samples(table, currents, sensitivities, concentrations, direction)
+}
+
+// Mean and remainder of every full window of so many readings, into two lists.
+#[no_mangle]
+pub extern "C" fn quendaric_average_windows(
+    readings: &[u64],
+    width: usize,
+    means: &mut [u64],
+    remainders: &mut [u64],
+) -> Refusal
+    ensures { λ r. ⌜ (r ≡ averagesOf (now (readings .entry)) width (now (means .entry)) (now (remainders .entry))) × (now (means .exit) ≡ meansOf (now (readings .entry)) width (now (means .entry)) (now (remainders .entry))) × (now (remainders .exit) ≡ remaindersOf (now (readings .entry)) width (now (means .entry)) (now (remainders .entry))) ⌝ }
+{
+    exposure::average_windows(readings, width, means, remainders)
 }

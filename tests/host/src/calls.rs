@@ -74,6 +74,13 @@ pub struct Samples {
     pub count: u64,
 }
 
+#[repr(C)]
+#[derive(Clone, Copy, Debug, Default, PartialEq, Eq)]
+pub struct Averages {
+    pub refusal: u64,
+    pub place: u64,
+}
+
 extern "C" {
     fn quendaric_check_cell(row: u64, column: u64, byte: u8) -> Cell;
     fn quendaric_check_table(table: *const u8, length: usize) -> Table;
@@ -112,6 +119,15 @@ extern "C" {
         concentrations_length: usize,
         direction: u64,
     ) -> Samples;
+    fn quendaric_average_windows(
+        readings: *const u64,
+        readings_length: usize,
+        width: usize,
+        means: *mut u64,
+        means_length: usize,
+        remainders: *mut u64,
+        remainders_length: usize,
+    ) -> Averages;
 }
 
 /// A call with a lent table or list to read, which it leaves as it was.
@@ -178,4 +194,10 @@ pub fn divide_samples(
             })
         })
     })
+}
+
+pub fn average_windows(readings: &[u64], width: usize, means: &mut [u64], remainders: &mut [u64]) -> Averages {
+    let (m, m_length) = (means.as_mut_ptr(), means.len());
+    let (r, r_length) = (remainders.as_mut_ptr(), remainders.len());
+    lend(readings, |list, length| unsafe { quendaric_average_windows(list, length, width, m, m_length, r, r_length) })
 }
