@@ -1,47 +1,45 @@
--- The rule in small numbers and the search agree: one test that antt computes over all cells and bytes, and one law that carries it to
--- each. So the rule says which digits are allowed, and which cells of a table are bad.
-use Rattle.laws.proofs.Basics.{_≡_, refl, Bool, true, false, not, List, ℕ, _/_, _%_, _<_, arith, T, getD}
-use Rattle.laws.proofs.Tests.{upto, upto-at, alike, alike-eq}
+-- The test of a cell says which digits are allowed, and which cells of a table are bad.
+use Rattle.laws.proofs.Basics.{_≡_, refl, ap, Bool, true, false, not, cond, List, ℕ, _+_, _*_, _/_, _%_, _≤_, _<_, ltb, getD}
 use Rattle.selection.specs.Cell.{Allows, IsCell, CellChecked, digit}
 use Rattle.selection.specs.Table.{Table, BadAt}
-use Rattle.selection.specs.Search.{searchOf, cellVerdictOf}
-use Rattle.selection.specs.Allowed.{allowsOf, isBad}
-use Rattle.selection.specs.declared.SearchResult.{SearchResult}
-use Rattle.selection.specs.declared.SearchResult.the-variants.{NoWitness, LeastAt}
+use Rattle.selection.specs.Multiples.{Finding, RowOf, multiplesOf, greatestByte, allowsBy, foundAt, testOf, cellVerdictOf}
+use Rattle.selection.specs.Multiples.Finding.{NoWitness, LeastAt}
+use Rattle.selection.specs.Allowed.{allowsOf, isBad, isBadIn}
+use Rattle.selection.specs.declared.multiples.RowMultiples.{RowMultiples}
 use Rattle.selection.proofs.BiasedPoints.{verdict-checked, not-allowed}
 use Rattle.selection.proofs.Counts.{Decides, decides-yes, decides-no}
-use Rattle.selection.proofs.Tables.{cell-at}
+use Rattle.selection.proofs.Tables.{cell-at, cell-row, cell-column}
 
-abbrev clear : SearchResult → Bool
+abbrev clear : Finding → Bool
 clear NoWitness = true
 clear (LeastAt d w) = false
 
-agree : ℕ → ℕ → ℕ → Bool
-agree r c b = alike (allowsOf r c b) (clear (searchOf r c b))
-
-all-agree : T (upto (λ r. upto (λ c. upto (agree r c) 5) 128) 16)
-unfolding agree allowsOf
-all-agree = tt
-
-agree-eq : (r c b : ℕ) → T (agree r c b) → allowsOf r c b ≡ clear (searchOf r c b)
-unfolding agree
-agree-eq r c b t = alike-eq (allowsOf r c b) (clear (searchOf r c b)) t
-
-pub allows-search : {r c b : ℕ} → IsCell r c b → allowsOf r c b ≡ clear (searchOf r c b)
-allows-search {r} {c} {b} k =
-    agree-eq r c b (upto-at (agree r c) 5 (upto-at (λ (n : ℕ). upto (agree r n) 5) 128 (upto-at (λ (m : ℕ). upto (λ n. upto (agree m n) 5) 128) 16 all-agree r (omega arith)) c (omega arith)) b (omega arith))
+-- a digit is allowed where the test finds nothing
+allows-test : (r c b : ℕ) → allowsOf r c b ≡ clear (testOf (multiplesOf r) c b)
+unfolding allowsOf
+allows-test r c b = go (allowsBy (multiplesOf r) c b) (ltb (greatestByte (multiplesOf r) c) b)
+  where
+    go : (x y : Bool) → x ≡ clear (cond x NoWitness (foundAt (multiplesOf r .smallest) c b y))
+    go true y = refl
+    go false true = refl
+    go false false = refl
 
 pub allows-decides : {r c b : ℕ} → IsCell r c b → Decides (Allows r c (digit b)) (allowsOf r c b)
-allows-decides {r} {c} {b} k = rw (allows-search k) (go (searchOf r c b) (verdict-checked k refl .1))
+allows-decides {r} {c} {b} k = rw (allows-test r c b) (go (testOf (multiplesOf r) c b) (verdict-checked k refl .1))
   where
-    go : (h : SearchResult) → CellChecked r c b (cellVerdictOf h) → Decides (Allows r c (digit b)) (clear h)
+    go : (h : Finding) → CellChecked r c b (cellVerdictOf h) → Decides (Allows r c (digit b)) (clear h)
     go NoWitness j = decides-yes (j .means .1)
     go (LeastAt d w) j = decides-no (not-allowed (j .means .1 .against))
 
 -- which cells of a table are bad
 pub bad-decides : {t : List ℕ} → Table t → (k : ℕ) → k < 2048 → Decides (BadAt t k) (isBad t k)
-bad-decides {t} a k h = rw (allows-search (cell-at a k h)) (go (searchOf (k / 128) (k % 128) (getD t k 0)) (verdict-checked (cell-at a k h) refl .1))
+bad-decides {t} a k h = rw (allows-test (k / 128) (k % 128) (getD t k 0)) (go (testOf (multiplesOf (k / 128)) (k % 128) (getD t k 0)) (verdict-checked (cell-at a k h) refl .1))
   where
-    go : (x : SearchResult) → CellChecked (k / 128) (k % 128) (getD t k 0) (cellVerdictOf x) → Decides (BadAt t k) (not (clear x))
+    go : (x : Finding) → CellChecked (k / 128) (k % 128) (getD t k 0) (cellVerdictOf x) → Decides (BadAt t k) (not (clear x))
     go NoWitness j = decides-no (λ b. not-allowed (b .against) (j .means .1))
     go (LeastAt d w) j = decides-yes (record { divisor = d; remainder = _; against = j .means .1 .against })
+
+-- by the multiples of a row
+pub bad-in-row : (t : List ℕ) {m : RowMultiples} (c : ℕ) → RowOf m → c ≤ 127 → not (allowsBy m c (getD t (128 * m .row + c) 0)) ≡ isBadIn t (m .row) c
+unfolding allowsOf
+bad-in-row t {m} c o hc = rw (cell-row (m .row) c hc, cell-column (m .row) c hc) (ap (λ (n : RowMultiples). not (allowsBy n c (getD t (128 * m .row + c) 0))) (o .is))

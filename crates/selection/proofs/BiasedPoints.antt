@@ -5,19 +5,18 @@ use Rattle.laws.proofs.Diff.{diff, diffs, diff-sub, diff-eq}
 use Rattle.laws.proofs.Division.{le-or-lt}
 use Rattle.selection.specs.Word.{signed, Within}
 use Rattle.selection.specs.Cell.{Point, Keeps, Allows, Against, IsCell, cellRungs, CellChecked, CellMeaning, digit}
-use Rattle.selection.specs.Search.{cellVerdictOf, searchOf}
+use Rattle.selection.specs.Multiples.{Finding, multiplesOf, testOf, cellVerdictOf}
+use Rattle.selection.specs.Multiples.Finding.{NoWitness, LeastAt}
 use Rattle.selection.specs.Answer.{answerBy}
 use Rattle.selection.specs.Refusals.{Wrongs, ladder, rank, FirstRefusal}
 use Rattle.selection.specs.declared.Admission.{Admission}
 use Rattle.selection.specs.declared.Admission.the-variants as A
 use Rattle.selection.specs.Computed.{cellOf}
-use Rattle.selection.specs.declared.SearchResult.{SearchResult}
-use Rattle.selection.specs.declared.SearchResult.the-variants.{NoWitness, LeastAt}
 use Rattle.selection.specs.declared.CellVerdict.{CellVerdict}
 use Rattle.selection.specs.declared.CellVerdict.the-variants.{Allowed, Disallowed, Refused}
 use Rattle.selection.proofs.Ladders.{Ladder, Meets, ladder-meets, not-below}
 use Rattle.selection.proofs.Breaking.{BiasedPoint, Low, High, Breaks, IsLeast}
-use Rattle.selection.proofs.Searching.{search-right}
+use Rattle.selection.proofs.Tested.{test-right}
 
 -- a word read as signed is that word with its top bit turned, less 2^63
 pub signed-diff : (n : ℕ) → signed n ≡ diff ((n + 2 ^ 63) % 2 ^ 64) (2 ^ 63)
@@ -86,7 +85,7 @@ module _ (r c b : ℕ) (known : IsCell r c b) where
       let k : Keeps (digit b) D (diff (p .W) (2 ^ 63)) → ⊥ = λ h. a .broken (subst (Keeps (digit b) D) (sym (p .is)) h) in
       (p .W, p .is, record { point = p .point; side = ⊎-elim (λ h. absurd (k h)) (λ s. s) (sides b D (p .W)) })
 
-  result-means : (h : SearchResult) → IsLeast (Breaks r c b) h → CellMeaning r c b (cellVerdictOf h)
+  result-means : (h : Finding) → IsLeast (Breaks r c b) h → CellMeaning r c b (cellVerdictOf h)
   result-means NoWitness s = (
     known,
     λ D P p.
@@ -118,18 +117,18 @@ is-cell a = record { row = not-below (λ h. a 1 0 (inl (refl, (refl, inl h)))); 
 pub cell-checked : (r c b : ℕ) → CellChecked r c b (cellOf r c b)
 cell-checked r c b = record { means = go (ladder (cellRungs r c b)) (ladder-meets (cell-ladder r c b) _ refl) }
   where
-    go : (v : Admission) → Meets (Wrongs (cellRungs r c b)) v → CellMeaning r c b (answerBy Refused (cellVerdictOf (searchOf r c b)) v)
-    go A.Admitted m = let k = is-cell m in result-means r c b k (searchOf r c b) (search-right r c b (k .row) (k .byte))
+    go : (v : Admission) → Meets (Wrongs (cellRungs r c b)) v → CellMeaning r c b (answerBy Refused (cellVerdictOf (testOf (multiplesOf r) c b)) v)
+    go A.Admitted m = let k = is-cell m in result-means r c b k (testOf (multiplesOf r) c b) (test-right k)
     go (A.Refused f) m = m
 
 pub answers : (r c b : ℕ) {v : CellVerdict} → v ≡ cellOf r c b → (v ≡ cellOf r c b) × CellChecked r c b v
 answers r c b e = (e, subst (CellChecked r c b) (sym e) (cell-checked r c b))
 
--- a cell and a byte that are taken: the search tells
-pub cell-known : {r c b : ℕ} → IsCell r c b → cellOf r c b ≡ cellVerdictOf (searchOf r c b)
+-- a cell and a byte that are taken: the test tells
+pub cell-known : {r c b : ℕ} → IsCell r c b → cellOf r c b ≡ cellVerdictOf (testOf (multiplesOf r) c b)
 cell-known {r} {c} {b} k = simp (le-ltb 15 r (k .row), le-ltb 127 c (k .column), le-ltb 4 b (k .byte))
 
-pub verdict-checked : {r c b : ℕ} {h : SearchResult} → IsCell r c b → h ≡ searchOf r c b → (cellVerdictOf h ≡ cellOf r c b) × CellChecked r c b (cellVerdictOf h)
+pub verdict-checked : {r c b : ℕ} {h : Finding} → IsCell r c b → h ≡ testOf (multiplesOf r) c b → (cellVerdictOf h ≡ cellOf r c b) × CellChecked r c b (cellVerdictOf h)
 verdict-checked {r} {c} {b} k e = answers r c b (ap cellVerdictOf e ∙ sym (cell-known k))
 
 pub known-not-refused : {r c b n p : ℕ} {X : Type 0} → IsCell r c b → FirstRefusal (Wrongs (cellRungs r c b)) n p → X

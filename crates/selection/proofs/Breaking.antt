@@ -1,8 +1,8 @@
 -- The points of a cell that break a digit, over natural numbers: W is P + 2^63, b is the digit plus 2.
 use Rattle.laws.proofs.Basics.{_⊎_, ℕ, _+_, _*_, _^_, _≤_, _<_}
 use Rattle.selection.specs.Cell.{span}
-use Rattle.selection.specs.declared.SearchResult.{SearchResult}
-use Rattle.selection.specs.declared.SearchResult.the-variants.{NoWitness, LeastAt}
+use Rattle.selection.specs.Multiples.{Finding}
+use Rattle.selection.specs.Multiples.Finding.{NoWitness, LeastAt}
 
 -- a point of a cell
 pub record BiasedPoint (r c D W : ℕ) : Type 0 where
@@ -21,7 +21,7 @@ pub record High (b D W : ℕ) : Type 0 where
   pub more : 3 * (2 ^ 63 + D * b) + 2 * D < 3 * (W + D * 2)
 
 -- what a hit says of the breaking points B of a cell
-abbrev pub IsLeast : (ℕ → ℕ → Type 0) → SearchResult → Type 0
+abbrev pub IsLeast : (ℕ → ℕ → Type 0) → Finding → Type 0
 IsLeast B NoWitness = (D W : ℕ) → B D W → ⊥
 IsLeast B (LeastAt d w) = B d w × ((D W : ℕ) → B D W → d ≤ D) × ((W : ℕ) → B d W → w ≤ W)
 

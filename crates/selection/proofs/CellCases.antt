@@ -1,11 +1,10 @@
 -- Bench cases 1 to 7: the cells. antt computes the five digits of a cell and the limits of a row.
 use Rattle.laws.proofs.Basics.{_≡_, refl, sym, subst, ap, Bool, true, false, cond, List, [], _∷_, _↔_, inl, inr, ⊎-elim, ℕ, _+_, _*_, _^_, arith, ℤ, pos, negsuc, T, leb, eqb, leb→le, eqb→eq, eqb-refl, lit≤}
 use Rattle.laws.proofs.Tests.{upto, upto-at, alike, alike-eq}
-use Rattle.selection.specs.Refusals.{firstFrom}
 use Rattle.selection.specs.Cell.{Allows, OneOf, AllowedDigits, LeastWitness, IsCell, digit}
 use Rattle.selection.specs.Maker.{Limits}
 use Rattle.selection.specs.Allowed.{allowsOf}
-use Rattle.selection.specs.Computed.{limitsOf, madeOf}
+use Rattle.selection.specs.Computed.{limitsOf}
 use Rattle.selection.proofs.BiasedPoints.{cell-checked}
 use Rattle.selection.proofs.Allowed.{allows-decides}
 use Rattle.selection.proofs.Making.{limits-right}
@@ -91,5 +90,5 @@ unfolding allowsOf digit listed same
 case-6 = (cell 1 87 _ tt tt tt, cell 1 88 _ tt tt tt)
 
 pub case-7 : Limits 0 (40 ∷ 51 ∷ 59 ∷ 68 ∷ 76 ∷ 87 ∷ [])
-unfolding limitsOf firstFrom madeOf allowsOf
+unfolding limitsOf
 case-7 = limits-right 0 (lit≤ tt)

@@ -1,6 +1,6 @@
 -- The first number that passes a test and how many pass: the turns of the code's loops, and what both say of a property that the test decides.
-use Rattle.laws.proofs.Basics.{_≡_, refl, sym, subst, Bool, true, false, cond, _⊎_, inl, inr, ⊎-elim, ℕ, zero, suc, _+_, _-_, _≤_, _<_, add-one, arith, T, ltb, ltb-true, ltb-false}
-use native.Mathlib.Nat.{zero-add, eq-or-lt-of-le, not-le-of-lt}
+use Rattle.laws.proofs.Basics.{_≡_, refl, sym, subst, ap, _∙_, Bool, true, false, cond, _⊎_, inl, inr, ⊎-elim, ℕ, zero, suc, _+_, _*_, _-_, _≤_, _<_, add-one, arith, T, ltb, ltb-true, ltb-false, lt-ltb, le-ltb}
+use native.Mathlib.Nat.{zero-add, add-zero, add-suc, suc-add, eq-or-lt-of-le, not-le-of-lt}
 use Rattle.laws.proofs.Tests.{by-cond}
 use Rattle.selection.specs.Refusals.{First, firstFrom}
 use Rattle.selection.specs.Table.{Tally}
@@ -35,6 +35,50 @@ pub count-most : (f : ℕ → Bool) (m : ℕ) → countBelow f m ≤ m
 unfolding countBelow
 count-most f zero = omega arith
 count-most f (suc m) = by-cond (λ n. n ≤ suc m) (f m) _ _ (λ t. omega (arith, count-most f m)) (λ t. omega (arith, count-most f m))
+
+-- ---- from row to row
+
+-- n numbers from i on
+count-part : (f : ℕ → Bool) (i n : ℕ) → countBelow f (i + n) ≡ countBelow f i + countBelow (λ c. f (i + c)) n
+unfolding countBelow
+count-part f i zero = rw (add-zero i) (sym (add-zero (countBelow f i)))
+count-part f i (suc n) = rw (add-suc i n) (go (f (i + n)) (count-part f i n))
+  where
+    go : (x : Bool) → countBelow f (i + n) ≡ countBelow f i + countBelow (λ c. f (i + c)) n → cond x (countBelow f (i + n) + 1) (countBelow f (i + n)) ≡ countBelow f i + cond x (countBelow (λ c. f (i + c)) n + 1) (countBelow (λ c. f (i + c)) n)
+    go true e = omega arith
+    go false e = e
+
+pub row-counted : (f : ℕ → Bool) (row : ℕ) {count n : ℕ} → count ≡ countBelow f (128 * row) → n ≡ countBelow (λ c. f (128 * row + c)) 128 → count + n ≡ countBelow f (128 * (row + 1))
+row-counted f row e g = let next : 128 * (row + 1) ≡ 128 * row + 128 = omega arith in rw (e, g, next) (sym (count-part f (128 * row) 128))
+
+-- of n numbers from i + k on and m more, the first is among the n, or it is that of the m
+first-part : (f : ℕ → Bool) (i k n m : ℕ) → let j = firstFrom (λ c. f (i + c)) k n in firstFrom f (i + k) (n + m) ≡ cond (ltb j (k + n)) (i + j) (firstFrom f (i + (k + n)) m)
+unfolding firstFrom
+first-part f i k zero m = rw (zero-add m, add-zero k, le-ltb k k (omega arith)) refl
+first-part f i k (suc n) m = rw (suc-add n m) (go (f (i + k)) (first-part f i (k + 1) n m))
+  where
+    later : ℕ
+    later = firstFrom (λ c. f (i + c)) (k + 1) n
+
+    go : (x : Bool) → firstFrom f (i + (k + 1)) (n + m) ≡ cond (ltb later (k + 1 + n)) (i + later) (firstFrom f (i + (k + 1 + n)) m)
+        → cond x (i + k) (firstFrom f (i + k + 1) (n + m)) ≡ cond (ltb (cond x k later) (k + suc n)) (i + cond x k later) (firstFrom f (i + (k + suc n)) m)
+    go true e = rw (lt-ltb k (k + suc n) (omega arith)) refl
+    go false e =
+        let a : i + k + 1 ≡ i + (k + 1) = omega arith in
+        let b : k + suc n ≡ k + 1 + n = omega arith in
+        rw (a, b) e
+
+module _ (f : ℕ → Bool) (row c : ℕ) (h : row < 16) (e : c ≡ firstFrom (λ k. f (128 * row + k)) 0 128) where
+  in-row : firstFrom f (128 * row) (2048 - 128 * row) ≡ cond (ltb c 128) (128 * row + c) (firstFrom f (128 * row + 128) (2048 - (128 * row + 128)))
+  in-row =
+      let s : 2048 - 128 * row ≡ 128 + (2048 - (128 * row + 128)) = omega arith in
+      rw (s, e) (ap (λ (i : ℕ). firstFrom f i (128 + (2048 - (128 * row + 128)))) (sym (add-zero (128 * row))) ∙ first-part f (128 * row) 0 128 (2048 - (128 * row + 128)))
+
+  pub row-first : c < 128 → firstFrom f (128 * row) (2048 - 128 * row) ≡ 128 * row + c
+  row-first l = in-row ∙ (let x = lt-ltb c 128 l in rw x refl)
+
+  pub row-none : 128 ≤ c → firstFrom f (128 * row) (2048 - 128 * row) ≡ firstFrom f (128 * (row + 1)) (2048 - 128 * (row + 1))
+  row-none l = let n : 128 * (row + 1) ≡ 128 * row + 128 = omega arith in rw n (in-row ∙ (let x = le-ltb c 128 l in rw x refl))
 
 -- ---- what they say
 
@@ -81,3 +125,12 @@ pub first-below : {P : ℕ → Type 0} (f : ℕ → Bool) (m : ℕ) → ((k : �
     → let n = firstFrom f 0 m in ((n ≡ m) × ((k : ℕ) → k < m → P k → ⊥)) ⊎ ((n < m) × First P n)
 first-below f m d =
     ⊎-elim (λ x. inl (x .0, λ k h. x .1 k (omega arith) h)) (λ x. inr (x .0, record { here = x .1; before = λ k h. x .2 k (omega arith) h })) (first-of f 0 m m (zero-add m) d)
+
+-- where none is counted, none is the first
+count-some : (f : ℕ → Bool) (j n : ℕ) → j < n → f j ≡ true → 0 < countBelow f n
+unfolding countBelow
+count-some f j zero h e = omega arith
+count-some f j (suc n) h e = ⊎-elim (λ q. let x : f n ≡ true = subst (λ (k : ℕ). f k ≡ true) q e in rw x (omega arith)) (λ l. by-cond (λ k. 0 < k) (f n) _ _ (λ t. omega arith) (λ t. count-some f j n l e)) (eq-or-lt-of-le (omega arith))
+
+pub none-counted : (f : ℕ → Bool) (n : ℕ) → countBelow f n ≡ 0 → firstFrom f 0 n ≡ n
+none-counted f n z = ⊎-elim (λ x. x .0) (λ x. absurd (omega (arith, count-some f (firstFrom f 0 n) n (x .0) (x .1 .here)))) (first-below {P = λ k. f k ≡ true} f n (λ k h. record { yes = λ e. e; no = λ e q. subst T (sym q ∙ e) tt }))

@@ -1,8 +1,12 @@
+pub mod Rows
+pub mod Search
 pub mod Breaking
 pub mod TooLow
 pub mod TooHigh
 pub mod Searching
+pub mod Tested
 pub mod BiasedPoints
+pub mod CellTests
 pub mod Columns
 pub mod Counts
 pub mod Tables

@@ -1,7 +1,6 @@
 -- The made digits and their limits, at all cells by one test that antt computes.
 use Rattle.laws.proofs.Basics.{_≡_, refl, sym, subst, Bool, true, false, cond, List, _⊎_, inl, inr, ℕ, _+_, _≤_, _<_, arith, T, ltb, leb, eqb, eqb→eq, ltb→lt, leb→le, length, getD, eqb-true}
 use Rattle.laws.proofs.Tests.{both, both-left, both-right, upto, upto-at, is-true}
-use Rattle.selection.specs.Refusals.{firstFrom}
 use Rattle.selection.specs.Cell.{Allows, IsCell, digit}
 use Rattle.selection.specs.Maker.{Made, Limits, distance, stepAt}
 use Rattle.selection.specs.Allowed.{allowsOf}
@@ -53,7 +52,7 @@ rises r l =
     both (upto (λ i. ltb (getD l i 0) (getD l (i + 1) 0)) 5) (both (leb (getD l 5 0) 127) (upto (λ c. eqb (stepAt l c) (madeOf r c)) 128))
 
 all-rise : T (upto (λ r. rises r (limitsOf r)) 16)
-unfolding rises limitsOf firstFrom madeOf allowsOf
+unfolding rises limitsOf madeOf allowsOf
 all-rise = tt
 
 limits-of : (r : ℕ) (l : List ℕ) → r ≤ 15 → length l ≡ 6 → T (rises r l) → Limits r l

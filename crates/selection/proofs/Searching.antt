@@ -1,8 +1,8 @@
 -- The search finds the least point of a cell that breaks a digit.
 use Rattle.laws.proofs.Basics.{_≡_, refl, Bool, true, false, cond, inl, inr, ⊎-elim, ℕ, _≤_, arith, ltb, ltb-true, ltb-false}
-use Rattle.selection.specs.Search.{tooLow, tooHigh, lesserOf, searchOf}
-use Rattle.selection.specs.declared.SearchResult.{SearchResult}
-use Rattle.selection.specs.declared.SearchResult.the-variants.{NoWitness, LeastAt}
+use Rattle.selection.specs.Multiples.{Finding}
+use Rattle.selection.specs.Multiples.Finding.{NoWitness, LeastAt}
+use Rattle.selection.proofs.Search.{tooLow, tooHigh, lesserOf, searchOf}
 use Rattle.selection.proofs.Breaking.{LowPoint, HighPoint, Breaks, IsLeast}
 use Rattle.selection.proofs.TooLow.{low-start, low-least}
 use Rattle.selection.proofs.TooHigh.{high-start, high-least}
@@ -11,7 +11,7 @@ by-side : {r c b D W : ℕ} {X : Type 0} → (LowPoint r c b D W → X) → (Hig
 by-side f g k = ⊎-elim (λ l. f (record { point = k .point; low = l })) (λ h. g (record { point = k .point; high = h })) (k .side)
 
 -- of two searches, the earlier hit
-join : (r c b : ℕ) (g h : SearchResult) → IsLeast (LowPoint r c b) g → IsLeast (HighPoint r c b) h → IsLeast (Breaks r c b) (lesserOf g h)
+join : (r c b : ℕ) (g h : Finding) → IsLeast (LowPoint r c b) g → IsLeast (HighPoint r c b) h → IsLeast (Breaks r c b) (lesserOf g h)
 join r c b NoWitness NoWitness p q = λ D W. by-side (p D W) (q D W)
 join r c b NoWitness (LeastAt d w) p q = (
   record { point = q .0 .point; side = inr (q .0 .high) },

@@ -1,10 +1,11 @@
 -- The search from above finds the least point of a cell that is too high for a digit.
-use Rattle.laws.proofs.Basics.{_≡_, refl, Bool, true, false, cond, ℕ, _+_, _*_, _-_, _/_, _^_, _≤_, _<_, max, arith, ltb, leb, ltb-true, ltb-false, leb-true, leb-false}
+use Rattle.laws.proofs.Basics.{_≡_, refl, Bool, true, false, cond, ℕ, _+_, _*_, _-_, _^_, _≤_, _<_, arith, ltb, leb, ltb-true, ltb-false, leb-true, leb-false}
 use native.Mathlib.Nat.{not-le-of-lt}
 use Rattle.laws.proofs.Tests.{up-to-four}
 use Rattle.selection.specs.Cell.{span}
-use Rattle.selection.specs.Search.{leastDivisor, reach, tooHighAt}
-use Rattle.selection.specs.declared.SearchResult.the-variants.{NoWitness, LeastAt}
+use Rattle.selection.specs.Multiples.{highDivisor, reach, highAt}
+use Rattle.selection.specs.Multiples.Finding.{NoWitness, LeastAt}
+use Rattle.selection.proofs.Search.{tooHighAt}
 use Rattle.selection.proofs.Breaking.{BiasedPoint, High, HighPoint, IsLeast}
 
 -- d is the least divisor at which a remainder may be too high. For b below 2 the cell's right end is too high at d
@@ -15,18 +16,14 @@ pub record HighStart (r c b d : ℕ) : Type 0 where
   least : (D W : ℕ) → BiasedPoint r c D W → High b D W → d ≤ D
 
 abbrev pub highStart : ℕ → ℕ → ℕ → ℕ
-highStart r c b = leastDivisor ((16 + r) * 2 ^ 56) (3 * (c * 2 ^ 57 - 2 ^ 63)) (3 * (2 ^ 63 - (c * 2 ^ 57 + span))) b
+highStart r c b = highDivisor ((16 + r) * 2 ^ 56) c b
 
 pub high-start : (r c b : ℕ) → b ≤ 4 → HighStart r c b (highStart r c b)
 high-start r c = up-to-four (λ b. HighStart r c b (highStart r c b)) (omega arith) (omega arith) (omega arith) (omega arith) (omega arith)
 
 module _ (r c : ℕ) (hr : r ≤ 15) where
-  -- the least remainder that is too high for b
-  abbrev over : ℕ → ℕ → ℕ
-  over b d = max (c * 2 ^ 57) (2 ^ 63 - 2 * d + b * d + 2 * d / 3 + 1)
-
   abbrev HighMiss : ℕ → Type 0
-  HighMiss b = (d w : ℕ) → HighStart r c b d → w ≡ over b d → (D W : ℕ) → HighPoint r c b D W → d ≤ D → w ≤ c * 2 ^ 57 + span × w ≤ 2 ^ 63 + reach d
+  HighMiss b = (d w : ℕ) → HighStart r c b d → w ≡ highAt d c b → (D W : ℕ) → HighPoint r c b D W → d ≤ D → w ≤ c * 2 ^ 57 + span × w ≤ 2 ^ 63 + reach d
 
   high-miss : (b : ℕ) → b ≤ 4 → HighMiss b
   high-miss =
@@ -38,7 +35,7 @@ module _ (r c : ℕ) (hr : r ≤ 15) where
       (λ d w s e D W p m. omega arith)
 
   abbrev HighHit : ℕ → Type 0
-  HighHit b = (d w : ℕ) → HighStart r c b d → d < (17 + r) * 2 ^ 56 → w ≡ over b d → w ≤ c * 2 ^ 57 + span → w ≤ 2 ^ 63 + reach d → HighPoint r c b d w × ((W : ℕ) → HighPoint r c b d W → w ≤ W)
+  HighHit b = (d w : ℕ) → HighStart r c b d → d < (17 + r) * 2 ^ 56 → w ≡ highAt d c b → w ≤ c * 2 ^ 57 + span → w ≤ 2 ^ 63 + reach d → HighPoint r c b d w × ((W : ℕ) → HighPoint r c b d W → w ≤ W)
 
   high-hit : (b : ℕ) → b ≤ 4 → HighHit b
   high-hit =
@@ -49,11 +46,11 @@ module _ (r c : ℕ) (hr : r ≤ 15) where
       (λ d w s h e k l. omega arith)
       (λ d w s h e k l. omega arith)
 
-  pub high-least : (b d : ℕ) → b ≤ 4 → HighStart r c b d → IsLeast (HighPoint r c b) (tooHighAt d ((17 + r) * 2 ^ 56) (c * 2 ^ 57) (c * 2 ^ 57 + span) b)
+  pub high-least : (b d : ℕ) → b ≤ 4 → HighStart r c b d → IsLeast (HighPoint r c b) (tooHighAt r c b d)
   high-least b d hb s = go (ltb d ((17 + r) * 2 ^ 56)) refl (leb w (c * 2 ^ 57 + span)) refl (leb w (2 ^ 63 + reach d)) refl
     where
       w : ℕ
-      w = over b d
+      w = highAt d c b
 
       miss : (D W : ℕ) → HighPoint r c b D W → w ≤ c * 2 ^ 57 + span × w ≤ 2 ^ 63 + reach d
       miss D W p = high-miss b hb d w s refl D W p (s .least D W (p .point) (p .high))

@@ -3,14 +3,13 @@ use Rattle.laws.proofs.Basics.{_≡_, refl, sym, subst, List, [], _∷_, ℕ, _
 use Rattle.selection.specs.Answer.{refusal, answerBy, cellNumbers, cellZeros}
 use Rattle.selection.specs.Refusals.{Wrongs, ladder, Refuses, below, eitherOf, numberAt}
 use Rattle.selection.specs.Cell.{cellRungs, CellChecked, CellMeaning}
-use Rattle.selection.specs.Search.{searchOf, cellVerdictOf}
+use Rattle.selection.specs.Multiples.{Finding, multiplesOf, testOf, cellVerdictOf}
+use Rattle.selection.specs.Multiples.Finding.{NoWitness, LeastAt}
 use Rattle.selection.specs.Computed.{cellOf}
 use Rattle.selection.specs.Table.{Table, Checked, ReportMeaning}
 use Rattle.selection.specs.declared.Refusal.{Refusal}
 use Rattle.selection.specs.declared.Admission.{Admission}
 use Rattle.selection.specs.declared.Admission.the-variants as A
-use Rattle.selection.specs.declared.SearchResult.{SearchResult}
-use Rattle.selection.specs.declared.SearchResult.the-variants.{NoWitness, LeastAt}
 use Rattle.selection.specs.declared.CellVerdict.{CellVerdict}
 use Rattle.selection.specs.declared.CellVerdict.the-variants as C
 use Rattle.selection.specs.declared.table.BadCell.{BadCell}
@@ -42,21 +41,21 @@ never-refused hr hc hb j e = known-not-refused (record { row = hr; column = hc; 
 module _ (r c b : ℕ) where
   pub cell-refuses : Refuses (Wrongs (cellRungs r c b)) (λ x. x .refusal) cellZeros (cellNumbers (cellOf r c b))
   cell-refuses = subst (Refuses (Wrongs (cellRungs r c b)) (λ x. x .refusal) cellZeros) (sym (numbers (ladder (cellRungs r c b))))
-      (refuses (cell-ladder r c b) (λ x. x .refusal) cellZeros (cellNumbers (cellVerdictOf (searchOf r c b))) (none (searchOf r c b)) (λ f. refl) refl)
+      (refuses (cell-ladder r c b) (λ x. x .refusal) cellZeros (cellNumbers (cellVerdictOf (testOf (multiplesOf r) c b))) (none (testOf (multiplesOf r) c b)) (λ f. refl) refl)
     where
-      numbers : (v : Admission) → cellNumbers (answerBy C.Refused (cellVerdictOf (searchOf r c b)) v) ≡ answerBy cellZeros (cellNumbers (cellVerdictOf (searchOf r c b))) v
+      numbers : (v : Admission) → cellNumbers (answerBy C.Refused (cellVerdictOf (testOf (multiplesOf r) c b)) v) ≡ answerBy cellZeros (cellNumbers (cellVerdictOf (testOf (multiplesOf r) c b))) v
       numbers A.Admitted = refl
       numbers (A.Refused f) = refl
 
-      none : (h : SearchResult) → cellNumbers (cellVerdictOf h) .refusal ≡ refusal 0 0
+      none : (h : Finding) → cellNumbers (cellVerdictOf h) .refusal ≡ refusal 0 0
       none NoWitness = refl
       none (LeastAt d w) = refl
 
   -- and these are its two refusals in numbers
   pub cell-row-column : (15 < r) ⊎ (127 < c) → cellNumbers (cellOf r c b) ≡ cellZeros (refusal 1 0)
-  cell-row-column h = ap (λ (v : Admission). cellNumbers (answerBy C.Refused (cellVerdictOf (searchOf r c b)) v)) (rung-holds 1 0 (eitherOf (below 15 r) (below 127 c)) (numberAt 9 (128 * r + c) (below 4 b) ∷ []) h)
+  cell-row-column h = ap (λ (v : Admission). cellNumbers (answerBy C.Refused (cellVerdictOf (testOf (multiplesOf r) c b)) v)) (rung-holds 1 0 (eitherOf (below 15 r) (below 127 c)) (numberAt 9 (128 * r + c) (below 4 b) ∷ []) h)
 
   pub cell-byte : r ≤ 15 → c ≤ 127 → 4 < b → cellNumbers (cellOf r c b) ≡ cellZeros (refusal 9 (128 * r + c))
   cell-byte hr hc h =
-      ap (λ (v : Admission). cellNumbers (answerBy C.Refused (cellVerdictOf (searchOf r c b)) v))
+      ap (λ (v : Admission). cellNumbers (answerBy C.Refused (cellVerdictOf (testOf (multiplesOf r) c b)) v))
       (rung-past 1 0 (eitherOf (below 15 r) (below 127 c)) (numberAt 9 (128 * r + c) (below 4 b) ∷ []) (⊎-elim (λ x. omega arith) (λ x. omega arith)) ∙ rung-holds 9 (128 * r + c) (below 4 b) [] h)

@@ -3,8 +3,8 @@
 -- `limited-one`, `made-one`, `makes-one`, `checked-one` that there is no other.
 use mathlib.Core.Bool.{Bool, cond}
 use mathlib.Core.List.{List, [], _∷_, _++_}
-use Prim.Native.Nat.{ℕ, zero, suc, _+_, _-_, _/_, _%_}
-use lib.Dec.{ltb, eqb}
+use Prim.Native.Nat.{ℕ, zero, suc, _+_, _/_, _%_}
+use lib.Dec.{ltb}
 use lib.ListN.{length, getD, drop}
 use Rattle.laws.specs.Lists.{listFrom}
 use Rattle.selection.specs.Answer.{refusal, answerBy}
@@ -13,16 +13,17 @@ use Rattle.selection.specs.Allowed.{allowsOf, isBad}
 use Rattle.selection.specs.Table.{formRungs}
 use Rattle.selection.specs.Maker.{limitsRungs, limitsZeros, makeRungs}
 use Rattle.selection.specs.Refusals.{firstFrom, ladder}
-use Rattle.selection.specs.Search.{searchOf, cellVerdictOf}
+use Rattle.selection.specs.Multiples.{multiplesOf, testOf, cellVerdictOf}
 use Rattle.selection.specs.declared.Refusal.{Refusal}
 use Rattle.selection.specs.declared.CellVerdict.{CellVerdict}
 use Rattle.selection.specs.declared.CellVerdict.the-variants.{Allowed, Disallowed, Refused}
 use Rattle.selection.specs.declared.table.Outcome.the-variants as O
 use Rattle.selection.specs.declared.table.Report.{Report}
 use Rattle.selection.specs.declared.maker.RowLimits.{RowLimits}
+use Rattle.selection.specs.declared.multiples.RowMultiples.{RowMultiples}
 
 abbrev pub cellOf : ℕ → ℕ → ℕ → CellVerdict
-cellOf r c b = answerBy Refused (cellVerdictOf (searchOf r c b)) (ladder (cellRungs r c b))
+cellOf r c b = answerBy Refused (cellVerdictOf (testOf (multiplesOf r) c b)) (ladder (cellRungs r c b))
 
 -- the first allowed of 0, -1, 1, -2 and 2, as a byte
 unfoldable pub madeOf : ℕ → ℕ → ℕ
@@ -45,19 +46,13 @@ madeBuffer s = answerBy (λ f. s) (madeTable ++ drop 2048 s) (ladder (makeRungs 
 abbrev pub makeOf : List ℕ → Refusal
 makeOf s = answerBy (λ f. f) (refusal 0 0) (ladder (makeRungs (length s)))
 
--- the first column from c on whose made byte is b; else 128
-abbrev pub beginsOf : ℕ → ℕ → ℕ → ℕ
-beginsOf r c b = firstFrom (λ k. eqb (madeOf r k) b) c (128 - c)
+-- the columns at which the made digits of a row change: -2 begins past the last column without a point, -1 and 0 past the last in which they are too low, 1 and 2 past
+-- the last in which 0 and 1 are not too high, and 0 again past the last column with a point
+abbrev pub limitsBy : RowMultiples → List ℕ
+limitsBy m = (m .minus8 + 1) ∷ (m .minus5 + 1) ∷ (m .minus2 + 1) ∷ (m .plus2 + 1) ∷ (m .plus5 + 1) ∷ (m .plus8 + 1) ∷ []
 
 unfoldable pub limitsOf : ℕ → List ℕ
-limitsOf r =
-    let a = beginsOf r 0 0 in
-    let b = beginsOf r a 1 in
-    let c = beginsOf r b 2 in
-    let d = beginsOf r c 3 in
-    let e = beginsOf r d 4 in
-    let f = beginsOf r e 2 in
-    a ∷ b ∷ c ∷ d ∷ e ∷ f ∷ []
+limitsOf r = limitsBy (multiplesOf r)
 
 abbrev pub rowLimitsOf : ℕ → RowLimits
 rowLimitsOf r = answerBy limitsZeros (record { refusal = refusal 0 0; limits = limitsOf r }) (ladder (limitsRungs r))

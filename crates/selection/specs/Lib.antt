@@ -1,11 +1,11 @@
 pub mod Word
 pub mod Cell
+pub mod Multiples
 pub mod Allowed
 pub mod Table
 pub mod Maker
 pub mod Answer
 pub mod Refusals
-pub mod Search
 pub mod Computed
 pub mod WordBytes
 pub mod Demand

@@ -3,57 +3,25 @@ ghost use mathlib.Core.Path.{_≡_};
 ghost use mathlib.Core.List.{[]};
 ghost use Prim.Native.Nat.{ℕ, _≤_, _<_};
 ghost use lib.ListN.{getD};
-ghost use Rattle.selection.specs.Computed.{madeOf, beginsOf, limitsOf, rowLimitsOf, makeOf, madeBuffer};
+ghost use Rattle.selection.specs.Computed.{limitsOf, rowLimitsOf, makeOf, madeBuffer};
 ghost use Rattle.selection.specs.Maker.{Limits, Limited, stepAt, Makes};
 use crate::Refusal;
-
-// The byte of the allowed digit nearest zero.
-fn made(row: u64, column: u64) -> u8
-    requires { ⌜ (row ≤ 15) × (column ≤ 127) ⌝ }
-    ensures { λ r. ⌜ r ≡ madeOf row column ⌝ }
-{
-    if crate::bounds::allowed(row, column, 2) {
-        return 2; // 0
-    }
-    if crate::bounds::allowed(row, column, 1) {
-        return 1; // -1
-    }
-    if crate::bounds::allowed(row, column, 3) {
-        return 3; // 1
-    }
-    if crate::bounds::allowed(row, column, 0) {
-        return 0; // -2
-    }
-    4
-}
-
-// The first column from `from` on whose made byte is `byte`, or 128.
-fn begins(row: u64, from: u8, byte: u8) -> u8
-    requires { ⌜ (row ≤ 15) × (from ≤ 128) ⌝ }
-    ensures { λ r. ⌜ (r ≡ beginsOf row from byte) × (r ≤ 128) ⌝ }
-{
-    let mut c = from;
-    while c < 128 {
-        if made(row, c as u64) == byte {
-            return c;
-        }
-        c += 1;
-    }
-    c
-}
+use crate::multiples::row_multiples;
 
 // The six columns at which the made digits of a row change.
 fn limits_of(row: u64) -> [u8; 6]
     requires { ⌜ row ≤ 15 ⌝ }
     ensures { λ r. ⌜ (r ≡ limitsOf row) × Limits row r ⌝ }
 {
-    let a = begins(row, 0, 0);
-    let b = begins(row, a, 1);
-    let c = begins(row, b, 2);
-    let d = begins(row, c, 3);
-    let e = begins(row, d, 4);
-    let f = begins(row, e, 2);
-    [a, b, c, d, e, f]
+    let m = row_multiples(row);
+    [
+        m.minus8 + 1,
+        m.minus5 + 1,
+        m.minus2 + 1,
+        m.plus2 + 1,
+        m.plus5 + 1,
+        m.plus8 + 1,
+    ]
 }
 
 // A row's limits, or refusal 1 and zeros.

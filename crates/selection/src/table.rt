@@ -1,17 +1,22 @@
 // The check of a table, and where its rows begin.
 ghost use mathlib.Core.Path.{_≡_};
+ghost use mathlib.Core.Bool.{true};
 ghost use Prim.Native.Nat.{_+_, _*_, _/_, _%_, _≤_, _<_};
 ghost use lib.ListN.{length, getD};
 ghost use Rattle.selection.specs.Refusals.{firstFrom, ladder};
 ghost use Rattle.selection.specs.Answer.{refusal, admission, firstOf};
 ghost use Rattle.selection.specs.Cell as Cell;
-ghost use Rattle.selection.specs.Allowed.{aboveFour, isBad};
+ghost use Rattle.selection.specs.Allowed.{aboveFour, isBad, isBadIn};
+ghost use Rattle.selection.specs.Multiples.{RowOf};
 ghost use Rattle.selection.specs.Table.{tableRungs, Table, Checked};
 ghost use Rattle.selection.specs.Computed.{cellOf, countBelow, refusedReport, badReport, reportOf};
 use crate::Admission;
 use crate::CellVerdict;
 use crate::Refusal;
 use crate::Witness;
+use crate::multiples::RowMultiples;
+use crate::multiples::allows;
+use crate::multiples::row_multiples;
 
 // A bad cell and the witness against its digit.
 pub struct BadCell {
@@ -38,11 +43,30 @@ pub fn row_start(divisor: u64) -> usize
     128 * ((divisor >> 56) % 16) as usize
 }
 
+// Whether no byte is above 4: a loop without an exit, for bytes side by side.
+fn none_above(table: &[u8]) -> bool
+    requires { ⌜ length (now table) ≡ 2048 ⌝ }
+    ensures { λ r. ⌜ (r ≡ true → firstFrom (aboveFour (now (table .entry))) 0 2048 ≡ 2048) ⌝ }
+{
+    let mut none = true;
+    let mut k: usize = 0;
+    while k < 2048 {
+        if 4 < table[k] {
+            none = false;
+        }
+        k += 1;
+    }
+    none
+}
+
 // The first index of a byte above 4, or 2048.
 fn first_above(table: &[u8]) -> usize
     requires { ⌜ length (now table) ≡ 2048 ⌝ }
     ensures { λ r. ⌜ r ≡ firstFrom (aboveFour (now (table .entry))) 0 2048 ⌝ }
 {
+    if none_above(table) {
+        return 2048;
+    }
     let mut i = 0;
     while i < 2048 {
         if 4 < table[i] {
@@ -53,25 +77,61 @@ fn first_above(table: &[u8]) -> usize
     2048
 }
 
-// Whether the byte at index k holds a digit that isn't allowed.
-fn is_bad(table: &[u8], k: usize) -> bool
-    requires { ⌜ Table (now table) × (k < 2048) ⌝ }
-    ensures { λ r. ⌜ r ≡ isBad (now (table .entry)) k ⌝ }
+// Whether the byte at a column of a row holds a digit that isn't allowed: the test of the cell up to its witness, which the report alone wants.
+fn is_bad(table: &[u8], m: RowMultiples, column: usize) -> bool
+    requires { ⌜ Table (now table) × RowOf m × (column ≤ 127) ⌝ }
+    ensures { λ r. ⌜ r ≡ isBadIn (now (table .entry)) (m .row) column ⌝ }
 {
-    !crate::bounds::allowed((k / 128) as u64, (k % 128) as u64, table[k])
+    !allows(m, column as u8, table[128 * (m.row as usize) + column])
 }
 
-// The index of the first bad cell, or 2048.
+// The number of bad cells of a row: a loop without an exit, for cells side by side.
+fn count_row(table: &[u8], m: RowMultiples) -> u8
+    requires { ⌜ Table (now table) × RowOf m ⌝ }
+    ensures { λ r. ⌜ r ≡ countBelow (isBadIn (now (table .entry)) (m .row)) 128 ⌝ }
+{
+    let mut count: u8 = 0;
+    let mut c: usize = 0;
+    while c < 128 {
+        if is_bad(table, m, c) {
+            count += 1;
+        }
+        c += 1;
+    }
+    count
+}
+
+// The column of the first bad cell of a row, or 128.
+fn first_in_row(table: &[u8], m: RowMultiples) -> usize
+    requires { ⌜ Table (now table) × RowOf m ⌝ }
+    ensures { λ r. ⌜ r ≡ firstFrom (isBadIn (now (table .entry)) (m .row)) 0 128 ⌝ }
+{
+    if count_row(table, m) == 0 {
+        return 128;
+    }
+    let mut column: usize = 0;
+    while column < 128 {
+        if is_bad(table, m, column) {
+            return column;
+        }
+        column += 1;
+    }
+    128
+}
+
+// The index of the first bad cell, or 2048. A row's multiples are worked out before its columns start.
 fn first_bad(table: &[u8]) -> usize
     requires { ⌜ Table (now table) ⌝ }
     ensures { λ r. ⌜ r ≡ firstFrom (isBad (now (table .entry))) 0 2048 ⌝ }
 {
-    let mut k: usize = 0;
-    while k < 2048 {
-        if is_bad(table, k) {
-            return k;
+    let mut row: usize = 0;
+    while row < 16 {
+        let m = row_multiples(row as u64);
+        let column = first_in_row(table, m);
+        if column < 128 {
+            return 128 * row + column;
         }
-        k += 1;
+        row += 1;
     }
     2048
 }
@@ -82,12 +142,10 @@ fn count_bad(table: &[u8]) -> u64
     ensures { λ r. ⌜ r ≡ countBelow (isBad (now (table .entry))) 2048 ⌝ }
 {
     let mut count: u64 = 0;
-    let mut i: usize = 0;
-    while i < 2048 {
-        if is_bad(table, i) {
-            count += 1;
-        }
-        i += 1;
+    let mut row: usize = 0;
+    while row < 16 {
+        count += count_row(table, row_multiples(row as u64)) as u64;
+        row += 1;
     }
     count
 }

@@ -13,15 +13,18 @@ abbrev μ-loop : tie.MeasureT-loop
 μ-loop table i₀ i = 2048 - i
 
 returns : tie.Need-returns Inv-loop μ-loop
-returns c = sym (c .before .before .before .loop .inv .1 ∙ first-here _ _ 2048 (omega arith) (lt-ltb _ _ (c .if1 .taken)))
-
-loop-again : tie.Need-loop-again Inv-loop μ-loop
-loop-again c = (omega arith, c .before .before .before .loop .inv .1 ∙ first-on _ _ 2048 (omega arith) (le-ltb _ _ (c .if1 .left)))
+returns c = sym (c .before .none-above .ensures (c .if1 .taken))
 
 returns-2 : tie.Need-returns-2 Inv-loop μ-loop
-returns-2 c = let e : c .before .loop .i ≡ 2048 = omega arith in sym (c .before .loop .inv .1 ∙ first-end _ _ 2048 (c .loop-test .left) ∙ e)
+returns-2 c = sym (c .before .before .before .loop .inv .1 ∙ first-here _ _ 2048 (omega arith) (lt-ltb _ _ (c .if2 .taken)))
+
+loop-again : tie.Need-loop-again Inv-loop μ-loop
+loop-again c = (omega arith, c .before .before .before .loop .inv .1 ∙ first-on _ _ 2048 (omega arith) (le-ltb _ _ (c .if2 .left)))
+
+returns-3 : tie.Need-returns-3 Inv-loop μ-loop
+returns-3 c = let e : c .before .loop .i ≡ 2048 = omega arith in sym (c .before .loop .inv .1 ∙ first-end _ _ 2048 (c .loop-test .left) ∙ e)
 
 pub first-above-spec : {M : Type 1} → statement M
 first-above-spec =
-    tie.close (tie.spec Inv-loop μ-loop (λ c. search tests) (λ c. omega arith) returns
-    (λ c. omega arith) (λ c. omega arith) loop-again returns-2)
+    tie.close (tie.spec Inv-loop μ-loop (λ c κs. c .before .pre) returns (λ c. search tests)
+    (λ c. omega arith) returns-2 (λ c. omega arith) (λ c. omega arith) loop-again returns-3)

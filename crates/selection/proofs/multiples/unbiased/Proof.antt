@@ -4,8 +4,8 @@ use mir.Facts.{toZ-ofZ, toZ-pos}
 use mir.Syntax.{w64}
 use mir.Val.{toZ, SFits}
 use Rattle.laws.proofs.Tests.{by-cond}
-use Rattle.selection.proofs.unbiased.Statement.{statement}
-use Rattle.selection.proofs.unbiased.Tie as tie
+use Rattle.selection.proofs.multiples.unbiased.Statement.{statement}
+use Rattle.selection.proofs.multiples.unbiased.Tie as tie
 
 -- -2^63 + w
 moved : (w : ℕ) → w < 2 ^ 63 → negsuc 9223372036854775807 +ℤ toZ w64 w ≡ subℕ w (2 ^ 63)

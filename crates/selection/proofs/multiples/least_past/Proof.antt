@@ -1,7 +1,7 @@
 use borrow.Author.Needs.{needs}
 use Rattle.laws.proofs.Tests.{tests}
-use Rattle.selection.proofs.least_past.Statement.{statement}
-use Rattle.selection.proofs.least_past.Tie as tie
+use Rattle.selection.proofs.multiples.least_past.Statement.{statement}
+use Rattle.selection.proofs.multiples.least_past.Tie as tie
 
 pub least-past-spec : {M : Type 1} → statement M
 least-past-spec =

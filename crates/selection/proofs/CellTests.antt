@@ -1,0 +1,65 @@
+-- The test of a cell, given its row's multiples, gives the verdict and witness of the single cell.
+use Rattle.laws.proofs.Basics.{_≡_, refl, sym, subst, ap, _∙_, Bool, true, false, cond, not, _||_, ℕ, _+_, _^_, _≤_, _<_, arith, T, ltb, lt-ltb, le-ltb}
+use Rattle.selection.specs.Cell.{IsCell}
+use Rattle.selection.specs.Multiples.{RowOf, past, allowsBy, leastByte, greatestByte, hasPoint, lowDivisor, highDivisor, lowAt, highAt, foundAt, testOf, witnessOf, cellVerdictOf}
+use Rattle.selection.specs.Multiples.Finding.{NoWitness, LeastAt}
+use Rattle.selection.specs.Computed.{cellOf}
+use Rattle.selection.specs.declared.CellVerdict.the-variants.{Allowed, Disallowed}
+use Rattle.selection.specs.declared.multiples.RowMultiples.{RowMultiples}
+use Rattle.selection.proofs.Rows.{point-columns}
+use Rattle.selection.proofs.Breaking.{Breaks, IsLeast}
+use Rattle.selection.proofs.Tested.{test-right}
+use Rattle.selection.proofs.BiasedPoints.{cell-known}
+
+-- ---- what the code of `allows` asks: the sum of the two sides is 0, or it is not
+
+either : (x y p : Bool) → let n : ℕ = cond x 1 0 + cond y 1 0 in ((n ≡ 0) → true ≡ cond (x || y) p true) × (((n ≡ 0) → ⊥) → p ≡ cond (x || y) p true)
+either true true p = ((λ e. absurd (omega (arith, e))), (λ n. refl))
+either true false p = ((λ e. absurd (omega (arith, e))), (λ n. refl))
+either false true p = ((λ e. absurd (omega (arith, e))), (λ n. refl))
+either false false p = ((λ e. refl), (λ n. absurd (n refl)))
+
+pub by-sides : (m : RowMultiples) (c b : ℕ) {x y : ℕ} → x ≡ past (greatestByte m c) b → y ≡ past b (leastByte m c) → ((x + y ≡ 0) → true ≡ allowsBy m c b) × (((x + y ≡ 0) → ⊥) → not (hasPoint m c) ≡ allowsBy m c b)
+by-sides m c b low high = rw (low, high) (either (ltb (greatestByte m c) b) (ltb b (leastByte m c)) (not (hasPoint m c)))
+
+-- ---- what the code of `test_cell` asks
+
+-- what is found, by the two tests
+module _ (m : RowMultiples) (c b : ℕ) where
+  not-found : allowsBy m c b ≡ true → testOf m c b ≡ NoWitness
+  not-found e = rw e refl
+
+  found : allowsBy m c b ≡ false → (x : Bool) → ltb (greatestByte m c) b ≡ x → testOf m c b ≡ foundAt (m .smallest) c b x
+  found e x f = rw (e, f) refl
+
+module _ {m : RowMultiples} {c b : ℕ} (o : RowOf m) (hc : c ≤ 127) (hb : b ≤ 4) where
+  cell : IsCell (m .row) c b
+  cell = record { row = o .small; column = hc; byte = hb }
+
+  -- at every column and byte from 0 to 4 the test by a row's multiples is the single cell's answer
+  pub row-tested : cellVerdictOf (testOf m c b) ≡ cellOf (m .row) c b
+  row-tested = ap (λ (n : RowMultiples). cellVerdictOf (testOf n c b)) (o .is) ∙ sym (cell-known cell)
+
+  -- a divisor that is found is the row's
+  found-is : {d w : ℕ} → testOf m c b ≡ LeastAt d w → (d ≤ 2 ^ 61) × (Disallowed (witnessOf d w) ≡ cellOf (m .row) c b)
+  found-is e =
+      let s = subst (IsLeast (Breaks (m .row) c b)) (sym (ap (λ (n : RowMultiples). testOf n c b) (o .is)) ∙ e) (test-right cell) in
+      (omega (arith, s .0 .point .below, o .small), sym (ap cellVerdictOf e) ∙ row-tested)
+
+  pub is-allowed : allowsBy m c b ≡ true → Allowed ≡ cellOf (m .row) c b
+  is-allowed e = sym (ap cellVerdictOf (not-found m c b e)) ∙ row-tested
+
+  pub low-found : allowsBy m c b ≡ false → greatestByte m c < b → let d = lowDivisor (m .smallest) c b in (d ≤ 2 ^ 61) × (Disallowed (witnessOf d (lowAt d c)) ≡ cellOf (m .row) c b)
+  low-found e h = found-is (found m c b e true (lt-ltb _ _ h))
+
+  pub high-found : allowsBy m c b ≡ false → b ≤ greatestByte m c → let d = highDivisor (m .smallest) c b in (d ≤ 2 ^ 61) × (Disallowed (witnessOf d (highAt d c b)) ≡ cellOf (m .row) c b)
+  high-found e h = found-is (found m c b e false (le-ltb _ _ h))
+
+  -- and its column is not far from 0
+  pub found-columns : allowsBy m c b ≡ false → (20 ≤ c) × (c ≤ 106)
+  found-columns e = go (ltb (greatestByte m c) b || ltb b (leastByte m c)) (hasPoint m c) refl e
+    where
+      go : (x y : Bool) → hasPoint m c ≡ y → cond x (not y) true ≡ false → (20 ≤ c) × (c ≤ 106)
+      go true true p f = point-columns o p
+      go true false p f = absurd (subst T f tt)
+      go false y p f = absurd (subst T f tt)

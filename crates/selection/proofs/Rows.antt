@@ -1,0 +1,61 @@
+-- A row's multiples are columns.
+use Rattle.laws.proofs.Basics.{_≡_, refl, sym, subst, Bool, true, false, cond, ℕ, _+_, _*_, _-_, _^_, _≤_, arith, T, ltb, eqb, ltb-true, ltb-false}
+use Rattle.selection.specs.Multiples.{Bounds, RowOf, multiplesOf, hasPoint}
+use Rattle.selection.specs.declared.multiples.RowMultiples.{RowMultiples}
+
+-- each column is the last on the lower side of its multiple
+pub bounds : (r : ℕ) → r ≤ 15 → Bounds (multiplesOf r) ((16 + r) * 2 ^ 56) ((17 + r) * 2 ^ 56 - 1)
+bounds r h =
+    record {
+      minus8 = λ c. ((λ e. omega arith), (λ e. omega arith));
+      minus5 = λ c. ((λ e. omega arith), (λ e. omega arith));
+      minus4 = λ c. ((λ e. omega arith), (λ e. omega arith));
+      minus2 = λ c. ((λ e. omega arith), (λ e. omega arith));
+      minus1 = λ c. ((λ e. omega arith), (λ e. omega arith));
+      plus1 = λ c. ((λ e. omega arith), (λ e. omega arith));
+      plus2 = λ c. ((λ e. omega arith), (λ e. omega arith));
+      plus4 = λ c. ((λ e. omega arith), (λ e. omega arith));
+      plus5 = λ c. ((λ e. omega arith), (λ e. omega arith));
+      plus8 = λ c. ((λ e. omega arith), (λ e. omega arith));
+    }
+
+-- the multiples lie from column 19 to column 106: past the last and up to the first there is no point
+pub record Columns (m : RowMultiples) : Type 0 where
+  pub minus8 : (19 ≤ m .minus8) × (m .minus8 ≤ m .plus8)
+  pub minus5 : m .minus5 ≤ 106
+  pub minus4 : m .minus4 ≤ 106
+  pub minus2 : m .minus2 ≤ 106
+  pub minus1 : m .minus1 ≤ 106
+  pub plus1 : m .plus1 ≤ 106
+  pub plus2 : m .plus2 ≤ 106
+  pub plus4 : m .plus4 ≤ 106
+  pub plus5 : m .plus5 ≤ 106
+  pub plus8 : m .plus8 ≤ 106
+
+in-columns : (r : ℕ) → r ≤ 15 → Columns (multiplesOf r)
+in-columns r h =
+    record {
+      minus8 = (omega arith, omega arith);
+      minus5 = omega arith;
+      minus4 = omega arith;
+      minus2 = omega arith;
+      minus1 = omega arith;
+      plus1 = omega arith;
+      plus2 = omega arith;
+      plus4 = omega arith;
+      plus5 = omega arith;
+      plus8 = omega arith;
+    }
+
+pub columns : {m : RowMultiples} → RowOf m → Columns m
+columns {m} o = subst Columns (sym (o .is)) (in-columns (m .row) (o .small))
+
+-- a cell that has a point is between the outer two
+pub point-columns : {m : RowMultiples} {c : ℕ} → RowOf m → hasPoint m c ≡ true → (20 ≤ c) × (c ≤ 106)
+point-columns {m} {c} o e = go (ltb (m .minus8) c) refl (ltb (m .plus8) c) refl e
+  where
+    go : (x : Bool) → ltb (m .minus8) c ≡ x → (y : Bool) → ltb (m .plus8) c ≡ y → eqb (cond x 1 0 + cond y 1 0) 1 ≡ true → (20 ≤ c) × (c ≤ 106)
+    go true f true g h = absurd (subst T (sym h) tt)
+    go true f false g h = (omega (arith, ltb-true (m .minus8) c f, columns o), omega (arith, ltb-false (m .plus8) c g, columns o))
+    go false f true g h = absurd (omega (arith, ltb-false (m .minus8) c f, ltb-true (m .plus8) c g, columns o))
+    go false f false g h = absurd (subst T (sym h) tt)

@@ -1,0 +1,15 @@
+use Rattle.laws.proofs.Basics.{refl, needs}
+use Rattle.selection.proofs.multiples.row_multiples.Statement.{statement}
+use Rattle.selection.proofs.multiples.row_multiples.Tie as tie
+
+returns : tie.Need-returns
+returns c = (record { small = c .before .before .before .before .before .before .before .before .before .before .pre; is = simp (c .begins-at-most3 .ensures, c .before .ends-at-most2 .ensures, c .before .before .begins-at-most2 .ensures, c .before .before .before .ends-at-most .ensures, c .before .before .before .before .begins-at-most .ensures, c .before .before .before .before .before .ends-below-minus3 .ensures, c .before .before .before .before .before .before .begins-below-minus2 .ensures, c .before .before .before .before .before .before .before .ends-below-minus2 .ensures, c .before .before .before .before .before .before .before .before .begins-below-minus .ensures, c .before .before .before .before .before .before .before .before .before .ends-below-minus .ensures) }, refl)
+
+pub row-multiples-spec : {M : Type 1} → statement M
+row-multiples-spec =
+    tie.close (tie.spec (λ c. search needs) (λ c. search needs) (λ c. search needs)
+    (λ c. search needs) (λ c. search needs) (λ c. search needs) (λ c. search needs)
+    (λ c. search needs) (λ c. search needs) (λ c. search needs) (λ c. search needs)
+    (λ c κs. search needs) (λ c κs. search needs) (λ c κs. search needs) (λ c κs. search needs)
+    (λ c κs. search needs) (λ c κs. search needs) (λ c κs. search needs) (λ c κs. search needs)
+    (λ c κs. search needs) (λ c κs. search needs) returns)

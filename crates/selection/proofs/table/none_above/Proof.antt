@@ -1,0 +1,26 @@
+use Rattle.laws.proofs.Basics.{_≤_, _-_, _≡_, refl, sym, subst, _∙_, true, ⊎-elim, T, arith, le-ltb}
+use Rattle.selection.specs.Refusals.{firstFrom}
+use Rattle.selection.specs.Allowed.{aboveFour}
+use Rattle.selection.proofs.Counts.{first-on, first-end}
+use Rattle.selection.proofs.table.none_above.Statement.{statement}
+use Rattle.selection.proofs.table.none_above.Tie as tie
+
+abbrev Inv-loop : tie.InvT-loop
+Inv-loop table none₀ k₀ none k = (k ≤ 2048) × (none ≡ true → firstFrom (aboveFour table) 0 2048 ≡ firstFrom (aboveFour table) k (2048 - k))
+
+abbrev μ-loop : tie.MeasureT-loop
+μ-loop table none₀ k₀ none k = 2048 - k
+
+loop-again : tie.Need-loop-again Inv-loop μ-loop
+loop-again c = (
+  omega arith,
+  λ e. ⊎-elim (λ w. absurd (subst T (sym (sym (w .1) ∙ e)) tt)) (λ w. c .before .before .before .loop .inv .1 (sym (w .1) ∙ e) ∙ first-on _ _ 2048 (omega arith) (le-ltb _ _ (w .0 .left))) (c .if1 .came),
+)
+
+returns : tie.Need-returns Inv-loop μ-loop
+returns c = λ e. let n : c .before .loop .k ≡ 2048 = omega arith in c .before .loop .inv .1 e ∙ first-end _ _ 2048 (c .loop-test .left) ∙ n
+
+pub none-above-spec : {M : Type 1} → statement M
+none-above-spec =
+    tie.close (tie.spec Inv-loop μ-loop (λ c. (omega arith, λ e. refl)) (λ c. omega arith)
+    (λ c. omega arith) (λ c. omega arith) loop-again returns)

@@ -1,0 +1,275 @@
+// The test of a cell by multiples of its row's smallest and largest divisor, which are worked out once a row.
+ghost use mathlib.Core.Path.{_≡_};
+ghost use Prim.Native.Nat.{_+_, _*_, _-_, _^_, _≤_, _<_, max};
+ghost use lib.IntN.{subℕ};
+ghost use Rattle.selection.specs.Computed.{cellOf};
+ghost use Rattle.selection.specs.Multiples.{leftColumn, rightColumn, beginsAtMost, beginsBelowMinus, endsAtMost, endsBelowMinus, RowOf, past, leastByte, greatestByte, hasPoint, allowsBy};
+ghost use Rattle.selection.specs.Multiples.{above, under, leastPast, leastDivisor, lowDivisor, highDivisor, lowAt, highAt, witnessOf};
+use crate::CellVerdict;
+use crate::Witness;
+
+// Half of the words: what the remainders are moved up by.
+const HALF: u64 = 0x8000_0000_0000_0000;
+
+// What the estimate leaves out at most.
+const SPAN: u64 = 0x3ff_ffff_ffff_fffe;
+
+// The width of a column, and of a row.
+const COLUMN: u64 = 0x200_0000_0000_0000;
+
+const ROW: u64 = 0x100_0000_0000_0000;
+
+// A row's number, its smallest divisor, and multiples of its smallest divisor, (16 + row) * 2^56, and of its largest, (17 + row) * 2^56 - 1: those that
+// bound 3P. A point has 3P from -8D to 8D, and the digit q keeps 3P from (3q - 2)D to (3q + 2)D. Each multiple is handed on as a column, the last on its
+// lower side: so a cell's test compares bytes, and three times a column's end, which leaves 64 bits in cells that have points, is not formed.
+pub(crate) struct RowMultiples {
+    pub row: u64,
+    pub smallest: u64,
+    // -8 times the largest: up to the last column that ends below it there is no point
+    pub minus8: u8,
+    // -5 times the smallest: up to the last column that begins below it a remainder is too low for the digit -1
+    pub minus5: u8,
+    // -4 times the largest: up to the last column that does not end above it no remainder is too high for -2
+    pub minus4: u8,
+    // -2 times the smallest, as -5 times: too low for 0
+    pub minus2: u8,
+    // -1 times the largest, as -4 times: not too high for -1
+    pub minus1: u8,
+    // the largest, as -5 times the smallest: too low for 1
+    pub plus1: u8,
+    // 2 times the smallest, as -4 times the largest: not too high for 0
+    pub plus2: u8,
+    // 4 times the largest, as -5 times the smallest: too low for 2
+    pub plus4: u8,
+    // 5 times the smallest, as -4 times the largest: not too high for 1
+    pub plus5: u8,
+    // 8 times the largest: past the last column that does not begin above it there is no point
+    pub plus8: u8,
+}
+
+// a - b, or 0 where b is larger.
+fn monus(a: u64, b: u64) -> u64
+    ensures { λ r. ⌜ r ≡ a - b ⌝ }
+{
+    if a < b { 0 } else { a - b }
+}
+
+// The last column that begins at a remainder or below, and the last that ends there or below.
+fn left_column(remainder: u64) -> u8
+    ensures { λ r. ⌜ r ≡ leftColumn remainder ⌝ }
+{
+    (remainder / COLUMN) as u8
+}
+
+fn right_column(remainder: u64) -> u8
+    ensures { λ r. ⌜ r ≡ rightColumn remainder ⌝ }
+{
+    (monus(remainder, SPAN) / COLUMN) as u8
+}
+
+// The last column that begins, and that ends, where 3P is at most n, and where it is below -n.
+fn begins_at_most(n: u64) -> u8
+    ensures { λ r. ⌜ r ≡ beginsAtMost n ⌝ }
+{
+    left_column(HALF + n / 3)
+}
+
+fn begins_below_minus(n: u64) -> u8
+    ensures { λ r. ⌜ r ≡ beginsBelowMinus n ⌝ }
+{
+    left_column(HALF - n / 3 - 1)
+}
+
+fn ends_at_most(n: u64) -> u8
+    ensures { λ r. ⌜ r ≡ endsAtMost n ⌝ }
+{
+    right_column(HALF + n / 3)
+}
+
+fn ends_below_minus(n: u64) -> u8
+    ensures { λ r. ⌜ r ≡ endsBelowMinus n ⌝ }
+{
+    right_column(HALF - n / 3 - 1)
+}
+
+// The multiples of a row. Of the largest, once and four times less 1: 3P < L is 3P <= L - 1, and 3P <= -L is 3P < -(L - 1).
+pub(crate) fn row_multiples(row: u64) -> RowMultiples
+    requires { ⌜ row ≤ 15 ⌝ }
+    ensures { λ r. ⌜ RowOf r × (r .row ≡ row) ⌝ }
+{
+    let smallest = (16 + row) * ROW;
+    let largest = (17 + row) * ROW - 1;
+    let one = largest - 1;
+    let two = 2 * smallest;
+    let four = 4 * largest - 1;
+    let five = 5 * smallest;
+    let eight = 8 * largest;
+    RowMultiples {
+        row,
+        smallest,
+        minus8: ends_below_minus(eight),
+        minus5: begins_below_minus(five),
+        minus4: ends_below_minus(four),
+        minus2: begins_below_minus(two),
+        minus1: ends_below_minus(one),
+        plus1: begins_at_most(one),
+        plus2: ends_at_most(two),
+        plus4: begins_at_most(four),
+        plus5: ends_at_most(five),
+        plus8: begins_at_most(eight),
+    }
+}
+
+// 1 if c is past x, else 0. It is in the arithmetic of bytes, so that the cells of a row can go side by side.
+fn past(x: u8, c: u8) -> u8
+    requires { ⌜ (x ≤ 127) × (c ≤ 127) ⌝ }
+    ensures { λ r. ⌜ (r ≡ past x c) × (r ≤ 1) ⌝ }
+{
+    std::num::wrapping_sub_u8(x, c) / 128
+}
+
+// The least byte for whose digit no remainder of the column is too high.
+fn least_byte(m: RowMultiples, c: u8) -> u8
+    requires { ⌜ RowOf m × (c ≤ 127) ⌝ }
+    ensures { λ r. ⌜ (r ≡ leastByte m c) × (r ≤ 4) ⌝ }
+{
+    past(m.minus4, c) + past(m.minus1, c) + past(m.plus2, c) + past(m.plus5, c)
+}
+
+// The greatest byte for whose digit none is too low.
+fn greatest_byte(m: RowMultiples, c: u8) -> u8
+    requires { ⌜ RowOf m × (c ≤ 127) ⌝ }
+    ensures { λ r. ⌜ (r ≡ greatestByte m c) × (r ≤ 4) ⌝ }
+{
+    past(m.minus5, c) + past(m.minus2, c) + past(m.plus1, c) + past(m.plus4, c)
+}
+
+// Whether the cell has a point: one of the outer two columns is passed.
+fn has_point(m: RowMultiples, c: u8) -> bool
+    requires { ⌜ RowOf m × (c ≤ 127) ⌝ }
+    ensures { λ r. ⌜ r ≡ hasPoint m c ⌝ }
+{
+    past(m.minus8, c) + past(m.plus8, c) == 1
+}
+
+// Whether the cell allows the byte's digit.
+pub(crate) fn allows(m: RowMultiples, c: u8, byte: u8) -> bool
+    requires { ⌜ RowOf m × (c ≤ 127) × (byte ≤ 4) ⌝ }
+    ensures { λ r. ⌜ r ≡ allowsBy m c byte ⌝ }
+{
+    if past(greatest_byte(m, c), byte) + past(byte, least_byte(m, c)) == 0 {
+        return true;
+    }
+    !has_point(m, c)
+}
+
+// The larger of two numbers.
+fn larger(a: u64, b: u64) -> u64
+    ensures { λ r. ⌜ r ≡ max a b ⌝ }
+{
+    if a < b { b } else { a }
+}
+
+// Three times what a column lies above 0 at least, and below 0 at least. A point has 3|P| <= 8D, so |P| is below 43 * 2^57: a cell that has one is
+// in the columns 20 to 106, and in them this fits a word.
+fn above(column: u64) -> u64
+    requires { ⌜ (20 ≤ column) × (column ≤ 106) ⌝ }
+    ensures { λ r. ⌜ (r ≡ above column) × (r < 2 ^ 64 - 8) ⌝ }
+{
+    3 * monus(column * COLUMN, HALF)
+}
+
+fn under(column: u64) -> u64
+    requires { ⌜ (20 ≤ column) × (column ≤ 106) ⌝ }
+    ensures { λ r. ⌜ (r ≡ under column) × (r < 2 ^ 64 - 8) ⌝ }
+{
+    3 * monus(HALF, column * COLUMN + SPAN)
+}
+
+// The least D with y < 4D for k = 0, with y < D for k = 1; else 0.
+fn least_past(k: u64, y: u64) -> u64
+    requires { ⌜ y < 2 ^ 64 - 8 ⌝ }
+    ensures { λ r. ⌜ r ≡ leastPast k y ⌝ }
+{
+    if k == 0 {
+        return y / 4 + 1;
+    }
+    if k == 1 {
+        return y + 1;
+    }
+    0
+}
+
+// The least D from `start` on with x <= 8D that is past y as above: no divisor before it has a point that breaks the digit.
+fn least_divisor(start: u64, x: u64, y: u64, k: u64) -> u64
+    requires { ⌜ (x < 2 ^ 64 - 8) × (y < 2 ^ 64 - 8) ⌝ }
+    ensures { λ r. ⌜ r ≡ leastDivisor start x y k ⌝ }
+{
+    larger(start, larger((x + 7) / 8, least_past(k, y)))
+}
+
+// The remainder of a biased one.
+fn unbiased(w: u64) -> i64
+    ensures { λ r. ⌜ r ≡ subℕ w (2 ^ 63) ⌝ }
+{
+    if w < HALF {
+        -0x8000_0000_0000_0000 + (w as i64)
+    } else {
+        (w - HALF) as i64
+    }
+}
+
+// The least divisor of the row at which a remainder of the column is too low for the digit, and too high.
+fn low_divisor(smallest: u64, column: u64, byte: u64) -> u64
+    requires { ⌜ (20 ≤ column) × (column ≤ 106) × (byte ≤ 4) ⌝ }
+    ensures { λ r. ⌜ r ≡ lowDivisor smallest column byte ⌝ }
+{
+    least_divisor(smallest, under(column), above(column), 4 - byte)
+}
+
+fn high_divisor(smallest: u64, column: u64, byte: u64) -> u64
+    requires { ⌜ (20 ≤ column) × (column ≤ 106) ⌝ }
+    ensures { λ r. ⌜ r ≡ highDivisor smallest column byte ⌝ }
+{
+    least_divisor(smallest, above(column), under(column), byte)
+}
+
+// The least point of the column at the divisor d, and the least that is too high for the digit.
+fn low_witness(d: u64, column: u64) -> Witness
+    requires { ⌜ (d ≤ 2 ^ 61) × (column ≤ 106) ⌝ }
+    ensures { λ r. ⌜ r ≡ witnessOf d (lowAt d column) ⌝ }
+{
+    Witness {
+        divisor: d,
+        remainder: unbiased(larger(column * COLUMN, HALF - (2 * d + 2 * d / 3))),
+    }
+}
+
+fn high_witness(d: u64, column: u64, byte: u64) -> Witness
+    requires { ⌜ (d ≤ 2 ^ 61) × (column ≤ 106) × (byte ≤ 4) ⌝ }
+    ensures { λ r. ⌜ r ≡ witnessOf d (highAt d column byte) ⌝ }
+{
+    Witness {
+        divisor: d,
+        remainder: unbiased(larger(column * COLUMN, HALF - 2 * d + byte * d + 2 * d / 3 + 1)),
+    }
+}
+
+// The test of a cell: the verdict and the witness of `check_cell`. No digit is both too low and too high. A table's cells ask `allows` and leave this one
+// caller, so that it is compiled into `check_cell` and a row's multiples don't go through memory.
+pub(crate) fn test_cell(m: RowMultiples, column: u64, byte: u8) -> CellVerdict
+    requires { ⌜ RowOf m × (column ≤ 127) × (byte ≤ 4) ⌝ }
+    ensures { λ r. ⌜ r ≡ cellOf (m .row) column byte ⌝ }
+{
+    let c = column as u8;
+    if allows(m, c, byte) {
+        return CellVerdict::Allowed;
+    }
+    let b = byte as u64;
+    if greatest_byte(m, c) < byte {
+        let d = low_divisor(m.smallest, column, b);
+        return CellVerdict::Disallowed(low_witness(d, column));
+    }
+    let d = high_divisor(m.smallest, column, b);
+    CellVerdict::Disallowed(high_witness(d, column, b))
+}
