@@ -16,8 +16,9 @@
 
 enum { PAIRS = 1024, ROUNDS = 600, DIFFERENCES = 4001, READINGS = 100000, WIDTH = 900 };
 
-static uint8_t table[QUENDARIC_TABLE_LENGTH];
+static uint8_t table[QUENDARIC_TABLE_LENGTH], all_bad[QUENDARIC_TABLE_LENGTH], one_bad[QUENDARIC_TABLE_LENGTH], made[QUENDARIC_TABLE_LENGTH];
 static uint64_t dividend[PAIRS], divisor[PAIRS], a[PAIRS], b[PAIRS];
+static struct { uint64_t row, column; uint8_t byte; } bad_cell[PAIRS], any_cell[PAIRS];
 static uint8_t out[40];
 static uint64_t readings[READINGS], means[READINGS], remainders[READINGS];
 static int digits = 28;
@@ -27,6 +28,11 @@ static uint64_t run_ahead(int i, uint64_t x) { return ahead_run(table, dividend[
 static uint64_t run_kept(int i, uint64_t x) { return quendaric_run_kept(dividend[i] ^ (x & 255), divisor[i], digits, out, sizeof out, 0).quotient; }
 static uint64_t run_lent(int i, uint64_t x) { return quendaric_run(table, sizeof table, dividend[i] ^ (x & 255), divisor[i], digits, out, sizeof out, 0).quotient; }
 static uint64_t check(int i, uint64_t x) { (void)i; return quendaric_check_table(table, sizeof table).refusal ^ x; }
+static uint64_t check_bad(int i, uint64_t x) { (void)i; return quendaric_check_table(all_bad, sizeof all_bad).refusal ^ x; }
+static uint64_t check_one(int i, uint64_t x) { (void)i; return quendaric_check_table(one_bad, sizeof one_bad).refusal ^ x; }
+static uint64_t cell_bad(int i, uint64_t x) { return quendaric_check_cell(bad_cell[i].row, bad_cell[i].column, bad_cell[i].byte).divisor ^ x; }
+static uint64_t cell_any(int i, uint64_t x) { return quendaric_check_cell(any_cell[i].row, any_cell[i].column, any_cell[i].byte).divisor ^ x; }
+static uint64_t make(int i, uint64_t x) { (void)i; return quendaric_make_table(made, sizeof made).refusal ^ x; }
 static uint64_t check_plain(int i, uint64_t x) { (void)i; return (uint64_t)plain_check(table) ^ x; }
 static uint64_t b64_plain(int i, uint64_t x) { return plain_binary64(table, a[i] ^ (x & 255), b[i], 0).pattern; }
 static uint64_t b64_ahead(int i, uint64_t x) { return ahead_binary64(table, a[i] ^ (x & 255), b[i], 0).pattern; }
@@ -53,6 +59,11 @@ static measure measures[] = {
     {"run-kept", "unit, kept run, 28 digits", run_kept, PAIRS, 0, 0},
     {"run-lent", "unit, lent run, 28 digits (checks the table)", run_lent, 32, 0, 0},
     {"check", "unit, check of a passing table", check, 32, 0, 0},
+    {"check-bad", "unit, check of a table whose cells with points are all bad", check_bad, 32, 0, 0},
+    {"check-one", "unit, check of a table whose last cell with a point is bad", check_one, 32, 0, 0},
+    {"cell-bad", "unit, single cells that are bad", cell_bad, PAIRS, 0, 0},
+    {"cell-any", "unit, single cells", cell_any, PAIRS, 0, 0},
+    {"make", "unit, the made table", make, 32, 0, 0},
     {"check-plain", "C, count of bad cells, 128-bit numbers", check_plain, 8, 0, 0},
     {"b64-plain", "C, binary64 over document 01's recurrence", b64_plain, PAIRS, 0, 0},
     {"b64-ahead", "C, binary64 over the fast algorithm", b64_ahead, PAIRS, 0, 0},
@@ -81,9 +92,34 @@ static uint64_t bits(void) {
 
 static volatile uint64_t sink;
 
+/* A cell that holds a digit which is not allowed in it, where there is one. */
+static int spoil(uint8_t *t, int k) {
+  for (uint8_t byte = 0; byte < 5; byte++)
+    if (quendaric_check_cell(k / 128, k % 128, byte).allowed == 0) {
+      t[k] = byte;
+      return 1;
+    }
+  return 0;
+}
+
 static void prepare(void) {
   if (quendaric_make_table(table, sizeof table).refusal != 0)
     exit(2);
+  memcpy(all_bad, table, sizeof table);
+  memcpy(one_bad, table, sizeof table);
+  int last = 0;
+  for (int k = 0; k < QUENDARIC_TABLE_LENGTH; k++)
+    if (spoil(all_bad, k))
+      last = k;
+  spoil(one_bad, last);
+  for (int i = 0; i < PAIRS; i++) {
+    int k;
+    do
+      k = bits() % QUENDARIC_TABLE_LENGTH;
+    while (all_bad[k] == table[k]);
+    bad_cell[i].row = k / 128, bad_cell[i].column = k % 128, bad_cell[i].byte = all_bad[k];
+    any_cell[i].row = bits() % 16, any_cell[i].column = bits() % 128, any_cell[i].byte = bits() % 5;
+  }
   for (int i = 0; i < PAIRS; i++) {
     a[i] = (bits() & 0x800fffffffffffffull) | (823 + bits() % 400) << 52;
     b[i] = (bits() & 0x800fffffffffffffull) | (823 + bits() % 400) << 52;
@@ -145,8 +181,8 @@ static double timed(measure *m, int chained) {
   return t;
 }
 
-/* A check has no operand that could come from the last answer. */
-static int chains(const measure *m) { return m->call != check && m->call != check_plain; }
+/* A check, a cell and the maker have no operand that could come from the last answer. */
+static int chains(const measure *m) { return strncmp(m->name, "check", 5) && strncmp(m->name, "cell", 4) && strcmp(m->name, "make"); }
 
 static void keep(double *best, double t) {
   if (*best == 0 || t < *best)
@@ -333,8 +369,11 @@ int main(int argc, char **argv) {
 #ifdef SOFTFLOAT
   ratio("kept binary64 / SoftFloat", "b64-kept", "b64-softfloat", 0);
 #endif
-  ratio("check of a passing table / kept run", "check", "run-kept", 250);
-  ratio("check of a passing table / C count in 128-bit numbers", "check", "check-plain", 0);
+  ratio("check of a passing table / kept run", "check", "run-kept", 9);
+  ratio("check of a passing table / C count in 128-bit numbers", "check", "check-plain", 0.15);
+  ratio("check, every cell with a point bad / passing", "check-bad", "check", 1.5);
+  ratio("check, one bad cell, the last / passing", "check-one", "check", 2.5);
+  ratio("the made table / kept run", "make", "run-kept", 0);
   lent_alone();
   samples();
   growth();

@@ -4,6 +4,7 @@
 use host::calls::{check_cell, make_table, row_limits, Cell, Limits};
 use host::document::{breaks, rule, Unit, CELLS, FULL};
 use host::draw::Draw;
+use host::earlier;
 
 const SEED: u64 = 0x5EED_0128;
 const DIGITS: [i128; 5] = [-2, -1, 0, 1, 2];
@@ -75,6 +76,8 @@ fn every_byte_of_every_cell() {
             Some((d, p)) => Cell { divisor: d as u64, remainder: p as i64, ..Default::default() },
         };
         assert_eq!(got, want, "cell {row}/{column}, digit {q}");
+        assert_eq!(got, earlier::check_cell(row as u64, column as u64, (q + 2) as u8), "{row}/{column} {q}: earlier");
+        assert_eq!(got.allowed == 1, earlier::allows(row as u64, column as u64, (q + 2) as u8), "{row}/{column} {q}");
         if got.allowed == 0 {
             disallowed += 1;
             let (d, p) = (i128::from(got.divisor), i128::from(got.remainder));

@@ -1,10 +1,20 @@
 //! Would catch a check that passes a damaged table or refuses a passing one, a wrong number of bad cells, and a first
-//! cell or witness that is not the first or not the least. The draws are from the fixed seed below.
-use host::calls::check_table;
+//! cell or witness that is not the first or not the least. Each answer is held against the document's rule and against
+//! the check as it was before the rows' multiples. The draws are from the fixed seed below.
+use host::calls::{check_table, Table};
 use host::document::{rule, CELLS};
 use host::draw::Draw;
+use host::earlier;
 
 const SEED: u64 = 0x5EED_2048;
+
+/// The check's answer, which is that of the document's rule and of the earlier check.
+fn checked(table: &[u8], what: &str) -> Table {
+    let got = check_table(table);
+    assert_eq!(got, rule().check(table), "{what}");
+    assert_eq!(got, earlier::check_table(table), "the earlier check: {what}");
+    got
+}
 
 #[test]
 fn passing_tables_pass() {
@@ -15,7 +25,7 @@ fn passing_tables_pass() {
             1 => rule().farthest(),
             _ => rule().passing(&mut draw),
         };
-        assert_eq!(check_table(&table), Default::default());
+        assert_eq!(checked(&table, "a passing table"), Default::default());
     }
 }
 
@@ -27,8 +37,7 @@ fn each_single_damage_is_found() {
         for byte in 0..5 {
             let mut table = made.clone();
             table[cell] = byte;
-            let got = check_table(&table);
-            assert_eq!(got, rule().check(&table), "cell {cell}, byte {byte}");
+            let got = checked(&table, &format!("cell {cell}, byte {byte}"));
             refused += u32::from(got.refusal == 10);
         }
     }
@@ -38,7 +47,7 @@ fn each_single_damage_is_found() {
 #[test]
 fn damaged_tables() {
     let mut draw = Draw::new(SEED + 1);
-    for turn in 0..3_000 {
+    for turn in 0..10_000 {
         let mut table = rule().passing(&mut draw);
         let changes = draw.below([4, 40, 4000][turn % 3]);
         // every third table may hold bytes above 4, which go before any bad cell
@@ -46,7 +55,7 @@ fn damaged_tables() {
         for _ in 0..changes {
             table[draw.below(CELLS as u64) as usize] = draw.below(bound) as u8;
         }
-        assert_eq!(check_table(&table), rule().check(&table), "table {turn}");
+        checked(&table, &format!("table {turn}"));
     }
 }
 
@@ -54,13 +63,11 @@ fn damaged_tables() {
 fn whole_tables_of_one_byte() {
     for byte in 0..=255 {
         let table = vec![byte; CELLS];
-        assert_eq!(check_table(&table), rule().check(&table), "byte {byte}");
+        checked(&table, &format!("byte {byte}"));
     }
     // the opposite digit in every cell that has a point
     let worst: Vec<u8> = rule().made().iter().map(|b| if *b < 2 { 4 } else { 0 }).collect();
-    let got = check_table(&worst);
-    assert_eq!(got, rule().check(&worst));
-    assert_eq!(got.count, 1_072);
+    assert_eq!(checked(&worst, "the opposite digits").count, 1_072);
 }
 
 #[test]
@@ -68,6 +75,6 @@ fn other_lengths_are_refused() {
     let made = rule().made();
     for length in [0, 1, 127, 2047, 2049, 4096] {
         let table: Vec<u8> = made.iter().copied().cycle().take(length).collect();
-        assert_eq!(check_table(&table), rule().check(&table), "length {length}");
+        checked(&table, &format!("length {length}"));
     }
 }
