@@ -8,7 +8,7 @@ use Rattle.division.specs.declared.binary64.Case.{Case}
 use Rattle.division.specs.declared.binary64.Case.the-variants.{Quiet, Invalid, ToInfinity, ByZero, ToZero, Finite}
 use Rattle.division.specs.declared.binary64.ByClass.the-variants.{Undecided}
 use Rattle.division.specs.Format.{classOf, field, fraction, signOf}
-use Rattle.division.specs.Computed.{caseOf, decided, byClass}
+use Rattle.division.specs.Computed.{caseOf, nanFlags, decided, byClass}
 use Rattle.division.specs.Significands.{FiniteNonzero}
 use Rattle.division.specs.Ieee.{IsNonzero, IsFinite}
 use Rattle.laws.proofs.Division.{le-or-lt}
@@ -68,7 +68,7 @@ counted p e = ⊎-elim
 pub quotient-operands : (a b : ℕ) → byClass a b ≡ Undecided → FiniteNonzero a × FiniteNonzero b
 quotient-operands a b e = let f = both (classOf a) (classOf b) (go (caseOf (classOf a) (classOf b)) e) in (counted a (f .0), counted b (f .1))
   where
-    go : (k : Case) → decided (signOf a b) k ≡ Undecided → k ≡ Finite
+    go : (k : Case) → decided (signOf a b) (nanFlags a b) k ≡ Undecided → k ≡ Finite
     go Quiet e = absurd (let z : _≡_ {A = ℕ} 0 1 = cc in omega arith)
     go Invalid e = absurd (let z : _≡_ {A = ℕ} 0 1 = cc in omega arith)
     go ToInfinity e = absurd (let z : _≡_ {A = ℕ} 0 1 = cc in omega arith)

@@ -1,13 +1,14 @@
 -- Binary64 division means what document 01 says, for every pair of operands and through every table that passes.
-use Rattle.laws.proofs.Basics.{_≡_, refl, sym, ap, ap₂, subst, _∙_, ⊎-elim, ℕ, zero, _-_, _^_, _<_, arith, lit≤, List, ne-eqb}
+use Rattle.laws.proofs.Basics.{_≡_, refl, sym, ap, ap₂, subst, _∙_, _⊎_, ⊎-elim, ℕ, zero, _-_, _^_, _<_, arith, lit≤, List, ne-eqb}
 use native.Mathlib.Nat.{eq-zero-or-pos, lt-of-lt-of-le, mul-le-mul-left, mul-lt-mul-of-pos-right}
 use lib.Pow.{pow-pos, pow-mono}
-use Rattle.division.specs.Format.{magnitude, field, classOf, signOf}
-use Rattle.division.specs.Computed.{finiteQuotient, caseOf, decided, orRounded, quotientOf}
+use Rattle.division.specs.Format.{magnitude, field, classOf, signOf, quietNan}
+use Rattle.division.specs.Computed.{finiteQuotient, caseOf, nanFlags, decided, orRounded, quotientOf}
 use Rattle.division.specs.Binary64Steps.{binary64Through}
 use Rattle.division.specs.Ieee.{RoundedQuotient, Ieee}
 use Rattle.division.specs.declared.format.Class.{Class}
 use Rattle.division.specs.declared.format.Class.the-variants.{Zero, Subnormal, Normal, Infinite, Nan}
+use Rattle.division.specs.declared.format.Binary64Result.{Binary64Result}
 use Rattle.division.specs.declared.binary64.Case.{Case}
 use Rattle.division.specs.declared.binary64.Case.the-variants.{Quiet, Invalid, ToInfinity, ByZero, ToZero, Finite}
 use Rattle.selection.specs.Table.{Passes}
@@ -26,8 +27,8 @@ magnitude-below p h = ⊎-elim
 
 -- the answer of a case
 answer-of : (direction a b : ℕ) (x y : Class) (k : Case) → classOf a ≡ x → classOf b ≡ y → caseOf x y ≡ k
-    → quotientOf direction a b ≡ orRounded (finiteQuotient direction (signOf a b) (magnitude a) (magnitude b)) (decided (signOf a b) k)
-answer-of direction a b x y k e f g = ap (λ (k : Case). orRounded (finiteQuotient direction (signOf a b) (magnitude a) (magnitude b)) (decided (signOf a b) k)) (ap₂ caseOf e f ∙ g)
+    → quotientOf direction a b ≡ orRounded (finiteQuotient direction (signOf a b) (magnitude a) (magnitude b)) (decided (signOf a b) (nanFlags a b) k)
+answer-of direction a b x y k e f g = ap (λ (k : Case). orRounded (finiteQuotient direction (signOf a b) (magnitude a) (magnitude b)) (decided (signOf a b) (nanFlags a b) k)) (ap₂ caseOf e f ∙ g)
 
 right-nan : (x : Class) → caseOf x Nan ≡ Quiet
 right-nan Zero = refl
@@ -39,12 +40,16 @@ right-nan Nan = refl
 left-nan : (y : Class) → caseOf Nan y ≡ Quiet
 left-nan y = refl
 
+nan-answer : (direction a b : ℕ) → (classOf a ≡ Nan) ⊎ (classOf b ≡ Nan) → quotientOf direction a b ≡ record { pattern = quietNan; flags = nanFlags a b }
+nan-answer direction a b = ⊎-elim
+    (λ e. answer-of direction a b Nan (classOf b) Quiet e refl (left-nan (classOf b)))
+    (λ e. answer-of direction a b (classOf a) Nan Quiet refl e (right-nan (classOf a)))
+
 pub ieee : (direction a b : ℕ) → Ieee direction a b (quotientOf direction a b)
 ieee direction a b =
     record {
-      nan = ⊎-elim
-          (λ e. answer-of direction a b Nan (classOf b) Quiet e refl (left-nan (classOf b)))
-          (λ e. answer-of direction a b (classOf a) Nan Quiet refl e (right-nan (classOf a)));
+      nan = λ h. ap (λ (x : Binary64Result). x .pattern) (nan-answer direction a b h);
+      nan-flag = λ h. ap (λ (x : Binary64Result). x .flags) (nan-answer direction a b h);
       invalid = ⊎-elim
           (λ e. answer-of direction a b Zero Zero Invalid (e .0) (e .1) refl)
           (λ e. answer-of direction a b Infinite Infinite Invalid (e .0) (e .1) refl);

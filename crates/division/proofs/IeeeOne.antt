@@ -10,7 +10,7 @@ use Rattle.division.proofs.RoundedOne.{rounded-one}
 -- one answer for each pair of operands
 pub ieee-one : (direction a b : ℕ) {x y : Binary64Result} → Ieee direction a b x → Ieee direction a b y → x ≡ y
 ieee-one direction a b u v = by-cases a b
-    (λ h. u .nan h ∙ sym (v .nan h))
+    (λ h. (λ i. record { pattern = (u .nan h ∙ sym (v .nan h)) i; flags = (u .nan-flag h ∙ sym (v .nan-flag h)) i }))
     (λ h. u .invalid h ∙ sym (v .invalid h))
     (λ h k. u .by-zero h k ∙ sym (v .by-zero h k))
     (λ h k. u .infinite h k ∙ sym (v .infinite h k))

@@ -13,7 +13,7 @@ use Rattle.division.specs.declared.binary64.Case.the-variants.{Quiet, In
 use Rattle.division.specs.declared.binary64.ByClass.{ByClass}
 use Rattle.division.specs.declared.binary64.ByClass.the-variants.{Decided, Undecided}
 use Rattle.division.specs.Rounding.{modeOf}
-use Rattle.division.specs.Format.{signBit, magnitude, classOf, signOf, infinity, largestFinite, quietNan, inexactFlag, underflowFlag, overflowFlag, divisionByZeroFlag, invalidFlag}
+use Rattle.division.specs.Format.{signBit, magnitude, classOf, signalling, signOf, infinity, largestFinite, quietNan, inexactFlag, underflowFlag, overflowFlag, divisionByZeroFlag, invalidFlag}
 use Rattle.division.specs.Ieee.{quotientScale, quotientPlace}
 
 -- ---- rounding, once for every operation that rounds
@@ -118,17 +118,21 @@ caseOf x y =
     (cond (isZero x || isInfinite y) ToZero
     Finite))))
 
--- the answer to each case that the classes alone decide
-abbrev pub decided : Bool → Case → ByClass
-decided s Quiet = Decided (record { pattern = quietNan; flags = 0 })
-decided s Invalid = Decided (record { pattern = quietNan; flags = invalidFlag })
-decided s ToInfinity = Decided (record { pattern = signBit s + infinity; flags = 0 })
-decided s ByZero = Decided (record { pattern = signBit s + infinity; flags = divisionByZeroFlag })
-decided s ToZero = Decided (record { pattern = signBit s; flags = 0 })
-decided s Finite = Undecided
+-- the flags where an operand is a not-a-number
+abbrev pub nanFlags : ℕ → ℕ → ℕ
+nanFlags a b = cond (signalling a || signalling b) invalidFlag 0
+
+-- the answer to each case that the classes alone decide; f: the flags of a not-a-number
+abbrev pub decided : Bool → ℕ → Case → ByClass
+decided s f Quiet = Decided (record { pattern = quietNan; flags = f })
+decided s f Invalid = Decided (record { pattern = quietNan; flags = invalidFlag })
+decided s f ToInfinity = Decided (record { pattern = signBit s + infinity; flags = 0 })
+decided s f ByZero = Decided (record { pattern = signBit s + infinity; flags = divisionByZeroFlag })
+decided s f ToZero = Decided (record { pattern = signBit s; flags = 0 })
+decided s f Finite = Undecided
 
 abbrev pub byClass : ℕ → ℕ → ByClass
-byClass a b = decided (signOf a b) (caseOf (classOf a) (classOf b))
+byClass a b = decided (signOf a b) (nanFlags a b) (caseOf (classOf a) (classOf b))
 
 -- else it is x
 abbrev pub orRounded : Binary64Result → ByClass → Binary64Result

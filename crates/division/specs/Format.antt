@@ -1,6 +1,6 @@
 -- The binary64 format, over whole numbers: document 01, "Binary64". What rounding to it means is said in specs/Rounded, and what division means in specs/Ieee.
 use Prim.Native.Nat.{ℕ, _+_, _-_, _*_, _/_, _%_, _^_}
-use mathlib.Core.Bool.{Bool, not, cond, Bool·beq}
+use mathlib.Core.Bool.{Bool, not, cond, _&&_, Bool·beq}
 use lib.Dec.{leb, ltb, eqb}
 use Rattle.division.specs.declared.format.Class.{Class}
 use Rattle.division.specs.declared.format.Class.the-variants.{Zero, Subnormal, Normal, Infinite, Nan}
@@ -23,6 +23,10 @@ abbrev pub classOf : ℕ → Class
 classOf p =
     cond (eqb (field p) 0) (cond (eqb (fraction p) 0) Zero Subnormal)
     (cond (ltb (field p) 2047) Normal (cond (eqb (fraction p) 0) Infinite Nan))
+
+-- a signalling not-a-number: the top fraction bit is 0, the fraction is not 0
+abbrev pub signalling : ℕ → Bool
+signalling p = eqb (field p) 2047 && (ltb 0 (fraction p) && ltb (fraction p) (2 ^ 51))
 
 -- the sign's weight; true is a negative sign
 abbrev pub signBit : Bool → ℕ

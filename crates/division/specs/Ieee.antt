@@ -1,9 +1,9 @@
--- What binary64 division means, for every pair of operands: document 01, "Binary64".
+-- What binary64 division means, for every pair of operands: document 01, "Binary64", with document 02's signalling patterns.
 use mathlib.Core.Path.{_≡_}
-use mathlib.Core.Bool.{Bool}
+use mathlib.Core.Bool.{Bool, cond, _||_}
 use mathlib.Core.Logic.{_⊎_}
 use Prim.Native.Nat.{ℕ, _+_, _*_, _^_}
-use Rattle.division.specs.Format.{signBit, magnitude, classOf, signOf, infinity, quietNan, divisionByZeroFlag, invalidFlag}
+use Rattle.division.specs.Format.{signBit, magnitude, classOf, signalling, signOf, infinity, quietNan, divisionByZeroFlag, invalidFlag}
 use Rattle.division.specs.Rounded.{Rounded}
 use Rattle.division.specs.declared.format.Binary64Result.{Binary64Result}
 use Rattle.division.specs.declared.format.Class.the-variants.{Zero, Subnormal, Normal, Infinite, Nan}
@@ -29,7 +29,8 @@ IsFinite p = (classOf p ≡ Zero) ⊎ IsNonzero p
 
 -- x is a / b
 pub record Ieee (direction a b : ℕ) (x : Binary64Result) : Type 0 where
-  pub nan : (classOf a ≡ Nan) ⊎ (classOf b ≡ Nan) → x ≡ record { pattern = quietNan; flags = 0 }
+  pub nan : (classOf a ≡ Nan) ⊎ (classOf b ≡ Nan) → x .pattern ≡ quietNan
+  pub nan-flag : (classOf a ≡ Nan) ⊎ (classOf b ≡ Nan) → x .flags ≡ cond (signalling a || signalling b) invalidFlag 0
   pub invalid : ((classOf a ≡ Zero) × (classOf b ≡ Zero)) ⊎ ((classOf a ≡ Infinite) × (classOf b ≡ Infinite)) → x ≡ record { pattern = quietNan; flags = invalidFlag }
   pub by-zero : IsNonzero a → classOf b ≡ Zero → x ≡ record { pattern = signBit (signOf a b) + infinity; flags = divisionByZeroFlag }
   pub infinite : classOf a ≡ Infinite → IsFinite b → x ≡ record { pattern = signBit (signOf a b) + infinity; flags = 0 }

@@ -1,7 +1,7 @@
 // The binary64 format: fields, classes, significands, flags, and a result.
 ghost use mathlib.Core.Path.{_≡_};
 ghost use Prim.Native.Nat.{_-_, _*_, _^_, _<_};
-ghost use Rattle.division.specs.Format.{classOf, signOf, signBit};
+ghost use Rattle.division.specs.Format.{classOf, signalling, signOf, signBit};
 ghost use Rattle.division.specs.Significands.{significandOf, FiniteNonzero, Normalized};
 ghost use Rattle.division.specs.WholeSteps.{shiftTo};
 
@@ -13,6 +13,9 @@ pub(crate) const SIGN_BIT: u64 = 0x8000_0000_0000_0000;
 pub(crate) const INFINITY: u64 = 0x7FF0_0000_0000_0000;
 
 pub(crate) const LARGEST_FINITE: u64 = 0x7FEF_FFFF_FFFF_FFFF;
+
+// The top fraction bit, which a signalling not-a-number has not.
+const QUIET_BIT: u64 = 0x8_0000_0000_0000;
 
 pub(crate) const QUIET_NAN: u64 = 0x7FF8_0000_0000_0000;
 
@@ -84,6 +87,20 @@ pub(crate) fn class_of(p: u64) -> Class
             }
         }
     }
+}
+
+// Is the pattern a signalling not-a-number's?
+pub(crate) fn signalling(p: u64) -> bool
+    ensures { λ r. ⌜ r ≡ signalling p ⌝ }
+{
+    if p / HIDDEN_BIT % 2048 != 2047 {
+        return false;
+    }
+    let fraction = p % HIDDEN_BIT;
+    if fraction == 0 {
+        return false;
+    }
+    fraction < QUIET_BIT
 }
 
 // A subnormal's fraction, moved up until the leading one is bit 52.

@@ -68,6 +68,7 @@ one-alike false = alike 1 3 false (λ f k r. r) refl
 pub toward-zero : (a b : ℕ) {x y : Binary64Result} → Ieee 1 a b x → Ieee (cond (quotientSign (valueOf a) (valueOf b)) 2 3) a b y → x ≡ y
 toward-zero a b {x} u = ieee-one (cond (quotientSign (valueOf a) (valueOf b)) 2 3) a b (record {
   nan = u .nan;
+  nan-flag = u .nan-flag;
   invalid = u .invalid;
   by-zero = u .by-zero;
   infinite = u .infinite;

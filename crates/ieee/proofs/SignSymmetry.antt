@@ -1,9 +1,10 @@
 -- Turning the sign of an operand turns the answer's sign and exchanges directions 2 and 3; the flags stay. It holds of not-a-numbers too, whose sign the logic does not tell.
-use Rattle.laws.proofs.Basics.{_≡_, refl, sym, ap, ap₂, _∙_, Bool, true, false, not, cond, Bool·beq, ⊎-elim, ℕ, zero, suc, _+_, _^_, _≤_, _<_, arith, eqb, le-leb, lt-leb}
+use Rattle.laws.proofs.Basics.{_≡_, refl, sym, ap, ap₂, _∙_, Bool, true, false, not, cond, _||_, Bool·beq, ⊎-elim, ℕ, zero, suc, _+_, _^_, _≤_, _<_, arith, eqb, le-leb, lt-leb}
 use lib.Ieee.{nan, inf, binary64, neg, odd, ofFields, ofBits}
 use Rattle.laws.proofs.Division.{le-or-lt}
 use Rattle.division.specs.declared.format.Binary64Result.{Binary64Result}
-use Rattle.division.specs.Format.{negative, field, fraction, magnitude, classOf, signBit, signOf, infinity, largestFinite, quietNan, inexactFlag, overflowFlag}
+use Rattle.division.specs.Format.{negative, field, fraction, magnitude, classOf, signalling, signBit, signOf, infinity, largestFinite, quietNan, inexactFlag, overflowFlag, invalidFlag}
+use Rattle.division.specs.Computed.{nanFlags}
 use Rattle.division.specs.Rounding.{modeOf, Rounds}
 use Rattle.division.specs.Rounded.{pointsToZero, Rounded}
 use Rattle.division.specs.Ieee.{quotientScale, quotientPlace, RoundedQuotient, IsNonzero, Ieee}
@@ -36,6 +37,9 @@ turned-magnitude p = rw (turned-field p, turned-fraction p)
 
 turned-class : (p : ℕ) → classOf (turned p) ≡ classOf p
 turned-class p = rw (turned-field p, turned-fraction p)
+
+turned-signalling : (p : ℕ) → signalling (turned p) ≡ signalling p
+turned-signalling p = rw (turned-field p, turned-fraction p)
 
 -- the logic's word for it
 fields-neg : (s : Bool) (x t : ℕ) → ofFields binary64 (not s) x t ≡ neg (ofFields binary64 s x t)
@@ -134,6 +138,7 @@ record Turned (a b a' b' : ℕ) : Type 0 where
   divisor : classOf b' ≡ classOf b
   over : magnitude a' ≡ magnitude a
   under : magnitude b' ≡ magnitude b
+  signals : nanFlags a' b' ≡ nanFlags a b
   sign : signOf a' b' ≡ not (signOf a b)
 
 module _ (d a b a' b' : ℕ) (l : d ≤ 3) (o : Turned a b a' b') {x y : Binary64Result} (u : Ieee d a' b' x) (v : Ieee (mirrored d) a b y) where
@@ -146,7 +151,7 @@ module _ (d a b a' b' : ℕ) (l : d ≤ 3) (o : Turned a b a' b') {x y : Binary6
 
   opposite : Opposite x y
   opposite = by-cases a b
-      (λ h. rw (v .nan h, u .nan (rw (o .dividend, o .divisor) h)) (quiet-neg, refl))
+      (λ h. rw (v .nan h, u .nan (rw (o .dividend, o .divisor) h)) (quiet-neg, u .nan-flag (rw (o .dividend, o .divisor) h) ∙ o .signals ∙ sym (v .nan-flag h)))
       (λ h. rw (v .invalid h, u .invalid (rw (o .dividend, o .divisor) h)) (quiet-neg, refl))
       (λ h k. rw (v .by-zero h k, u .by-zero (rw (o .dividend) h) (rw (o .divisor) k), o .sign) (bit-neg (signOf a b) infinity (omega arith), refl))
       (λ h k. rw (v .infinite h k, u .infinite (rw (o .dividend) h) (rw (o .divisor) k), o .sign) (bit-neg (signOf a b) infinity (omega arith), refl))
@@ -169,9 +174,9 @@ module _ (d a b : ℕ) (l : d ≤ 3) {x y : Binary64Result} where
   pub dividend-turned : a < 2 ^ 64 → Ieee d (turned a) b x → Ieee (mirrored d) a b y → Opposite x y
   dividend-turned h =
       opposite d a b (turned a) b l
-      (record { dividend = turned-class a; divisor = refl; over = turned-magnitude a; under = refl; sign = ap (λ (s : Bool). not (Bool·beq s (negative b))) (turned-sign a h) ∙ left-turned (negative a) (negative b) })
+      (record { dividend = turned-class a; divisor = refl; over = turned-magnitude a; under = refl; signals = ap (λ (s : Bool). cond (s || signalling b) invalidFlag 0) (turned-signalling a); sign = ap (λ (s : Bool). not (Bool·beq s (negative b))) (turned-sign a h) ∙ left-turned (negative a) (negative b) })
 
   pub divisor-turned : b < 2 ^ 64 → Ieee d a (turned b) x → Ieee (mirrored d) a b y → Opposite x y
   divisor-turned h =
       opposite d a b a (turned b) l
-      (record { dividend = refl; divisor = turned-class b; over = refl; under = turned-magnitude b; sign = ap (λ (s : Bool). not (Bool·beq (negative a) s)) (turned-sign b h) ∙ right-turned (negative a) (negative b) })
+      (record { dividend = refl; divisor = turned-class b; over = refl; under = turned-magnitude b; signals = ap (λ (s : Bool). cond (signalling a || s) invalidFlag 0) (turned-signalling b); sign = ap (λ (s : Bool). not (Bool·beq (negative a) s)) (turned-sign b h) ∙ right-turned (negative a) (negative b) })
