@@ -18,7 +18,7 @@ runs() {
 }
 
 llvm=$root/crates/vectors/data/div-llvm.txt
-one='s/\(llvm.txt 28\) 0/\1 1/; s/\(total 6098\) 0/\1 1/'
+one='s/\(llvm.txt 28\) 0/\1 1/; s/\(total 6252\) 0/\1 1/'
 runs 'the files as they are' "$llvm" ''
 # Lines of 56 bytes: operands at 0 and 17, direction at 34, pattern at 36, flags at 53.
 sed '7s/[0-9][0-9]$/31/' "$llvm" >"$work/flags"
@@ -32,14 +32,14 @@ runs 'fields that are not parted' "$work/space" "$one"
 head -c -1 "$llvm" >"$work/short"
 runs 'a last line cut short' "$work/short" "$one"
 sed '4d' "$llvm" >"$work/fewer"
-runs 'a line left out' "$work/fewer" 's/llvm.txt 28/llvm.txt 27/; s/total 6098/total 6097/'
+runs 'a line left out' "$work/fewer" 's/llvm.txt 28/llvm.txt 27/; s/total 6252/total 6251/'
 
-without='/llvm/d; s/total 6098/total 6070/'
+without='/llvm/d; s/total 6252/total 6224/'
 runs 'no file' "$work/none" "$without" 'div-llvm.txt: No such file or directory'
 mkdir "$work/folder"
 runs 'a folder' "$work/folder" "$without" 'div-llvm.txt: Is a directory'
 yes "$(head -n 1 "$llvm")" | head -n 16000 >"$work/long"
-runs '16,000 lines' "$work/long" 's/llvm.txt 28/llvm.txt 16000/; s/total 6098/total 22070/'
+runs '16,000 lines' "$work/long" 's/llvm.txt 28/llvm.txt 16000/; s/total 6252/total 22224/'
 head -n 1 "$llvm" >>"$work/long"
 runs '16,001 lines' "$work/long" "$without" 'div-llvm.txt: more than 16000 lines'
 

@@ -153,12 +153,13 @@ static void divisions(const uint8_t *table) {
   SAME(quendaric_divide_binary64_kept(1, 1, 4).refusal, QUENDARIC_REFUSED_DIRECTION);
   SAME(quendaric_pattern(-2.5), 0xC004000000000000ull);
   SAME(quendaric_double(0xC004000000000000ull) == -2.5, 1);
-  /* a NaN operand, quiet or signalling */
+  /* a NaN operand, quiet and signalling */
   static const uint64_t nan[2] = {0x7FF8000000000001ull, 0xFFF0000000000001ull};
+  static const uint64_t flags[2] = {0, QUENDARIC_INVALID};
   for (int i = 0; i < 2; i++) {
     quendaric_binary64 none = quendaric_divide_binary64_kept(nan[i], 1, QUENDARIC_NEAREST);
     SAME(none.pattern, 0x7FF8000000000000ull);
-    SAME(none.flags, 0);
+    SAME(none.flags, flags[i]);
   }
 }
 

@@ -5,7 +5,7 @@ use lib.Pow.{pow-pos}
 use Rattle.division.specs.declared.format.Class.{Class}
 use Rattle.division.specs.declared.format.Class.the-variants.{Zero, Subnormal, Normal, Infinite, Nan}
 use Rattle.division.specs.declared.binary64.Case.{Case}
-use Rattle.division.specs.declared.binary64.Case.the-variants.{Quiet, Invalid, ToInfinity, ByZero, ToZero, Finite}
+use Rattle.division.specs.declared.binary64.Case.the-variants.{NotANumber, Invalid, ToInfinity, ByZero, ToZero, Finite}
 use Rattle.division.specs.declared.binary64.ByClass.the-variants.{Undecided}
 use Rattle.division.specs.Format.{classOf, field, fraction, signOf}
 use Rattle.division.specs.Computed.{caseOf, nanFlags, decided, byClass}
@@ -22,7 +22,7 @@ counts Infinite = false
 counts Nan = false
 
 abbrev isFinite : Case → Bool
-isFinite Quiet = false
+isFinite NotANumber = false
 isFinite Invalid = false
 isFinite ToInfinity = false
 isFinite ByZero = false
@@ -69,7 +69,7 @@ pub quotient-operands : (a b : ℕ) → byClass a b ≡ Undecided → FiniteNonz
 quotient-operands a b e = let f = both (classOf a) (classOf b) (go (caseOf (classOf a) (classOf b)) e) in (counted a (f .0), counted b (f .1))
   where
     go : (k : Case) → decided (signOf a b) (nanFlags a b) k ≡ Undecided → k ≡ Finite
-    go Quiet e = absurd (let z : _≡_ {A = ℕ} 0 1 = cc in omega arith)
+    go NotANumber e = absurd (let z : _≡_ {A = ℕ} 0 1 = cc in omega arith)
     go Invalid e = absurd (let z : _≡_ {A = ℕ} 0 1 = cc in omega arith)
     go ToInfinity e = absurd (let z : _≡_ {A = ℕ} 0 1 = cc in omega arith)
     go ByZero e = absurd (let z : _≡_ {A = ℕ} 0 1 = cc in omega arith)

@@ -10,7 +10,7 @@ use Rattle.division.specs.declared.format.Class.{Class}
 use Rattle.division.specs.declared.format.Class.the-variants.{Zero, Subnormal, Normal, Infinite, Nan}
 use Rattle.division.specs.declared.format.Binary64Result.{Binary64Result}
 use Rattle.division.specs.declared.binary64.Case.{Case}
-use Rattle.division.specs.declared.binary64.Case.the-variants.{Quiet, Invalid, ToInfinity, ByZero, ToZero, Finite}
+use Rattle.division.specs.declared.binary64.Case.the-variants.{NotANumber, Invalid, ToInfinity, ByZero, ToZero, Finite}
 use Rattle.selection.specs.Table.{Passes}
 use Rattle.division.proofs.Binary64Through.{binary64-through}
 use Rattle.division.proofs.Classes.{by-nonzero, by-finite, nonzero-operand}
@@ -30,20 +30,20 @@ answer-of : (direction a b : ℕ) (x y : Class) (k : Case) → classOf a ≡ x �
     → quotientOf direction a b ≡ orRounded (finiteQuotient direction (signOf a b) (magnitude a) (magnitude b)) (decided (signOf a b) (nanFlags a b) k)
 answer-of direction a b x y k e f g = ap (λ (k : Case). orRounded (finiteQuotient direction (signOf a b) (magnitude a) (magnitude b)) (decided (signOf a b) (nanFlags a b) k)) (ap₂ caseOf e f ∙ g)
 
-right-nan : (x : Class) → caseOf x Nan ≡ Quiet
+right-nan : (x : Class) → caseOf x Nan ≡ NotANumber
 right-nan Zero = refl
 right-nan Subnormal = refl
 right-nan Normal = refl
 right-nan Infinite = refl
 right-nan Nan = refl
 
-left-nan : (y : Class) → caseOf Nan y ≡ Quiet
+left-nan : (y : Class) → caseOf Nan y ≡ NotANumber
 left-nan y = refl
 
 nan-answer : (direction a b : ℕ) → (classOf a ≡ Nan) ⊎ (classOf b ≡ Nan) → quotientOf direction a b ≡ record { pattern = quietNan; flags = nanFlags a b }
 nan-answer direction a b = ⊎-elim
-    (λ e. answer-of direction a b Nan (classOf b) Quiet e refl (left-nan (classOf b)))
-    (λ e. answer-of direction a b (classOf a) Nan Quiet refl e (right-nan (classOf a)))
+    (λ e. answer-of direction a b Nan (classOf b) NotANumber e refl (left-nan (classOf b)))
+    (λ e. answer-of direction a b (classOf a) Nan NotANumber refl e (right-nan (classOf a)))
 
 pub ieee : (direction a b : ℕ) → Ieee direction a b (quotientOf direction a b)
 ieee direction a b =

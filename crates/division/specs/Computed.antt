@@ -9,7 +9,7 @@ use Rattle.division.specs.declared.format.Binary64Result.{Binary64Result
 use Rattle.division.specs.declared.format.Class.{Class}
 use Rattle.division.specs.declared.format.Class.the-variants.{Zero, Subnormal, Normal, Infinite, Nan}
 use Rattle.division.specs.declared.binary64.Case.{Case}
-use Rattle.division.specs.declared.binary64.Case.the-variants.{Quiet, Invalid, ToInfinity, ByZero, ToZero, Finite}
+use Rattle.division.specs.declared.binary64.Case.the-variants.{NotANumber, Invalid, ToInfinity, ByZero, ToZero, Finite}
 use Rattle.division.specs.declared.binary64.ByClass.{ByClass}
 use Rattle.division.specs.declared.binary64.ByClass.the-variants.{Decided, Undecided}
 use Rattle.division.specs.Rounding.{modeOf}
@@ -111,7 +111,7 @@ isZero Nan = false
 -- the document's cases, in its order
 abbrev pub caseOf : Class → Class → Case
 caseOf x y =
-    cond (isNan x || isNan y) Quiet
+    cond (isNan x || isNan y) NotANumber
     (cond ((isZero x && isZero y) || (isInfinite x && isInfinite y)) Invalid
     (cond (isInfinite x) ToInfinity
     (cond (isZero y) ByZero
@@ -122,9 +122,9 @@ caseOf x y =
 abbrev pub nanFlags : ℕ → ℕ → ℕ
 nanFlags a b = cond (signalling a || signalling b) invalidFlag 0
 
--- the answer to each case that the classes alone decide; f: the flags of a not-a-number
+-- the answer to each case but a quotient of finite numbers; f: the flags where an operand is a not-a-number
 abbrev pub decided : Bool → ℕ → Case → ByClass
-decided s f Quiet = Decided (record { pattern = quietNan; flags = f })
+decided s f NotANumber = Decided (record { pattern = quietNan; flags = f })
 decided s f Invalid = Decided (record { pattern = quietNan; flags = invalidFlag })
 decided s f ToInfinity = Decided (record { pattern = signBit s + infinity; flags = 0 })
 decided s f ByZero = Decided (record { pattern = signBit s + infinity; flags = divisionByZeroFlag })

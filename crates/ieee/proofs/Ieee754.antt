@@ -24,6 +24,7 @@ use Rattle.ieee.proofs.DirectedOne.{pinned-one}
 use Rattle.ieee.proofs.DirectionOrder.{directions-ordered, toward-zero}
 use Rattle.ieee.proofs.InexactFlag.{silent}
 use Rattle.ieee.proofs.ExactQuotients.{exact-quotient, over-one, over-itself}
+use Rattle.ieee.proofs.Signalling.{signals, silent-nan}
 use Rattle.ieee.proofs.SignSymmetry.{turned-neg, dividend-turned, divisor-turned}
 
 -- an answer without a refusal is its pattern and flags
@@ -67,6 +68,8 @@ module _ (t : List ℕ) (p : Passes t) where
     exact = λ d a b q l f w y s. answer-is d a b l (exact-quotient d a b q (means d a b l) (f .dividend) (f .divisor) w y s);
     over-one = λ d a l w h. answer-is d a one l (over-one d a (means d a one l) w h);
     over-itself = λ d a l h. answer-is d a a l (over-itself d a (means d a a l) h);
+    signalling = λ d a b l. signals d a b (means d a b l);
+    quiet = λ d a b l. silent-nan d a b (means d a b l);
     dividend-turned = λ d a b l w. let o = dividend-turned d a b l w (means d (turned a) b l) (means (mirrored d) a b (mirrored-span d)) in record { value = o .0; flags = o .1 };
     divisor-turned = λ d a b l w. let o = divisor-turned d a b l w (means d a (turned b) l) (means (mirrored d) a b (mirrored-span d)) in record { value = o .0; flags = o .1 };
   }

@@ -11,4 +11,5 @@ pub mod DirectionOrder
 pub mod InexactFlag
 pub mod ExactQuotients
 pub mod SignSymmetry
+pub mod Signalling
 pub mod Ieee754

@@ -3,8 +3,8 @@
 use mathlib.Core.Path.{_≡_}
 use mathlib.Core.Bool.{false, not, cond}
 use mathlib.Core.List.{List}
-use mathlib.Core.Logic.{_↔_}
-use Prim.Native.Nat.{ℕ, _^_, _≤_, _<_}
+use mathlib.Core.Logic.{_↔_, _⊎_}
+use Prim.Native.Nat.{ℕ, _/_, _%_, _^_, _≤_, _<_}
 use lib.IntN.{pos}
 use lib.Dec.{T}
 use lib.Ieee.{Float, nan, inf, fin, le, neg, isNan}
@@ -31,6 +31,10 @@ pub record Opposite (x y : Binary64Answer) : Type 0 where
 abbrev pub unflagged : ℕ → Binary64Answer
 unflagged p = binary64Values (record { pattern = p; flags = 0 })
 
+-- the pattern is a not-a-number's, and its top fraction bit is 0
+abbrev pub Signals : ℕ → Type 0
+Signals p = (valueOf p ≡ nan) × (p / 2 ^ 51 % 2 ≡ 0)
+
 pub record IeeeThrough (t : List ℕ) : Type 0 where
   -- in direction 0 the language's own quotient
   pub language : LanguageQuotient t
@@ -46,6 +50,9 @@ pub record IeeeThrough (t : List ℕ) : Type 0 where
       → binary64Of t direction a b ≡ unflagged q
   pub over-one : (direction a : ℕ) → direction ≤ 3 → a < 2 ^ 64 → T (not (isNan (valueOf a))) → binary64Of t direction a one ≡ unflagged a
   pub over-itself : (direction a : ℕ) → direction ≤ 3 → 0 < num (valueOf a) → binary64Of t direction a a ≡ unflagged one
+  -- invalid is raised where either operand signals, and a quiet not-a-number alone raises nothing
+  pub signalling : (direction a b : ℕ) → direction ≤ 3 → Signals a ⊎ Signals b → binary64Of t direction a b .flags ≡ 16
+  pub quiet : (direction a b : ℕ) → direction ≤ 3 → (valueOf a ≡ nan) ⊎ (valueOf b ≡ nan) → (Signals a → ⊥) → (Signals b → ⊥) → binary64Of t direction a b .flags ≡ 0
   -- turning an operand's sign turns the answer's, and exchanges up and down
   pub dividend-turned : (direction a b : ℕ) → direction ≤ 3 → a < 2 ^ 64 → Opposite (binary64Of t direction (turned a) b) (binary64Of t (mirrored direction) a b)
   pub divisor-turned : (direction a b : ℕ) → direction ≤ 3 → b < 2 ^ 64 → Opposite (binary64Of t direction a (turned b)) (binary64Of t (mirrored direction) a b)

@@ -132,6 +132,7 @@ pub fn landmarks() -> Vec<u64> {
         }
     }
     list.extend([INFINITY, INFINITY + 1, INFINITY | 1 << 51, INFINITY | FRACTION]);
+    list.extend([INFINITY | ((1 << 51) - 1), INFINITY | 1 << 51 | 1]);
     let signed: Vec<u64> = list.iter().map(|x| x | SIGN).collect();
     list.extend(signed);
     list

@@ -185,8 +185,8 @@ fn whole_numbers() {
 fn binary64() {
     let tables = tables();
     let lent: Vec<_> = tables.iter().map(|(t, n, p)| (Some(t.as_slice()), (*n, *p))).collect();
-    let nan = 0x7FF8_0000_0000_0001u64;
-    let values = [0, 1, 1 << 63, 0x3FF0 << 48, 0x4008 << 48, 0x7FEF_FFFF_FFFF_FFFF, 0x7FF0 << 48, nan];
+    let (quiet, signalling) = (0x7FF8_0000_0000_0001u64, 0x7FF0_0000_0000_0001u64);
+    let values = [0, 1, 1 << 63, 0x3FF0 << 48, 0x4008 << 48, 0x7FEF_FFFF_FFFF_FFFF, 0x7FF0 << 48, quiet, signalling];
     for (table, faults) in lent.into_iter().chain([(None, (0, 0))]) {
         for direction in [0, 1, 2, 3, 4, 5, 1 << 32, u64::MAX] {
             for a in values {

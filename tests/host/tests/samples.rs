@@ -58,15 +58,17 @@ fn classes_and_flags() {
         for &mark in &marks {
             compare(&made, &marks, &vec![mark; marks.len()], 1, direction);
         }
-        // inexact; inexact and underflow; inexact and overflow; by zero; invalid
-        let raising = [(one, three), (1, three), (0x7FEF << 48, 1), (one, 0), (0, 0)];
+        // inexact; inexact and underflow; inexact and overflow; by zero; invalid; a signalling not-a-number; a quiet one
+        let (signalling, quiet) = (0x7FF0_0000_0000_0001, 0x7FF8 << 48);
+        let raising =
+            [(one, three), (1, three), (0x7FEF << 48, 1), (one, 0), (0, 0), (one, signalling), (quiet, one)];
         for (k, &(a, b)) in raising.iter().enumerate() {
             for at in 0..7 {
                 let mut currents = vec![one; 7];
                 let mut sensitivities = vec![one; 7];
                 (currents[at], sensitivities[at]) = (a, b);
                 let flags = compare(&made, &currents, &sensitivities, 2, direction);
-                assert_eq!(flags, [1, 3, 5, 8, 16][k], "sample {at}");
+                assert_eq!(flags, [1, 3, 5, 8, 16, 16, 0][k], "sample {at}");
                 (currents[(at + 3) % 7], sensitivities[(at + 3) % 7]) = (a, b);
                 assert_eq!(compare(&made, &currents, &sensitivities, 0, direction), flags, "the same flag twice");
             }

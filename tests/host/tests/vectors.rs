@@ -1,8 +1,7 @@
 //! Would catch a public IEEE vector on which the unit, the processor and the exact divider do not all give the vector's
-//! pattern and flags; and a file of vectors that is missing, cut short or not in its form. A NaN operand gives document
-//! 01's pattern and no flag, without asking the processor.
+//! pattern and flags; and a file of vectors that is missing, cut short or not in its form.
 use host::calls::{divide_binary64, Binary64};
-use host::dividers::{exact, is_nan, processor, NAN};
+use host::dividers::{exact, processor, signals};
 use host::document::rule;
 
 /// The files, each with its number of lines.
@@ -10,7 +9,7 @@ const FILES: [(&str, usize); 5] = [
     ("div-glibc.txt", 1_136),
     ("div-llvm.txt", 28),
     ("div-mpfr.txt", 12),
-    ("div-nan.txt", 246),
+    ("div-nan.txt", 400),
     ("div-testfloat.txt", 4_676),
 ];
 const FOLDER: &str = concat!(env!("CARGO_MANIFEST_DIR"), "/../../crates/vectors/data");
@@ -44,17 +43,14 @@ fn vectors(file: &str) -> Vec<Vector> {
 #[test]
 fn unit_processor_and_exact_divider_give_each_vector() {
     let farthest = rule().farthest();
-    let mut not_numbers = 0;
+    let mut signalling = 0;
     for (file, count) in FILES {
         let list = vectors(file);
         assert_eq!(list.len(), count, "{file}");
         for Vector { a, b, direction, pattern, flags } in list {
             let what = format!("{file}: {a:016x} / {b:016x}, direction {direction}");
             let want = (pattern, flags);
-            if is_nan(a) || is_nan(b) {
-                assert_eq!(want, (NAN, 0), "{what}");
-                not_numbers += 1;
-            }
+            signalling += u64::from(signals(a) || signals(b));
             assert_eq!(processor(a, b, direction), want, "the processor, {what}");
             assert_eq!(exact(a, b, direction), want, "the exact divider, {what}");
             for table in [None, Some(&farthest[..])] {
@@ -63,7 +59,7 @@ fn unit_processor_and_exact_divider_give_each_vector() {
             }
         }
     }
-    assert!(not_numbers >= 246, "{not_numbers}");
+    assert_eq!(signalling, 156);
 }
 
 #[test]
