@@ -50,9 +50,9 @@ extern "C" {
 #endif
 
 /* The version of these calls; CHANGELOG.md tells what changed. */
-#define QUENDARIC_VERSION "1.2.0"
+#define QUENDARIC_VERSION "1.3.0"
 #define QUENDARIC_VERSION_MAJOR 1
-#define QUENDARIC_VERSION_MINOR 2
+#define QUENDARIC_VERSION_MINOR 3
 #define QUENDARIC_VERSION_PATCH 0
 
 #define QUENDARIC_TABLE_LENGTH 2048
@@ -209,7 +209,7 @@ QUENDARIC_ANSWER
 quendaric_whole quendaric_divide_whole_kept(uint64_t a, uint64_t b);
 
 /* IEEE 754 binary64 division of two patterns (a double's 64 bits), rounded once in the direction, through the table.
-   A NaN operand, quiet or signalling, gives 7FF8000000000000 and no flag; IEEE 754 raises invalid for a signalling one.
+   A NaN operand gives 7FF8000000000000, and the flag invalid exactly if an operand is a signalling one.
    Checks the table on each call, whatever the operands. Refuses 6, 8, 9, 10, and then with the pattern 0, which reads as
    0.0: look at the refusal first. */
 QUENDARIC_ANSWER
