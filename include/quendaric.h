@@ -50,19 +50,19 @@ extern "C" {
 #endif
 
 /* The version of these calls; CHANGELOG.md tells what changed. */
-#define QUENDARIC_VERSION "1.3.0"
+#define QUENDARIC_VERSION "1.4.0"
 #define QUENDARIC_VERSION_MAJOR 1
-#define QUENDARIC_VERSION_MINOR 3
+#define QUENDARIC_VERSION_MINOR 4
 #define QUENDARIC_VERSION_PATCH 0
 
 #define QUENDARIC_TABLE_LENGTH 2048
-#define QUENDARIC_MOST_DIGITS 31
+#define QUENDARIC_MOST_DIGITS 28
 #define QUENDARIC_WIDEST_WINDOW 4096
 #define QUENDARIC_STACK 512
 
 /* Refusals. 8 to 10 are the table maker's to mend, the others the caller's. */
 #define QUENDARIC_REFUSED_CELL 1      /* row above 15 or column above 127 */
-#define QUENDARIC_REFUSED_DIGITS 2    /* number of digits 0 or above 31 */
+#define QUENDARIC_REFUSED_DIGITS 2    /* number of digits 0 or above 28 */
 #define QUENDARIC_REFUSED_SPAN 3      /* dividend or divisor outside its span */
 #define QUENDARIC_REFUSED_TOO_LARGE 4 /* a or b is 2^60 or more */
 #define QUENDARIC_REFUSED_BY_ZERO 5   /* b is 0 */
@@ -185,7 +185,7 @@ quendaric_limits quendaric_row_limits(uint64_t row);
 QUENDARIC_ANSWER
 quendaric_made quendaric_make_table(uint8_t *buffer, size_t length);
 
-/* A run: n = digits quotient digits of dividend / divisor through the table, 1 to 31 of them.
+/* A run: n = digits quotient digits of dividend / divisor through the table, 1 to 28 of them.
    The dividend is from 0 to 2^61 - 1, the divisor from 2^60 to 2^61 - 1. The digits, each as q + 2, are written one a
    byte to buffer[place] to buffer[place + digits - 1], the first digit first; no other byte is written.
    dividend * 4^(digits - 1) = quotient * divisor + remainder, with remainder < divisor.

@@ -236,31 +236,31 @@ static void lent_alone(void) {
   printf("\n");
 }
 
-/* Time over n from 1 to 31 digits, and the straight line nearest to it. */
+/* Time over n digits, from 1 to the most, and the straight line nearest to it. */
 static void growth(void) {
   static const char *const names[] = {"run-plain", "run-ahead", "run-kept"};
-  static const int shown[] = {1, 7, 14, 21, 28, 31};
-  double best[3][32] = {{0}};
+  static const int shown[] = {1, 7, 14, 21, 28};
+  double best[3][QUENDARIC_MOST_DIGITS + 1] = {{0}};
   for (int round = 0; round < ROUNDS / 4; round++)
-    for (digits = 1; digits <= 31; digits++)
+    for (digits = 1; digits <= QUENDARIC_MOST_DIGITS; digits++)
       for (int j = 0; j < 3; j++) {
         measure m = *named(names[j]);
         keep(&best[j][digits], timed(&m, 0));
       }
   digits = 28;
   printf("growth over n digits, ns:");
-  for (int k = 0; k < 6; k++)
+  for (int k = 0; k < 5; k++)
     printf("%8s%-2d", "n = ", shown[k]);
   printf("   nearest line\n");
   for (int j = 0; j < 3; j++) {
-    double n = 31, sx = 0, sy = 0, sxx = 0, sxy = 0, most = 0;
-    for (int k = 1; k <= 31; k++)
+    double n = QUENDARIC_MOST_DIGITS, sx = 0, sy = 0, sxx = 0, sxy = 0, most = 0;
+    for (int k = 1; k <= QUENDARIC_MOST_DIGITS; k++)
       sx += k, sy += best[j][k], sxx += k * k, sxy += k * best[j][k];
     double slope = (n * sxy - sx * sy) / (n * sxx - sx * sx), start = (sy - slope * sx) / n;
-    for (int k = 1; k <= 31; k++)
+    for (int k = 1; k <= QUENDARIC_MOST_DIGITS; k++)
       most = fmax(most, fabs(best[j][k] - start - slope * k));
     printf("%-25s", names[j]);
-    for (int k = 0; k < 6; k++)
+    for (int k = 0; k < 5; k++)
       printf("%10.1f", best[j][shown[k]]);
     printf("   %.1f + %.2f n, within %.1f\n", start, slope, most);
   }

@@ -101,12 +101,12 @@ static void refused_runs(const uint8_t *table) {
   memcpy(bad, table, sizeof bad);
   bad[215] = 2;
   SAME(quendaric_run_kept(1, one, 0, buffer, length, 0).refusal, QUENDARIC_REFUSED_DIGITS);
-  SAME(quendaric_run_kept(1, one, 32, buffer, length, 0).refusal, QUENDARIC_REFUSED_DIGITS);
+  SAME(quendaric_run_kept(1, one, QUENDARIC_MOST_DIGITS + 1, buffer, length, 0).refusal, QUENDARIC_REFUSED_DIGITS);
   SAME(quendaric_run_kept(1, one - 1, 28, buffer, length, 0).refusal, QUENDARIC_REFUSED_SPAN);
   SAME(quendaric_run_kept(2 * one, one, 28, buffer, length, 0).refusal, QUENDARIC_REFUSED_SPAN);
   SAME(quendaric_run_kept(1, one, 28, buffer, length, 13).refusal, QUENDARIC_REFUSED_ROOM);
   SAME(quendaric_run_kept(1, one, 28, buffer, length, SIZE_MAX).refusal, QUENDARIC_REFUSED_ROOM);
-  SAME(quendaric_run(table, sizeof bad, 1, one, 32, buffer, length, 0).refusal, QUENDARIC_REFUSED_DIGITS);
+  SAME(quendaric_run(table, sizeof bad, 1, one, 29, buffer, length, 0).refusal, QUENDARIC_REFUSED_DIGITS);
   SAME(quendaric_run(table, sizeof bad, 1, 0, 28, buffer, length, 0).refusal, QUENDARIC_REFUSED_SPAN);
   SAME(quendaric_run(bad, 5, 1, one, 28, buffer, length, 13).refusal, QUENDARIC_REFUSED_ROOM);
   SAME(quendaric_run(bad, 5, 1, one, 28, buffer, length, 0).refusal, QUENDARIC_REFUSED_LENGTH);

@@ -26,7 +26,7 @@ static uint64_t bits(void) {
 
 /* One of the calls. */
 static void call(void) {
-  const size_t size = sizeof table, room = sizeof buffer, digits = 1 + a % 31;
+  const size_t size = sizeof table, room = sizeof buffer, digits = 1 + a % QUENDARIC_MOST_DIGITS;
   const uint64_t dividend = a >> 3, divisor = (uint64_t)1 << 60 | b >> 4, x = a >> (4 + b % 60),
                  y = b >> (4 + a % 60) | 1;
   __asm__ volatile("mov %%rsp, %0" : "=r"(pointer));

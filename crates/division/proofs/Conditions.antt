@@ -9,7 +9,7 @@ use Rattle.selection.specs.declared.Admission.{Admission}
 use Rattle.selection.proofs.Ladders.{rung-holds, rung-past}
 use Rattle.selection.proofs.Verdicts.{cell-row-column, cell-byte}
 use Rattle.recurrence.specs.Recurrence.{Operands, resultOf}
-use Rattle.recurrence.specs.Run.{longest, runRungs, runZeros, runValues, runOf}
+use Rattle.recurrence.specs.Run.{mostDigits, runRungs, runZeros, runValues, runOf}
 use Rattle.division.specs.Whole.{wholeRungs, wholeZeros, wholeValues, wholeOf}
 use Rattle.division.specs.WholeSteps.{wholeThrough}
 use Rattle.division.specs.Binary64.{binary64Rungs, binary64Zeros, binary64Values, binary64Of}
@@ -20,7 +20,7 @@ use Rattle.division.specs.Demand1.{Conditions}
 
 module _ (t : List ℕ) (N D n : ℕ) (b : List ℕ) (place : ℕ) where
   wrong-count : Condition
-  wrong-count = eitherOf (same n 0) (below longest n)
+  wrong-count = eitherOf (same n 0) (below mostDigits n)
 
   -- the rungs after the first, and after the second
   later : List Rung
@@ -29,21 +29,21 @@ module _ (t : List ℕ) (N D n : ℕ) (b : List ℕ) (place : ℕ) where
   wrong-operands : Condition
   wrong-operands = eitherOf (below D (2 ^ 60)) (eitherOf (below (2 ^ 61 - 1) D) (below (2 ^ 61 - 1) N))
 
-  digits : (n ≡ 0) ⊎ (31 < n) → runOf t N D n b place ≡ runZeros (refusal 2 0)
+  digits : (n ≡ 0) ⊎ (28 < n) → runOf t N D n b place ≡ runZeros (refusal 2 0)
   unfolding runRungs wrong-count wrong-operands later
   digits h = ap (answerBy runZeros (runValues (resultOf t N D n))) (rung-holds 2 0 wrong-count (number 3 wrong-operands ∷ later) h)
 
-  counted : 1 ≤ n → n ≤ 31 → ladder (runRungs N D n (length b) place ++ tableRungs t) ≡ ladder (number 3 wrong-operands ∷ later)
+  counted : 1 ≤ n → n ≤ 28 → ladder (runRungs N D n (length b) place ++ tableRungs t) ≡ ladder (number 3 wrong-operands ∷ later)
   unfolding runRungs wrong-count wrong-operands later
   counted h l = rung-past 2 0 wrong-count (number 3 wrong-operands ∷ later) (⊎-elim (λ x. omega arith) (λ x. omega arith))
 
-  operands : 1 ≤ n → n ≤ 31 → (D < 2 ^ 60) ⊎ ((2 ^ 61 ≤ D) ⊎ (2 ^ 61 ≤ N)) → runOf t N D n b place ≡ runZeros (refusal 3 0)
+  operands : 1 ≤ n → n ≤ 28 → (D < 2 ^ 60) ⊎ ((2 ^ 61 ≤ D) ⊎ (2 ^ 61 ≤ N)) → runOf t N D n b place ≡ runZeros (refusal 3 0)
   unfolding wrong-operands
   operands h l w =
       ap (answerBy runZeros (runValues (resultOf t N D n)))
       (counted h l ∙ rung-holds 3 0 wrong-operands later (⊎-elim inl (λ v. inr (⊎-elim (λ x. inl (omega arith)) (λ x. inr (omega arith)) v)) w))
 
-  buffer : Operands N D → 1 ≤ n → n ≤ 31 → length b < place + n → runOf t N D n b place ≡ runZeros (refusal 7 0)
+  buffer : Operands N D → 1 ≤ n → n ≤ 28 → length b < place + n → runOf t N D n b place ≡ runZeros (refusal 7 0)
   unfolding wrong-operands later
   buffer o h l w =
       ap (answerBy runZeros (runValues (resultOf t N D n)))

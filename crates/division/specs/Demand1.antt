@@ -46,9 +46,9 @@ pub record Conditions : Type 0 where
   pub byte : (r c b : ℕ) → r ≤ 15 → c ≤ 127 → 4 < b → cellNumbers (cellOf r c b) ≡ cellZeros (refusal 9 (128 * r + c))
   pub row : (r : ℕ) → 15 < r → rowLimitsOf r ≡ limitsZeros (refusal 1 0)
   pub room : (s : List ℕ) → length s < 2048 → makeOf s ≡ refusal 7 0
-  pub digits : (t : List ℕ) (N D n : ℕ) (b : List ℕ) (place : ℕ) → (n ≡ 0) ⊎ (31 < n) → runOf t N D n b place ≡ runZeros (refusal 2 0)
-  pub operands : (t : List ℕ) (N D n : ℕ) (b : List ℕ) (place : ℕ) → 1 ≤ n → n ≤ 31 → (D < 2 ^ 60) ⊎ ((2 ^ 61 ≤ D) ⊎ (2 ^ 61 ≤ N)) → runOf t N D n b place ≡ runZeros (refusal 3 0)
-  pub buffer : (t : List ℕ) (N D n : ℕ) (b : List ℕ) (place : ℕ) → Operands N D → 1 ≤ n → n ≤ 31 → length b < place + n → runOf t N D n b place ≡ runZeros (refusal 7 0)
+  pub digits : (t : List ℕ) (N D n : ℕ) (b : List ℕ) (place : ℕ) → (n ≡ 0) ⊎ (28 < n) → runOf t N D n b place ≡ runZeros (refusal 2 0)
+  pub operands : (t : List ℕ) (N D n : ℕ) (b : List ℕ) (place : ℕ) → 1 ≤ n → n ≤ 28 → (D < 2 ^ 60) ⊎ ((2 ^ 61 ≤ D) ⊎ (2 ^ 61 ≤ N)) → runOf t N D n b place ≡ runZeros (refusal 3 0)
+  pub buffer : (t : List ℕ) (N D n : ℕ) (b : List ℕ) (place : ℕ) → Operands N D → 1 ≤ n → n ≤ 28 → length b < place + n → runOf t N D n b place ≡ runZeros (refusal 7 0)
   pub large : (t : List ℕ) (a b : ℕ) → (2 ^ 60 ≤ a) ⊎ (2 ^ 60 ≤ b) → wholeOf t a b ≡ wholeZeros (refusal 4 0)
   pub by-zero : (t : List ℕ) (a : ℕ) → a < 2 ^ 60 → wholeOf t a 0 ≡ wholeZeros (refusal 5 0)
   pub direction : (t : List ℕ) (d a b : ℕ) → 3 < d → binary64Of t d a b ≡ binary64Zeros (refusal 6 0)

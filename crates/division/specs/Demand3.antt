@@ -26,8 +26,8 @@ pub record SameThrough (t u : List ℕ) : Type 0 where
   pub concentrations : (direction : ℕ) (currents sensitivities given : List ℕ) → concentrationsOf t direction currents sensitivities given ≡ concentrationsOf u direction currents sensitivities given
 
 pub record Demand3 : Type 0 where
-  -- all n steps of every run through a table that passes, together
-  pub runs : (t : List ℕ) → Passes t → (N D n : ℕ) (b : List ℕ) (place : ℕ) → Operands N D → 1 ≤ n → n ≤ 31 → place + n ≤ length b → RunClaim t N D n b place
+  -- all n steps of every run of a caller through a table that passes, together
+  pub runs : (t : List ℕ) → Passes t → (N D n : ℕ) (b : List ℕ) (place : ℕ) → Operands N D → 1 ≤ n → n ≤ 28 → place + n ≤ length b → RunClaim t N D n b place
   -- the same answers through any two tables that pass
   pub same : (t u : List ℕ) → Passes t → Passes u → SameThrough t u
   -- the check refuses exactly when some point leads out of the range

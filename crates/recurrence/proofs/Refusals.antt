@@ -8,7 +8,7 @@ use Rattle.selection.specs.declared.Admission.the-variants as A
 use Rattle.selection.proofs.Ladders.{Ladder, not-below, clear, admits}
 use Rattle.selection.proofs.Orders.{lent}
 use Rattle.recurrence.specs.Recurrence.{Operands, digits, resultOf}
-use Rattle.recurrence.specs.Run.{longest, runRungs, written, runZeros, runValues, runOf, bufferOf}
+use Rattle.recurrence.specs.Run.{longest, mostDigits, runRungs, written, runZeros, runValues, runOf, bufferOf}
 use Rattle.recurrence.specs.declared.RunAnswer.{RunAnswer}
 
 module _ (N D n len place : ℕ) where
@@ -30,12 +30,12 @@ module _ (N D n len place : ℕ) where
       let some : 1 ≤ n = not-below (λ (h : n < 1). a 2 0 (inl (refl, (refl, inl (omega arith))))) in (
         record { dividend = omega arith; least = not-below (λ h. a 3 0 (inr (inl (refl, (refl, inl h))))); most = omega arith },
         some,
-        not-below (λ h. a 2 0 (inl (refl, (refl, inr h)))),
+        (let l : n ≤ mostDigits = not-below (λ h. a 2 0 (inl (refl, (refl, inr h)))) in omega arith),
         not-below (λ h. a 7 0 (inr (inr (inl (refl, (refl, h)))))),
       )
 
   -- and the other way round
-  pub no-refusal : Operands N D → 1 ≤ n → n ≤ longest → place + n ≤ len → ladder (runRungs N D n len place) ≡ A.Admitted
+  pub no-refusal : Operands N D → 1 ≤ n → n ≤ mostDigits → place + n ≤ len → ladder (runRungs N D n len place) ≡ A.Admitted
   unfolding runRungs
   no-refusal o h l r =
       admits run-ladder (λ m p.

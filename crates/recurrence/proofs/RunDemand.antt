@@ -11,7 +11,7 @@ use Rattle.selection.specs.declared.Admission.{Admission}
 use Rattle.selection.specs.declared.Admission.the-variants.{Admitted, Refused}
 use Rattle.selection.proofs.Orders.{passed-last}
 use Rattle.recurrence.specs.Recurrence.{Operands, residue, cellAt, nextOf, after, digitOf, digits, value, endRemainder, correctedQuotient, correctedRemainder, resultOf}
-use Rattle.recurrence.specs.Run.{longest, runRungs, written, runZeros, runValues, runOf}
+use Rattle.recurrence.specs.Run.{mostDigits, runRungs, written, runZeros, runValues, runOf}
 use Rattle.recurrence.specs.Demand.{RunAnswered, RunClaim}
 use Rattle.recurrence.specs.declared.RunAnswer.{RunAnswer}
 use Rattle.recurrence.specs.declared.RunResult.{RunResult}
@@ -69,7 +69,7 @@ module _ (t : List ℕ) (N D n S : ℕ) (k : Invariant t N D n S) (h : 1 ≤ n) 
 pub result-divides : (t : List ℕ) (N D n : ℕ) → Passes t → Operands N D → 1 ≤ n → resultOf t N D n ≡ divided (N * 4 ^ (n - 1)) D n
 result-divides t N D n p o h = result-divided t N D n _ (invariant-after t N D p o n .1) h
 
-pub run-claim : (t : List ℕ) → Passes t → (N D n : ℕ) (b : List ℕ) (place : ℕ) → Operands N D → 1 ≤ n → n ≤ longest → place + n ≤ length b → RunClaim t N D n b place
+pub run-claim : (t : List ℕ) → Passes t → (N D n : ℕ) (b : List ℕ) (place : ℕ) → Operands N D → 1 ≤ n → n ≤ mostDigits → place + n ≤ length b → RunClaim t N D n b place
 unfolding resultOf
 run-claim t p N D n b place o h l r =
     let g = passed-last p (runRungs N D n (length b) place) ∙ no-refusal N D n (length b) place o h l r in

@@ -10,14 +10,18 @@ use Rattle.recurrence.specs.Recurrence.{digits, resultOf}
 use Rattle.recurrence.specs.declared.RunResult.{RunResult}
 use Rattle.recurrence.specs.declared.RunAnswer.{RunAnswer}
 
--- the most digits that a run gives
+-- the most digits that the recurrence gives: whole-number division needs so many
 abbrev pub longest : ℕ
 longest = 31
 
--- what a run refuses of its arguments. 2: n is 0 or above the most. 3: D or N outside its span, from 2^60 to 2^61 - 1 and from 0 to 2^61 - 1. 7: the buffer ends before the last byte to write
+-- the most digits that a caller may ask for
+abbrev pub mostDigits : ℕ
+mostDigits = 28
+
+-- what a run refuses of its arguments. 2: n is 0 or above the most that a caller may ask for. 3: D or N outside its span, from 2^60 to 2^61 - 1 and from 0 to 2^61 - 1. 7: the buffer ends before the last byte to write
 unfoldable pub runRungs : ℕ → ℕ → ℕ → ℕ → ℕ → List Rung
 runRungs N D n len place =
-    number 2 (eitherOf (same n 0) (below longest n))
+    number 2 (eitherOf (same n 0) (below mostDigits n))
     ∷ number 3 (eitherOf (below D (2 ^ 60)) (eitherOf (below (2 ^ 61 - 1) D) (below (2 ^ 61 - 1) N)))
     ∷ number 7 (below len (place + n))
     ∷ []

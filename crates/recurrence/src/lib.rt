@@ -28,8 +28,11 @@ const DIVISOR_LEAST: u64 = 0x1000_0000_0000_0000;
 
 const OPERAND_MOST: u64 = 0x1fff_ffff_ffff_ffff;
 
-// The most digits that a run gives.
+// The most digits that `run_row` gives: whole-number division needs so many, and has room for them.
 pub const LONGEST: usize = 31;
+
+// The most digits that a caller may ask for.
+const MOST_DIGITS: usize = 28;
 
 // The state of a run: the partial remainder in carry-save form, the divisor, the column of the two words, and the digit of the last step.
 struct RunState {
@@ -223,7 +226,7 @@ fn argument_refusal(dividend: u64, divisor: u64, n: usize, len: usize, place: us
     if n == 0 {
         return refused(2);
     }
-    if LONGEST < n {
+    if MOST_DIGITS < n {
         return refused(2);
     }
     if divisor < DIVISOR_LEAST {

@@ -78,7 +78,7 @@ fn made_table_at_any_address() {
 /// Table and buffer at every pair of offsets, and through the kept table.
 #[test]
 fn runs_at_any_address() {
-    const DIGITS: usize = 31;
+    const DIGITS: usize = 28;
     let (dividend, divisor) = (2023347993445111535, 1297036692411679568);
     let made = rule().made();
     let all = tables().into_iter().map(|(table, refusal, place)| (Some(table), refusal, place));

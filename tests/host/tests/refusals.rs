@@ -111,7 +111,7 @@ fn runs() {
     let (low, high) = (1u64 << 60, (1u64 << 61) - 1);
     let mut seen = std::collections::BTreeMap::new();
     for (table, faults) in all {
-        for digits in [0, 1, 28, 31, 32, usize::MAX] {
+        for digits in [0, 1, 28, 29, 30, 31, 32, usize::MAX] {
             for (dividend, divisor) in [
                 (0, low),
                 (high, high),
@@ -135,7 +135,7 @@ fn runs() {
                 ] {
                     let fits = place <= length && length - place >= digits;
                     let conditions = [
-                        (2, digits == 0 || digits > 31),
+                        (2, digits == 0 || digits > 28),
                         (3, !(low..=high).contains(&divisor) || dividend > high),
                         (7, !fits),
                     ];

@@ -57,7 +57,7 @@ fn kept_table() {
     let made = rule().made();
     for turn in 0..300_000 {
         let (dividend, divisor) = operands(&mut draw);
-        check(None, &made, dividend, divisor, 1 + turn % 31, &mut draw);
+        check(None, &made, dividend, divisor, 1 + turn % 28, &mut draw);
     }
 }
 
@@ -71,7 +71,7 @@ fn lent_passing_tables() {
     for table in &tables {
         for turn in 0..400 {
             let (dividend, divisor) = operands(&mut draw);
-            check(Some(table), table, dividend, divisor, 1 + turn % 31, &mut draw);
+            check(Some(table), table, dividend, divisor, 1 + turn % 28, &mut draw);
         }
     }
 }
