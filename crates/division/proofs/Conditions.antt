@@ -16,6 +16,8 @@ use Rattle.division.specs.Binary64.{binary64Rungs, binary64Zeros, binary
 use Rattle.division.specs.Binary64Steps.{binary64Through}
 use Rattle.division.specs.Samples.{samplesRungs, samplesZeros, samplesValues, flagsThrough, samplesOf}
 use Rattle.division.specs.declared.samples.SamplesAnswer.{SamplesAnswer}
+use Rattle.division.specs.RootSteps.{wholeRoot, rootOf}
+use Rattle.division.specs.RootCalls.{rootRungs, rootZeros, rootValues, rootWholeOf, rootBinary64Of}
 use Rattle.division.specs.Demand1.{Conditions}
 
 module _ (t : List ℕ) (N D n : ℕ) (b : List ℕ) (place : ℕ) where
@@ -92,6 +94,14 @@ module _ (t : List ℕ) (d : ℕ) (xs ys given : List ℕ) where
       ap answer
       (directed h ∙ rung-past 11 0 (differ (length xs) (length ys)) (number 7 (below (length given) (length xs)) ∷ tableRungs t) (λ x. x e) ∙ rung-holds 7 0 (below (length given) (length xs)) (tableRungs t) w)
 
+root-large : (a : ℕ) → 2 ^ 60 ≤ a → rootWholeOf a ≡ rootZeros (refusal 4 0)
+unfolding rootRungs
+root-large a h = ap (answerBy rootZeros (rootValues a (wholeRoot a))) (rung-holds 4 0 (atMost (2 ^ 60) a) [] h)
+
+root-direction : (d p : ℕ) → 3 < d → rootBinary64Of d p ≡ binary64Zeros (refusal 6 0)
+unfolding binary64Rungs
+root-direction d p h = ap (answerBy binary64Zeros (binary64Values (rootOf d p))) (rung-holds 6 0 (below 3 d) [] h)
+
 pub conditions : Conditions
 conditions = record {
   row-column = cell-row-column;
@@ -107,4 +117,6 @@ conditions = record {
   samples-direction = samples-direction;
   samples-lengths = samples-lengths;
   samples-room = samples-room;
+  root-large = root-large;
+  root-direction = root-direction;
 }

@@ -23,10 +23,13 @@ use Rattle.division.specs.WholeSteps.{wholeThrough}
 use Rattle.division.specs.Binary64.{binary64Rungs, binary64Zeros, binary64Values}
 use Rattle.division.specs.Binary64Steps.{binary64Through}
 use Rattle.division.specs.Samples.{samplesZeros, samplesValues, flagsThrough, filledThrough}
+use Rattle.division.specs.RootSteps.{wholeRoot, rootOf}
+use Rattle.division.specs.RootCalls.{rootZeros, rootValues}
 use Rattle.division.specs.Demand1.{Carries, CheckRefuses, RefusesLent, RunRefuses, Demand1}
 use Rattle.division.proofs.Conditions.{conditions}
 use Rattle.division.proofs.Calls.{whole-ladder, whole-lent, binary64-ladder, binary64-lent}
 use Rattle.division.proofs.SampleRuns.{samples-lent}
+use Rattle.division.proofs.RootCalls.{root-ladder}
 
 -- the check, from its report
 module _ (t : List ℕ) where
@@ -93,4 +96,6 @@ demand-1 =
       run-kept = λ N D n b place. run-refuses N D n b place madeTable (run-ladder N D n (length b) place) (passed-last kept-passes (runRungs N D n (length b) place));
       whole-kept = λ a b. refuses (whole-ladder a b) (λ x. x .refusal) wholeZeros (wholeValues (wholeThrough madeTable a b)) refl (λ f. refl) (passed-last kept-passes (wholeRungs a b));
       binary64-kept = λ direction a b. refuses (binary64-ladder direction) (λ x. x .refusal) binary64Zeros (binary64Values (binary64Through madeTable direction a b)) refl (λ f. refl) (passed-last kept-passes (binary64Rungs direction));
+      root-whole = λ a. refuses (root-ladder a) (λ x. x .refusal) rootZeros (rootValues a (wholeRoot a)) refl (λ f. refl) refl;
+      root-binary64 = λ direction p. refuses (binary64-ladder direction) (λ x. x .refusal) binary64Zeros (binary64Values (rootOf direction p)) refl (λ f. refl) refl;
     }

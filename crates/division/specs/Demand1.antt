@@ -18,6 +18,7 @@ use Rattle.recurrence.specs.Run.{runRungs, runZeros, runOf, bufferOf}
 use Rattle.division.specs.Whole.{wholeRungs, wholeZeros, wholeOf}
 use Rattle.division.specs.Binary64.{binary64Rungs, binary64Zeros, binary64Of}
 use Rattle.division.specs.Samples.{samplesRungs, samplesZeros, samplesOf, concentrationsOf}
+use Rattle.division.specs.RootCalls.{rootRungs, rootZeros, rootWholeOf, rootBinary64Of}
 
 -- what the check's refusal 10 at the place p carries: the number of bad cells, the first of them, its witness
 pub record Carries (t : List ℕ) (p : ℕ) (x : ReportNumbers) : Type 0 where
@@ -55,6 +56,8 @@ pub record Conditions : Type 0 where
   pub samples-direction : (t : List ℕ) (d : ℕ) (currents sensitivities given : List ℕ) → 3 < d → samplesOf t d currents sensitivities given ≡ samplesZeros (refusal 6 0)
   pub samples-lengths : (t : List ℕ) (d : ℕ) (currents sensitivities given : List ℕ) → d ≤ 3 → (length currents ≡ length sensitivities → ⊥) → samplesOf t d currents sensitivities given ≡ samplesZeros (refusal 11 0)
   pub samples-room : (t : List ℕ) (d : ℕ) (currents sensitivities given : List ℕ) → d ≤ 3 → length currents ≡ length sensitivities → length given < length currents → samplesOf t d currents sensitivities given ≡ samplesZeros (refusal 7 0)
+  pub root-large : (a : ℕ) → 2 ^ 60 ≤ a → rootWholeOf a ≡ rootZeros (refusal 4 0)
+  pub root-direction : (d p : ℕ) → 3 < d → rootBinary64Of d p ≡ binary64Zeros (refusal 6 0)
 
 pub record Demand1 : Type 0 where
   -- the order is that of the numbers, from 1 to 10; 11 comes after 6 and before 7
@@ -77,3 +80,6 @@ pub record Demand1 : Type 0 where
   pub run-kept : (N D n : ℕ) (b : List ℕ) (place : ℕ) → RunRefuses (Wrongs (runRungs N D n (length b) place)) madeTable N D n b place
   pub whole-kept : (a b : ℕ) → Refuses (Wrongs (wholeRungs a b)) (λ x. x .refusal) wholeZeros (wholeOf madeTable a b)
   pub binary64-kept : (direction a b : ℕ) → Refuses (Wrongs (binary64Rungs direction)) (λ x. x .refusal) binary64Zeros (binary64Of madeTable direction a b)
+  -- roots use no table
+  pub root-whole : (a : ℕ) → Refuses (Wrongs (rootRungs a)) (λ x. x .refusal) rootZeros (rootWholeOf a)
+  pub root-binary64 : (direction p : ℕ) → Refuses (Wrongs (binary64Rungs direction)) (λ x. x .refusal) binary64Zeros (rootBinary64Of direction p)

@@ -9,7 +9,11 @@ pub mod Significands
 pub mod Binary64Steps
 pub mod Binary64
 pub mod Samples
+pub mod Roots
+pub mod RootSteps
+pub mod RootCalls
 pub mod Demand1
 pub mod Demand2
 pub mod Demand3
+pub mod RootDemand
 pub mod BenchCases

@@ -13,3 +13,4 @@ pub mod ExactQuotients
 pub mod SignSymmetry
 pub mod Signalling
 pub mod Ieee754
+pub mod RootExamples

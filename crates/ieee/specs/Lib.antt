@@ -1,3 +1,4 @@
 pub mod LanguageQuotient
 pub mod Directions
 pub mod Ieee754
+pub mod RootExamples

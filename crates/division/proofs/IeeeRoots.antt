@@ -1,0 +1,120 @@
+-- The binary64 root means what document 02 says, for every pattern, and nothing else means it; a root is never subnormal, never overflows and never ties.
+use Rattle.laws.proofs.Basics.{_≡_, refl, sym, ap, subst, _∙_, Bool, true, false, inl, inr, ⊎-elim, ℕ, min, _+_, _-_, _*_, _/_, _%_, _^_, _≤_, _<_, arith, eqb, lt-ltb, ne-eqb}
+use native.Mathlib.Nat.{le-trans, le-of-eq, le-of-mul-le-mul-right, mul-le-mul-right, mul-lt-mul-of-pos-right}
+use Rattle.division.specs.Rounding.{modeOf}
+use Rattle.division.specs.Rounded.{IsExponent}
+use Rattle.division.specs.Format.{negative, field, magnitude, classOf}
+use Rattle.division.specs.Ieee.{IsNonzero}
+use Rattle.division.specs.Computed.{greatest, roundedTo, roundedResult, orRounded}
+use Rattle.division.specs.Significands.{significandOf}
+use Rattle.division.specs.Roots.{rootScale, rootPlace, RoundedRoot, IeeeRoot, RootPlain}
+use Rattle.division.specs.RootSteps.{finiteRoot, rootOfClass, rootOf}
+use Rattle.division.specs.declared.rounding.Mode.{Mode}
+use Rattle.division.specs.declared.format.Binary64Result.{Binary64Result}
+use Rattle.division.specs.declared.format.Class.{Class}
+use Rattle.division.specs.declared.format.Class.the-variants.{Zero, Subnormal, Normal, Infinite, Nan}
+use Rattle.division.proofs.RoundedResults.{cond-in, rounded-near, result-fits}
+use Rattle.division.proofs.Scales.{exponent-one, greatest-meets}
+use Rattle.division.proofs.RoundedOne.{rounded-one}
+use Rattle.division.proofs.Classes.{nonzero-operand}
+use Rattle.division.proofs.IeeeLaws.{magnitude-below}
+use Rattle.division.proofs.Quotient.{ScaledTo}
+use Rattle.division.proofs.Binary64Through.{significand-right}
+use Rattle.division.proofs.Roots.{squares, four-pos, root-increasing, rounded-root, exponentOf, radicandOf, place-is, radicand-span, exponent-span, half-span, root-is}
+
+-- the answer of a class
+answer-of : (direction p : ℕ) (k : Class) {x : Binary64Result} → classOf p ≡ k → orRounded (finiteRoot direction (magnitude p)) (rootOfClass p k) ≡ x → rootOf direction p ≡ x
+answer-of direction p k e f = ap (λ (k : Class). orRounded (finiteRoot direction (magnitude p)) (rootOfClass p k)) e ∙ f
+
+pub ieee-root : (direction p : ℕ) → IeeeRoot direction p (rootOf direction p)
+ieee-root direction p =
+    record {
+      nan = λ e. answer-of direction p Nan e refl;
+      below-zero = λ s. ⊎-elim
+          (⊎-elim (λ e. answer-of direction p Subnormal e (rw s)) (λ e. answer-of direction p Normal e (rw s)))
+          (λ e. answer-of direction p Infinite e (rw s));
+      itself = ⊎-elim
+          (λ e. answer-of direction p Zero e refl)
+          (λ e. answer-of direction p Infinite (e .1) (rw (e .0)));
+      root = λ s h.
+          subst (RoundedRoot direction (magnitude p)) (sym (⊎-elim (λ e. answer-of direction p Subnormal e (rw s)) (λ e. answer-of direction p Normal e (rw s)) h))
+          (rounded-root direction (magnitude p) (magnitude-below p (nonzero-operand p h .finite)));
+    }
+
+-- one answer for each pattern
+pub ieee-root-one : (direction p : ℕ) {x y : Binary64Result} → IeeeRoot direction p x → IeeeRoot direction p y → x ≡ y
+ieee-root-one direction p {x} {y} u v = go (negative p) refl (classOf p) refl
+  where
+    roots : negative p ≡ false → IsNonzero p → x ≡ y
+    roots s h = rounded-one direction false rootScale root-increasing (rootPlace (magnitude p)) (u .root s h) (v .root s h)
+
+    go : (s : Bool) → negative p ≡ s → (k : Class) → classOf p ≡ k → x ≡ y
+    go s e Zero f = u .itself (inl f) ∙ sym (v .itself (inl f))
+    go true e Subnormal f = u .below-zero e (inl (inl f)) ∙ sym (v .below-zero e (inl (inl f)))
+    go false e Subnormal f = roots e (inl f)
+    go true e Normal f = u .below-zero e (inl (inr f)) ∙ sym (v .below-zero e (inl (inr f)))
+    go false e Normal f = roots e (inr f)
+    go true e Infinite f = u .below-zero e (inr f) ∙ sym (v .below-zero e (inr f))
+    go false e Infinite f = u .itself (inr (e, f)) ∙ sym (v .itself (inr (e, f)))
+    go s e Nan f = u .nan f ∙ sym (v .nan f)
+
+-- ---- what never happens to the root of a number above 0
+
+-- what a normal exponent and 53-bit units give
+normal-result : (mode : Mode) (e k tail : ℕ) → 485 ≤ e → e ≤ 1533 → 2 ^ 52 ≤ k → k < 2 ^ 53
+    → (classOf (roundedResult mode false e k tail .pattern) ≡ Normal) × (roundedResult mode false e k tail .flags ≤ 1)
+normal-result mode e k tail l h a b =
+    let n = rounded-near mode k tail in
+    let K = roundedTo mode k tail in
+    let f = result-fits mode false e k tail b (omega arith) (omega arith) in
+    let g : 0 < field (0 + (e * 2 ^ 52 + K)) = omega arith in
+    let i : field (0 + (e * 2 ^ 52 + K)) < 2047 = omega arith in (
+      ap (λ (x : Binary64Result). classOf (x .pattern)) f ∙ normal (0 + (e * 2 ^ 52 + K)) g i,
+      le-trans (le-of-eq (ap (λ (x : Binary64Result). x .flags) f)) (rw (ne-eqb e 0 (omega arith)) (cond-in (λ (z : ℕ). z ≤ 1) (eqb tail 0) (omega arith) (omega arith))),
+    )
+  where
+    normal : (q : ℕ) → 0 < field q → field q < 2047 → classOf q ≡ Normal
+    normal q g i = rw (ne-eqb (field q) 0 (omega arith), lt-ltb (field q) 2047 i)
+
+-- an odd number's square is no multiple of 2^54
+odd-square : (j m c : ℕ) → 0 < c → (2 * j + 1) * (2 * j + 1) * c ≡ 2 ^ 54 * m * c → ⊥
+odd-square j m c p e =
+    let l : (2 * j + 1) * (2 * j + 1) ≤ 2 ^ 54 * m = le-of-mul-le-mul-right (le-of-eq e) p in
+    let h : 2 ^ 54 * m ≤ (2 * j + 1) * (2 * j + 1) = le-of-mul-le-mul-right (le-of-eq (sym e)) p in
+    omega arith
+
+module _ (p : ℕ) (h : IsNonzero p) where
+  scaled : ScaledTo (magnitude p) (significandOf p)
+  scaled = significand-right p (nonzero-operand p h)
+
+  -- the root's exponent, which is neither low nor high
+  root-exponent : IsExponent rootScale (rootPlace (magnitude p)) (exponentOf (significandOf p))
+  root-exponent =
+      let x = significandOf p in
+      let s = radicand-span (magnitude p) x scaled in
+      let n : 2 ^ 53 * 2 ^ 53 ≤ 2 ^ 54 * radicandOf x = omega (arith, s .0) in
+      let m : 2 ^ 54 * radicandOf x < 2 ^ 54 * 2 ^ 54 = omega (arith, s .1) in
+      rw (place-is (magnitude p) x scaled) (record { reached = λ p. mul-le-mul-right (4 ^ exponentOf x) n; beyond = mul-lt-mul-of-pos-right m (four-pos (exponentOf x)) })
+
+  pub root-plain : (direction : ℕ) {x : Binary64Result} → RoundedRoot direction (magnitude p) x → RootPlain p x
+  root-plain direction {x} r =
+      let a = magnitude p in
+      let y = significandOf p in
+      let n = 2 ^ 54 * radicandOf y in
+      let g = greatest-meets (λ s. s * s) squares n 54 0 (omega arith) (omega (arith, radicand-span a y scaled .1)) in
+      let s = greatest 54 (λ s. s * s) n 0 in
+      let sum : s * s + (n - s * s) ≡ n = omega (arith, g .0) in
+      let left : n - s * s ≤ 2 * s = omega (arith, g .1) in
+      let v = 2 * s + min 1 (n - s * s) in
+      let e = rounded-one direction false rootScale root-increasing (rootPlace a) r (rounded-root direction a (magnitude-below p (nonzero-operand p h .finite)))
+      ∙ root-is a y scaled s (n - s * s) sum left direction v refl in
+      let span = half-span a y scaled s (n - s * s) sum left in
+      let E = exponent-span a y scaled in
+      let k = normal-result (modeOf direction false) (exponentOf y) (v / 4) (v % 4) (E .0) (E .1) (omega arith) (omega arith) in
+      record {
+        normal = ap (λ (z : Binary64Result). classOf (z .pattern)) e ∙ k .0;
+        flags = le-trans (le-of-eq (ap (λ (z : Binary64Result). z .flags) e)) (k .1);
+        no-tie = λ d j is t.
+            let f = exponent-one rootScale root-increasing (rootPlace a) d (exponentOf y) is root-exponent in
+            odd-square j (radicandOf y) (4 ^ exponentOf y) (four-pos (exponentOf y)) (ap (λ (z : ℕ). rootScale z (2 * j + 1)) (sym f) ∙ t ∙ place-is a y scaled);
+      }

@@ -1,0 +1,89 @@
+-- What the code of the roots asks.
+use Rattle.laws.proofs.Basics.{_≡_, refl, sym, ap, subst, _∙_, Bool, true, false, cond, inl, inr, ℕ, min, _+_, _*_, _/_, _%_, _^_, _≤_, _<_, arith, lt-leb}
+use native.Mathlib.Nat.{mod-eq-of-lt}
+use Rattle.selection.specs.Refusals.{rank, ladder}
+use Rattle.selection.proofs.Ladders.{Ladder, not-most, clear}
+use Rattle.selection.specs.declared.Admission.the-variants.{Admitted}
+use Rattle.division.specs.Format.{magnitude, negative, classOf}
+use Rattle.division.specs.Significands.{significandOf, FiniteNonzero}
+use Rattle.division.specs.Rounding.{modeOf}
+use Rattle.division.specs.Computed.{roundedResult, orRounded}
+use Rattle.division.specs.RootSteps.{DigitsTaken, finiteRoot, rootOfClass, rootByClass, rootOf}
+use Rattle.division.specs.RootCalls.{rootRungs}
+use Rattle.division.specs.declared.rounding.Mode.{Mode}
+use Rattle.division.specs.declared.format.Binary64Result.{Binary64Result}
+use Rattle.division.specs.declared.format.Class.{Class}
+use Rattle.division.specs.declared.format.Class.the-variants.{Zero, Subnormal, Normal, Infinite, Nan}
+use Rattle.division.specs.declared.format.Scaled.{Scaled}
+use Rattle.division.specs.declared.binary64.ByClass.{ByClass}
+use Rattle.division.specs.declared.binary64.ByClass.the-variants.{Decided, Undecided}
+use Rattle.division.specs.declared.root.RootState.{RootState}
+use Rattle.division.proofs.Quotient.{ScaledTo}
+use Rattle.division.proofs.Classes.{nonzero-operand}
+use Rattle.division.proofs.Binary64Through.{significand-right}
+use Rattle.division.proofs.Roots.{exponentOf, radicandOf, radicand-span, exponent-span, half-span, root-is}
+
+-- the root of a finite number other than zero: x is its significand, n the radicand's word, y has its digits and v their sticky bit
+module _ (p : ℕ) (x : Scaled) (u : FiniteNonzero p) (ex : x ≡ significandOf p) where
+  read : ScaledTo (magnitude p) x
+  read = subst (ScaledTo (magnitude p)) (sym ex) (significand-right p u)
+
+  word-is : radicandOf x % 2 ^ 64 ≡ radicandOf x
+  word-is = mod-eq-of-lt (omega (arith, radicand-span (magnitude p) x read .1))
+
+  pub word-span : radicandOf x % 2 ^ 64 < 2 ^ 54
+  word-span = rw word-is (radicand-span (magnitude p) x read .1)
+
+  module _ (y : RootState) (v : ℕ) (d : DigitsTaken (2 ^ 54 * (radicandOf x % 2 ^ 64)) 0 y) (ev : v ≡ 2 * (y .twice / 2) + min 1 (y .rest)) where
+    doubled : y .twice ≡ 2 * (y .twice / 2)
+    doubled = let w = d .placed ∙ ap (λ (z : ℕ). d .digits * (2 * z)) (d .weight) in omega (arith, w)
+
+    sum : y .twice / 2 * (y .twice / 2) + y .rest ≡ 2 ^ 54 * radicandOf x
+    sum = let w = rw (d .weight, word-is, doubled) at (d .value) in omega (arith, w)
+
+    left : y .rest ≤ 2 * (y .twice / 2)
+    left = let w = rw (d .weight) at (d .left) in omega (arith, w, doubled)
+
+    pub rounded-ready : (exponentOf x ≤ 3119) × (v / 4 < 2 ^ 53) × (2 ^ 52 * min 1 (exponentOf x) ≤ v / 4) × (v % 4 < 4)
+    rounded-ready =
+        let s = half-span (magnitude p) x read (y .twice / 2) (y .rest) sum left in
+        let e = exponent-span (magnitude p) x read in
+        (omega arith, omega arith, omega arith, omega arith)
+
+    pub finite-root-is : (direction : ℕ) {m : Mode} {r : Binary64Result} → m ≡ modeOf direction false → r ≡ roundedResult m false (exponentOf x) (v / 4) (v % 4) → r ≡ finiteRoot direction (magnitude p)
+    finite-root-is direction em er =
+        er ∙ ap (λ (m : Mode). roundedResult m false (exponentOf x) (v / 4) (v % 4)) em
+        ∙ sym (root-is (magnitude p) x read (y .twice / 2) (y .rest) sum left direction v ev)
+
+-- where its class and its sign decide nothing, the operand is a finite number other than zero
+pub root-operand : (p : ℕ) → rootByClass p ≡ Undecided → FiniteNonzero p
+root-operand p u = go (classOf p) refl u
+  where
+    signed : (s : Bool) (x y : Binary64Result) → cond s (Decided x) (Decided y) ≡ Undecided → ⊥
+    signed true x y u = let z : _≡_ {A = ℕ} 0 1 = cc in omega arith
+    signed false x y u = let z : _≡_ {A = ℕ} 0 1 = cc in omega arith
+
+    go : (k : Class) → classOf p ≡ k → rootOfClass p k ≡ Undecided → FiniteNonzero p
+    go Zero e u = absurd (let z : _≡_ {A = ℕ} 0 1 = cc in omega arith)
+    go Subnormal e u = nonzero-operand p (inl e)
+    go Normal e u = nonzero-operand p (inr e)
+    go Infinite e u = absurd (signed (negative p) _ _ u)
+    go Nan e u = absurd (let z : _≡_ {A = ℕ} 0 1 = cc in omega arith)
+
+-- an answer that the class decides, or that it leaves to the rounding
+pub by-root-class : (direction p : ℕ) (k : ByClass) → rootByClass p ≡ k → orRounded (finiteRoot direction (magnitude p)) k ≡ rootOf direction p
+by-root-class direction p k e = sym (ap (orRounded (finiteRoot direction (magnitude p))) e)
+
+-- ---- the refusal of a whole number
+
+pub root-ladder : (a : ℕ) → Ladder (rootRungs a)
+unfolding rootRungs rank
+root-ladder a = record { sound = (tt, λ _. tt); in-order = tt }
+
+pub root-span : (a : ℕ) → ladder (rootRungs a) ≡ Admitted → a < 2 ^ 60
+unfolding rootRungs
+root-span a e = not-most (λ h. clear (root-ladder a) e 4 0 (inl (refl, (refl, h))))
+
+pub root-clear : (a : ℕ) → a < 2 ^ 60 → ladder (rootRungs a) ≡ Admitted
+unfolding rootRungs
+root-clear a h = simp (lt-leb (2 ^ 60) a h)

@@ -1,0 +1,28 @@
+-- `finite_root` meets its contract: 54 digits of the significand, rounded once.
+use Rattle.laws.proofs.Basics.{arith, needs}
+use Rattle.division.proofs.RootCalls.{word-span, rounded-ready, finite-root-is}
+use Rattle.division.proofs.root.finite_root.Statement.{statement}
+use Rattle.division.proofs.root.finite_root.Tie as tie
+
+root-digits-requires : tie.Need-root-digits-requires
+root-digits-requires c κs =
+    let s = c .before .before in
+    (word-span (s .before .args .p) (s .significand .result) (s .before .pre .0) (s .significand .ensures .0), omega arith, omega arith)
+
+rounded-result-requires : tie.Need-rounded-result-requires
+rounded-result-requires c κs =
+    let w = c .before .before in
+    let s = w .before .before .before .before .before in
+    rounded-ready (s .before .args .p) (s .significand .result) (s .before .pre .0) (s .significand .ensures .0) (w .before .before .root-digits .result) (w .with-sticky .result) (w .before .before .root-digits .ensures) (w .with-sticky .ensures)
+
+returns : tie.Need-returns
+returns c =
+    let w = c .before .before .before in
+    let s = w .before .before .before .before .before in
+    finite-root-is (s .before .args .p) (s .significand .result) (s .before .pre .0) (s .significand .ensures .0) (w .before .before .root-digits .result) (w .with-sticky .result) (w .before .before .root-digits .ensures) (w .with-sticky .ensures)
+    (s .before .args .direction) (c .before .before .mode-of .ensures) (c .rounded-result .ensures)
+
+pub finite-root-spec : {M : Type 1} → statement M
+finite-root-spec =
+    tie.close (tie.spec (λ c κs. search needs) (λ c. search needs) root-digits-requires
+    (λ c κs. search needs) (λ c κs. search needs) (λ c. search needs) rounded-result-requires returns)

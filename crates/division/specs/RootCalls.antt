@@ -1,0 +1,29 @@
+-- Roots as a caller sees them: document 02, "Square roots".
+use mathlib.Core.List.{List, [], _∷_}
+use Prim.Native.Nat.{ℕ, _-_, _*_, _^_}
+use Rattle.selection.specs.Answer.{refusal, answerBy}
+use Rattle.selection.specs.Refusals.{Rung, atMost, number, ladder}
+use Rattle.selection.specs.declared.Refusal.{Refusal}
+use Rattle.division.specs.Binary64.{binary64Rungs, binary64Zeros, binary64Values}
+use Rattle.division.specs.RootSteps.{wholeRoot, rootOf}
+use Rattle.division.specs.declared.binary64.Binary64Answer.{Binary64Answer}
+use Rattle.division.specs.declared.root.RootAnswer.{RootAnswer}
+
+-- what is refused of a whole number. 4: a is 2^60 or more
+unfoldable pub rootRungs : ℕ → List Rung
+rootRungs a = number 4 (atMost (2 ^ 60) a) ∷ []
+
+-- number and place of a refusal, and zeros
+abbrev pub rootZeros : Refusal → RootAnswer
+rootZeros f = record { refusal = f; root = 0; remainder = 0 }
+
+-- the root s of a and what is left of a, and no refusal
+abbrev pub rootValues : ℕ → ℕ → RootAnswer
+rootValues a s = record { refusal = refusal 0 0; root = s; remainder = a - s * s }
+
+-- the answers; a direction above 3 is refused as division refuses it
+abbrev pub rootWholeOf : ℕ → RootAnswer
+rootWholeOf a = answerBy rootZeros (rootValues a (wholeRoot a)) (ladder (rootRungs a))
+
+abbrev pub rootBinary64Of : ℕ → ℕ → Binary64Answer
+rootBinary64Of direction p = answerBy binary64Zeros (binary64Values (rootOf direction p)) (ladder (binary64Rungs direction))

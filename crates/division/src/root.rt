@@ -1,0 +1,195 @@
+// Square roots, a binary digit a step: of whole numbers, and of binary64 patterns with one rounding. No table is used.
+ghost use mathlib.Core.Path.{_≡_};
+ghost use mathlib.Core.Bool.{cond};
+ghost use Prim.Native.Nat.{ℕ, suc, _+_, _*_, _^_, _≤_, _<_};
+ghost use Rattle.selection.specs.Refusals.{ladder};
+ghost use Rattle.division.specs.Format.{magnitude};
+ghost use Rattle.division.specs.Significands.{FiniteNonzero};
+ghost use Rattle.division.specs.RootSteps.{DigitsTaken, wholeRoot, finiteRoot, unlessNegative, rootByClass, rootOf};
+ghost use Rattle.division.specs.RootCalls.{rootRungs, rootValues, rootWholeOf, rootBinary64Of};
+use crate::binary64::Binary64Answer;
+use crate::binary64::ByClass;
+use crate::binary64::with_sticky;
+use crate::format::Binary64Result;
+use crate::format::Class;
+use crate::format::INVALID;
+use crate::format::QUIET_NAN;
+use crate::format::SIGN_BIT;
+use crate::format::class_of;
+use crate::format::signalling;
+use crate::format::significand;
+use crate::rounding::mode_of;
+use crate::rounding::rounded_result;
+use selection::Admission;
+use selection::Refusal;
+use selection::refused;
+use std::num::wrapping_sub_u64;
+
+// The answer, as C sees it: the refusal (0: none) and its place, the root and the remainder, zeros where the call refuses.
+#[repr(C)]
+pub struct RootAnswer {
+    pub refusal: Refusal,
+    pub root: u64,
+    pub remainder: u64,
+}
+
+// Twice the root so far, what is left, and the weight of the last digit: root * root + unit * rest stays the same.
+struct RootState {
+    twice: u64,
+    rest: u64,
+    unit: u64,
+}
+
+// One of two words; compiled, it is no branch.
+fn chosen(first: bool, x: u64, y: u64) -> u64
+    ensures { λ r. ⌜ r ≡ cond first x y ⌝ }
+{
+    if first { x } else { y }
+}
+
+impl RootState {
+    // One digit more, of half the weight: 1 exactly if the trial fits, which the top bit of a wrapping difference tells.
+    fn next(self) -> RootState
+        requires { ⌜ (self .rest < self .twice + self .unit) × (self .twice + 2 * self .unit ≤ 2 ^ 61) ⌝ }
+        ensures { λ r. ⌜ ((m k : ℕ) → DigitsTaken m (suc k) self → DigitsTaken m k r) ⌝ }
+    {
+        let half = self.unit / 2;
+        let trial = self.twice + half;
+        let rest = 2 * self.rest;
+        let less = wrapping_sub_u64(rest, trial);
+        let fits = less < 0x8000_0000_0000_0000;
+        RootState {
+            twice: self.twice + chosen(fits, self.unit, 0),
+            rest: chosen(fits, less, rest),
+            unit: half,
+        }
+    }
+}
+
+// The root of radicand * 2^first, digit by digit down to the weight 2^last.
+fn root_digits(radicand: u64, first: u64, last: u64) -> RootState
+    requires { ⌜ (radicand < 2 ^ first) × (first ≤ 60) × (last ≤ first) ⌝ }
+    ensures { λ r. ⌜ DigitsTaken (2 ^ first * radicand) last r ⌝ }
+{
+    let mut state = RootState {
+        twice: 0,
+        rest: radicand,
+        unit: 1 << first,
+    };
+    let mut place = first;
+    while last < place {
+        state = state.next();
+        place -= 1;
+    }
+    state
+}
+
+fn refusal_of(a: u64) -> Admission
+    ensures { λ r. ⌜ r ≡ ladder (rootRungs a) ⌝ }
+{
+    if 0x1000_0000_0000_0000 <= a {
+        return refused(4);
+    }
+    Admission::Admitted
+}
+
+// An answer that is not refused: the digits of a * 2^60 down to the weight 2^30.
+fn values(a: u64) -> RootAnswer
+    requires { ⌜ a < 2 ^ 60 ⌝ }
+    ensures { λ r. ⌜ r ≡ rootValues a (wholeRoot a) ⌝ }
+{
+    let state = root_digits(a, 60, 30);
+    RootAnswer {
+        refusal: Refusal {
+            number: 0,
+            place: 0,
+        },
+        root: state.twice >> 31,
+        remainder: state.rest >> 30,
+    }
+}
+
+// The whole root of a, and what is left of a.
+pub fn root_whole(a: u64) -> RootAnswer
+    ensures { λ r. ⌜ r ≡ rootWholeOf a ⌝ }
+{
+    let admission = refusal_of(a);
+    match admission {
+        Admission::Refused(f) => RootAnswer {
+            refusal: f,
+            root: 0,
+            remainder: 0,
+        },
+        Admission::Admitted => values(a),
+    }
+}
+
+// The root of a finite number above 0. Its half units of 2^(e - 1074), e = (exp + 970) / 2, are the root of sig * 2^(exp % 2) * 2^54, which has 54 bits.
+fn finite_root(p: u64, direction: u64) -> Binary64Result
+    requires { ⌜ (FiniteNonzero p) × (direction ≤ 3) ⌝ }
+    ensures { λ r. ⌜ r ≡ finiteRoot direction (magnitude p) ⌝ }
+{
+    let x = significand(p);
+    let state = root_digits(x.sig << (x.exp % 2), 54, 0);
+    let quarters = with_sticky(state.twice / 2, state.rest);
+    let mode = mode_of(direction, false);
+    rounded_result(mode, false, (x.exp + 970) / 2, quarters / 4, quarters % 4)
+}
+
+// Invalid with a negative sign, else x.
+fn unless_negative(p: u64, x: ByClass) -> ByClass
+    ensures { λ r. ⌜ r ≡ unlessNegative p x ⌝ }
+{
+    if SIGN_BIT <= p {
+        ByClass::Decided(Binary64Result {
+            pattern: QUIET_NAN,
+            flags: INVALID,
+        })
+    } else {
+        x
+    }
+}
+
+// What the operand's class and its sign alone decide.
+fn by_class(p: u64) -> ByClass
+    ensures { λ r. ⌜ r ≡ rootByClass p ⌝ }
+{
+    let itself = ByClass::Decided(Binary64Result {
+        pattern: p,
+        flags: 0,
+    });
+    let class = class_of(p);
+    match class {
+        Class::Zero => itself,
+        Class::Subnormal => unless_negative(p, ByClass::Undecided),
+        Class::Normal => unless_negative(p, ByClass::Undecided),
+        Class::Infinite => unless_negative(p, itself),
+        Class::Nan => ByClass::Decided(Binary64Result {
+            pattern: QUIET_NAN,
+            flags: if signalling(p) { INVALID } else { 0 },
+        }),
+    }
+}
+
+// The root of p in a direction.
+fn root(p: u64, direction: u64) -> Binary64Result
+    requires { ⌜ direction ≤ 3 ⌝ }
+    ensures { λ r. ⌜ r ≡ rootOf direction p ⌝ }
+{
+    let decided = by_class(p);
+    match decided {
+        ByClass::Decided(x) => x,
+        ByClass::Undecided => finite_root(p, direction),
+    }
+}
+
+// The pattern and the flags of the root of a in a direction.
+pub fn root_binary64(a: u64, direction: u64) -> Binary64Answer
+    ensures { λ r. ⌜ r ≡ rootBinary64Of direction a ⌝ }
+{
+    let admission = crate::binary64::refusal_of(direction);
+    match admission {
+        Admission::Refused(f) => crate::binary64::zeros(f),
+        Admission::Admitted => crate::binary64::values(root(a, direction)),
+    }
+}
