@@ -1,4 +1,4 @@
-/* The division unit: radix-4 SRT division with a table of quotient digits.
+/* The division unit: radix-4 SRT division with a table of quotient digits, and square roots, which use no table.
 
    A table is 2,048 bytes. Byte 128 * row + column holds a quotient digit q as q + 2, so 0 to 4. The row is the four
    bits after the divisor's leading one, the column a truncated estimate of the partial remainder.
@@ -50,9 +50,9 @@ extern "C" {
 #endif
 
 /* The version of these calls; CHANGELOG.md tells what changed. */
-#define QUENDARIC_VERSION "1.4.0"
+#define QUENDARIC_VERSION "1.5.0"
 #define QUENDARIC_VERSION_MAJOR 1
-#define QUENDARIC_VERSION_MINOR 4
+#define QUENDARIC_VERSION_MINOR 5
 #define QUENDARIC_VERSION_PATCH 0
 
 #define QUENDARIC_TABLE_LENGTH 2048
@@ -75,13 +75,13 @@ extern "C" {
 #define QUENDARIC_REFUSED_WIDTH 12    /* a window's width is 0, above 4,096 or above the number of readings */
 #define QUENDARIC_REFUSED_READING 13  /* a reading of 2^40 or more; the place is the first such index */
 
-/* Rounding directions of binary64 division. */
+/* Rounding directions of binary64. */
 #define QUENDARIC_NEAREST 0 /* to nearest, ties to even */
 #define QUENDARIC_TOWARD_ZERO 1
 #define QUENDARIC_UPWARD 2
 #define QUENDARIC_DOWNWARD 3
 
-/* Flags of binary64 division; an answer holds their sum. */
+/* Flags of binary64; an answer holds their sum. */
 #define QUENDARIC_INEXACT 1
 #define QUENDARIC_UNDERFLOW 2
 #define QUENDARIC_OVERFLOW 4
@@ -142,8 +142,16 @@ typedef struct {
   uint64_t remainder;
 } quendaric_whole;
 
+/* remainder: a - root * root. Beside a refusal the zeros are no root. */
+typedef struct {
+  uint64_t refusal;
+  uint64_t place;
+  uint64_t root;
+  uint64_t remainder;
+} quendaric_root;
+
 /* Beside a refusal pattern and flags are 0. The pattern 0 reads as 0.0 and no flag as an exact answer, and neither is
-   one: nothing was divided. */
+   one: nothing was worked out. */
 typedef struct {
   uint64_t refusal;
   uint64_t place;
@@ -239,6 +247,17 @@ QUENDARIC_ANSWER
 quendaric_averages quendaric_average_windows(const uint64_t *readings, size_t readings_length, size_t width,
                                              uint64_t *means, size_t means_length, uint64_t *remainders,
                                              size_t remainders_length);
+
+/* The whole root of a below 2^60: root * root <= a < (root + 1) * (root + 1). Uses no table. Refuses 4. */
+QUENDARIC_ANSWER
+quendaric_root quendaric_root_whole(uint64_t a);
+
+/* The IEEE 754 binary64 square root of a pattern, rounded once in the direction. Uses no table. A zero gives itself, with
+   its sign, and so does plus infinity; a number below zero or minus infinity gives 7FF8000000000000 and invalid; a NaN
+   gives 7FF8000000000000, and invalid where it is signalling. Of all others inexact is the only flag. Refuses 6, with the
+   pattern 0 that reads as 0.0. */
+QUENDARIC_ANSWER
+quendaric_binary64 quendaric_root_binary64(uint64_t a, uint64_t direction);
 
 #ifdef __cplusplus
 }

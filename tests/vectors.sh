@@ -18,7 +18,7 @@ runs() {
 }
 
 llvm=$root/crates/vectors/data/div-llvm.txt
-one='s/\(llvm.txt 28\) 0/\1 1/; s/\(total 6252\) 0/\1 1/'
+one='s/\(llvm.txt 28\) 0/\1 1/; s/\(total 9724\) 0/\1 1/'
 runs 'the files as they are' "$llvm" ''
 # Lines of 56 bytes: operands at 0 and 17, direction at 34, pattern at 36, flags at 53.
 sed '7s/[0-9][0-9]$/31/' "$llvm" >"$work/flags"
@@ -32,18 +32,26 @@ runs 'fields that are not parted' "$work/space" "$one"
 head -c -1 "$llvm" >"$work/short"
 runs 'a last line cut short' "$work/short" "$one"
 sed '4d' "$llvm" >"$work/fewer"
-runs 'a line left out' "$work/fewer" 's/llvm.txt 28/llvm.txt 27/; s/total 6252/total 6251/'
+runs 'a line left out' "$work/fewer" 's/llvm.txt 28/llvm.txt 27/; s/total 9724/total 9723/'
 
-without='/llvm/d; s/total 6252/total 6224/'
+# A root's line has no second operand.
+roots=$root/crates/vectors/data/sqrt-glibc.txt
+more='s/llvm.txt 28 0/llvm.txt 29 0/; s/total 9724 0/total 9725 0/'
+{ cat "$llvm"; tail -n 1 "$roots"; } >"$work/root"
+runs 'a root among quotients' "$work/root" "$more"
+sed '29s/  /0 /' "$work/root" >"$work/filled"
+runs 'half a second operand' "$work/filled" "$more; s/\(29\|9725\) 0/\1 1/"
+
+without='/llvm/d; s/total 9724/total 9696/'
 runs 'no file' "$work/none" "$without" 'div-llvm.txt: No such file or directory'
 mkdir "$work/folder"
 runs 'a folder' "$work/folder" "$without" 'div-llvm.txt: Is a directory'
 yes "$(head -n 1 "$llvm")" | head -n 16000 >"$work/long"
-runs '16,000 lines' "$work/long" 's/llvm.txt 28/llvm.txt 16000/; s/total 6252/total 22224/'
+runs '16,000 lines' "$work/long" 's/llvm.txt 28/llvm.txt 16000/; s/total 9724/total 25696/'
 head -n 1 "$llvm" >>"$work/long"
 runs '16,001 lines' "$work/long" "$without" 'div-llvm.txt: more than 16000 lines'
 
 cd "$root/crates/vectors/data" || exit 1
 loses vectors /dev/null
 
-ends vectors 13
+ends vectors 15

@@ -1,5 +1,5 @@
 /* The same division in C, to measure against: document 01's recurrence step by step, the same with the next column known
-   ahead of the words, and binary64 division over each. */
+   ahead of the words, and binary64 division over each. And the same roots. */
 #ifndef BASELINE_H
 #define BASELINE_H
 
@@ -14,6 +14,10 @@ typedef struct {
   uint64_t pattern, flags;
 } baseline_binary64;
 
+typedef struct {
+  uint64_t root, remainder;
+} baseline_root;
+
 /* The recurrence as document 01 writes it: the column from the two words, then the words, at each step. */
 baseline_ran plain_run(const uint8_t *table, uint64_t dividend, uint64_t divisor, int digits, uint8_t *out);
 
@@ -23,13 +27,21 @@ baseline_ran ahead_run(const uint8_t *table, uint64_t dividend, uint64_t divisor
 baseline_binary64 plain_binary64(const uint8_t *table, uint64_t a, uint64_t b, uint64_t direction);
 baseline_binary64 ahead_binary64(const uint8_t *table, uint64_t a, uint64_t b, uint64_t direction);
 
+/* Roots by the unit's algorithm, a binary digit a step. */
+baseline_root digit_root(uint64_t a);
+baseline_binary64 digit_root_binary64(uint64_t a, uint64_t direction);
+
+/* The binary64 root with two digits a step. */
+baseline_binary64 pair_root_binary64(uint64_t a, uint64_t direction);
+
 /* The number of bad cells of a table, cell by cell in 128-bit whole numbers. */
 int plain_check(const uint8_t *table);
 
 /* Mean and remainder of every full window of width readings: a total that slides, and the machine's own division. */
 void plain_averages(const uint64_t *readings, size_t length, size_t width, uint64_t *means, uint64_t *remainders);
 
-/* The processor's own division, nearest, without flags. */
+/* The processor's own division and root, nearest, without flags. */
 uint64_t processor_binary64(uint64_t a, uint64_t b);
+uint64_t processor_root_binary64(uint64_t a);
 
 #endif

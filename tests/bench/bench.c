@@ -39,10 +39,22 @@ static uint64_t b64_ahead(int i, uint64_t x) { return ahead_binary64(table, a[i]
 static uint64_t b64_kept(int i, uint64_t x) { return quendaric_divide_binary64_kept(a[i] ^ (x & 255), b[i], 0).pattern; }
 static uint64_t b64_processor(int i, uint64_t x) { return processor_binary64(a[i] ^ (x & 255), b[i]); }
 static uint64_t whole_kept(int i, uint64_t x) { return quendaric_divide_whole_kept((a[i] ^ x) >> 4, divisor[i] >> (2 + i % 56)).quotient; }
+/* An operand above 0. */
+static uint64_t above(int i, uint64_t x) { return (a[i] ^ (x & 255)) & ~(1ull << 63); }
+static uint64_t root_digit(int i, uint64_t x) { return digit_root_binary64(above(i, x), 0).pattern; }
+static uint64_t root_pair(int i, uint64_t x) { return pair_root_binary64(above(i, x), 0).pattern; }
+static uint64_t root_unit(int i, uint64_t x) { return quendaric_root_binary64(above(i, x), 0).pattern; }
+static uint64_t root_processor(int i, uint64_t x) { return processor_root_binary64(above(i, x)); }
+static uint64_t root_whole(int i, uint64_t x) { return quendaric_root_whole((a[i] ^ x) >> (4 + i % 56)).root; }
+static uint64_t root_whole_digit(int i, uint64_t x) { return digit_root((a[i] ^ x) >> (4 + i % 56)).root; }
 #ifdef SOFTFLOAT
 static uint64_t b64_softfloat(int i, uint64_t x) {
   float64_t u = {a[i] ^ (x & 255)}, v = {b[i]};
   return f64_div(u, v).v;
+}
+static uint64_t root_softfloat(int i, uint64_t x) {
+  float64_t u = {above(i, x)};
+  return f64_sqrt(u).v;
 }
 #endif
 
@@ -73,6 +85,15 @@ static measure measures[] = {
     {"b64-softfloat", "SoftFloat f64_div", b64_softfloat, PAIRS, 0, 0},
 #endif
     {"whole-kept", "unit, kept whole numbers, mixed sizes", whole_kept, PAIRS, 0, 0},
+    {"root-digit", "C, binary64 root, the same algorithm", root_digit, PAIRS, 0, 0},
+    {"root-pair", "C, binary64 root, two digits a step", root_pair, PAIRS, 0, 0},
+    {"root", "unit, binary64 root", root_unit, PAIRS, 0, 0},
+    {"root-processor", "the processor's binary64 root", root_processor, PAIRS, 0, 0},
+#ifdef SOFTFLOAT
+    {"root-softfloat", "SoftFloat f64_sqrt", root_softfloat, PAIRS, 0, 0},
+#endif
+    {"root-whole-c", "C, whole root, the same algorithm", root_whole_digit, PAIRS, 0, 0},
+    {"root-whole", "unit, whole root, mixed sizes", root_whole, PAIRS, 0, 0},
 };
 enum { MEASURES = sizeof measures / sizeof *measures };
 
@@ -149,6 +170,16 @@ static int agree(void) {
       quendaric_binary64 w = quendaric_divide_binary64_kept(u, v, d);
       differ += s.pattern != w.pattern || s.flags != w.flags || t.pattern != w.pattern || t.flags != w.flags;
     }
+    for (uint64_t d = 0; d < 4; d++) {
+      uint64_t u = i % 2 ? above(i, 0) : i % 4 ? bits() >> (12 + i % 50) : bits();
+      baseline_binary64 s = digit_root_binary64(u, d), t = pair_root_binary64(u, d);
+      quendaric_binary64 w = quendaric_root_binary64(u, d);
+      differ += s.pattern != w.pattern || s.flags != w.flags || t.pattern != w.pattern || t.flags != w.flags;
+    }
+    differ += root_processor(i, 0) != root_unit(i, 0) || root_whole(i, 0) != root_whole_digit(i, 0);
+#ifdef SOFTFLOAT
+    differ += root_softfloat(i, 0) != root_unit(i, 0);
+#endif
     differ += processor_binary64(a[i], b[i]) != quendaric_divide_binary64_kept(a[i], b[i], 0).pattern;
 #ifdef SOFTFLOAT
     differ += b64_softfloat(i, 0) != quendaric_divide_binary64_kept(a[i], b[i], 0).pattern;
@@ -374,6 +405,14 @@ int main(int argc, char **argv) {
   ratio("check, every cell with a point bad / passing", "check-bad", "check", 1.5);
   ratio("check, one bad cell, the last / passing", "check-one", "check", 2.5);
   ratio("the made table / kept run", "make", "run-kept", 0);
+  ratio("binary64 root / the same algorithm in C", "root", "root-digit", 1.0);
+  ratio("binary64 root / two digits a step in C", "root", "root-pair", 0);
+  ratio("binary64 root / kept binary64", "root", "b64-kept", 1.1);
+  ratio("binary64 root / the processor", "root", "root-processor", 0);
+#ifdef SOFTFLOAT
+  ratio("binary64 root / SoftFloat", "root", "root-softfloat", 0);
+#endif
+  ratio("whole root / the same algorithm in C", "root-whole", "root-whole-c", 0);
   lent_alone();
   samples();
   growth();

@@ -1,5 +1,5 @@
 /* Would catch a header that does not fit the library, or that only one of C and C++ takes: every call is made through
-   it, on document 01's worked examples, on each refusal and with NULL for what has no length, in a program that is
+   it, on document 01's worked examples and some roots, on each refusal and with NULL for what has no length, in a program that is
    compiled as both. It prints nothing but what differs. */
 
 #include "quendaric.h"
@@ -234,6 +234,29 @@ static void averages(void) {
   SAME(remainders[WINDOWS], untouched);
 }
 
+static void roots(void) {
+  quendaric_root whole = quendaric_root_whole(one - 1);
+  SAME(whole.refusal, 0);
+  SAME(whole.place, 0);
+  SAME(whole.root, (1 << 30) - 1);
+  SAME(whole.remainder, 2 * whole.root);
+  whole = quendaric_root_whole(one);
+  SAME(whole.refusal, QUENDARIC_REFUSED_TOO_LARGE);
+  SAME(whole.root, 0);
+  quendaric_binary64 two = quendaric_root_binary64(0x4000000000000000ull, QUENDARIC_NEAREST);
+  SAME(two.refusal, 0);
+  SAME(two.place, 0);
+  SAME(two.pattern, 0x3FF6A09E667F3BCDull);
+  SAME(two.flags, QUENDARIC_INEXACT);
+  SAME(quendaric_root_binary64(0x4000000000000000ull, QUENDARIC_DOWNWARD).pattern, 0x3FF6A09E667F3BCCull);
+  SAME(quendaric_root_binary64(1, 4).refusal, QUENDARIC_REFUSED_DIRECTION);
+  /* minus zero, a number below zero, a quiet and a signalling NaN */
+  SAME(quendaric_root_binary64(0x8000000000000000ull, QUENDARIC_NEAREST).pattern, 0x8000000000000000ull);
+  SAME(quendaric_root_binary64(0xBFF0000000000000ull, QUENDARIC_NEAREST).flags, QUENDARIC_INVALID);
+  SAME(quendaric_root_binary64(0xFFF8000000000001ull, QUENDARIC_NEAREST).flags, 0);
+  SAME(quendaric_root_binary64(0x7FF0000000000001ull, QUENDARIC_NEAREST).flags, QUENDARIC_INVALID);
+}
+
 int main(void) {
   uint8_t table[QUENDARIC_TABLE_LENGTH];
   memset(table, untouched, sizeof table);
@@ -245,5 +268,6 @@ int main(void) {
   divisions(table);
   samples(table);
   averages();
+  roots();
   return differences != 0;
 }

@@ -51,6 +51,11 @@ FIELD(quendaric_whole, quotient, 16, 8);
 FIELD(quendaric_whole, remainder, 24, 8);
 SIZE(quendaric_whole, 32);
 
+REFUSAL(quendaric_root);
+FIELD(quendaric_root, root, 16, 8);
+FIELD(quendaric_root, remainder, 24, 8);
+SIZE(quendaric_root, 32);
+
 REFUSAL(quendaric_binary64);
 FIELD(quendaric_binary64, pattern, 16, 8);
 FIELD(quendaric_binary64, flags, 24, 8);

@@ -62,6 +62,8 @@ static void divide_samples(const uint64_t *x, reply *y) {
 static void average_windows(const uint64_t *x, reply *y) {
   REPLY(y, quendaric_average_windows(readings, x[0], x[1], y->word + 2, x[2], y->word + 7, x[2]));
 }
+static void root_whole(const uint64_t *x, reply *y) { REPLY(y, quendaric_root_whole(x[0])); }
+static void root_binary64(const uint64_t *x, reply *y) { REPLY(y, quendaric_root_binary64(x[0], x[1])); }
 
 #define ONE 0x3FF0000000000000ull   /* 1.0 */
 #define THREE 0x4008000000000000ull /* 3.0 */
@@ -101,6 +103,9 @@ static const struct {
      {{0, 0, 1, 1}, {0x55, 0x55, 0x55, 0x55, 0x55, 0x55, 0xD5, 0x3F}}},
     /* number of readings, width, length of the lists: 101 and 142 by 4 */
     {"average_windows", average_windows, 3, {5, 4, 3}, {{0, 0, 25, 35, 0, 0, 0, 1, 2}, {0}}},
+    {"root_whole", root_whole, 1, {4195835}, {{0, 0, 2048, 1531}, {0}}},
+    /* a, direction: the root of 3 upward */
+    {"root_binary64", root_binary64, 2, {THREE, 2}, {{0, 0, 0x3FFBB67AE8584CABull, 1}, {0}}},
 };
 
 /* Is it the answer of case i? Padding after a row's limits is left out: it is no part of the answer. */

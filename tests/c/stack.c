@@ -6,7 +6,7 @@
 #include <stdio.h>
 #include <string.h>
 
-enum { CALLS = 12, TURNS = 1000, PAINT = 0xA5 };
+enum { CALLS = 14, TURNS = 1000, PAINT = 0xA5 };
 
 static uint8_t stack[8192] __attribute__((aligned(64)));
 static uint8_t table[QUENDARIC_TABLE_LENGTH], buffer[QUENDARIC_MOST_DIGITS];
@@ -42,7 +42,9 @@ static void call(void) {
   case 8: sink = quendaric_divide_binary64(table, size, a, b, a % 4).pattern; break;
   case 9: sink = quendaric_divide_binary64_kept(a, b, a % 4).pattern; break;
   case 10: sink = quendaric_divide_samples(table, size, &a, 1, &b, 1, &concentration, 1, a % 4).flags; break;
-  default: sink = quendaric_average_windows(readings, 8, 1 + a % 8, means, 8, remainders, 8).refusal; break;
+  case 11: sink = quendaric_average_windows(readings, 8, 1 + a % 8, means, 8, remainders, 8).refusal; break;
+  case 12: sink = quendaric_root_whole(x).root; break;
+  default: sink = quendaric_root_binary64(a >> 1, b % 4).pattern; break;
   }
 }
 

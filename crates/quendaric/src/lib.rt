@@ -6,8 +6,10 @@ ghost use Rattle.recurrence.specs.Run.{runOf, bufferOf};
 ghost use Rattle.division.specs.Whole.{wholeOf};
 ghost use Rattle.division.specs.Binary64.{binary64Of};
 ghost use Rattle.division.specs.Samples.{samplesOf, concentrationsOf};
+ghost use Rattle.division.specs.RootCalls.{rootWholeOf, rootBinary64Of};
 ghost use Rattle.exposure.specs.Computed.{averagesOf, meansOf, remaindersOf};
 use division::binary64::Binary64Answer;
+use division::root::RootAnswer;
 use division::samples::SamplesAnswer;
 use division::whole::WholeAnswer;
 use recurrence::RunAnswer;
@@ -139,4 +141,20 @@ pub extern "C" fn quendaric_average_windows(
     ensures { λ r. ⌜ (r ≡ averagesOf (now (readings .entry)) width (now (means .entry)) (now (remainders .entry))) × (now (means .exit) ≡ meansOf (now (readings .entry)) width (now (means .entry)) (now (remainders .entry))) × (now (remainders .exit) ≡ remaindersOf (now (readings .entry)) width (now (means .entry)) (now (remainders .entry))) ⌝ }
 {
     exposure::average_windows(readings, width, means, remainders)
+}
+
+// The whole root.
+#[no_mangle]
+pub extern "C" fn quendaric_root_whole(a: u64) -> RootAnswer
+    ensures { λ r. ⌜ r ≡ rootWholeOf a ⌝ }
+{
+    division::root::root_whole(a)
+}
+
+// The root of a binary64 pattern.
+#[no_mangle]
+pub extern "C" fn quendaric_root_binary64(a: u64, direction: u64) -> Binary64Answer
+    ensures { λ r. ⌜ r ≡ rootBinary64Of direction a ⌝ }
+{
+    division::root::root_binary64(a, direction)
 }

@@ -27,8 +27,8 @@ abbrev pub withRun : Counts → FileRun → Counts
 withRun m Unread = m
 withRun m (Counted n) = added m n
 
-abbrev pub total : FileRun → FileRun → FileRun → FileRun → FileRun → Counts
-total a b c d e = withRun (withRun (withRun (withRun (withRun (record { run = 0; differ = 0 }) a) b) c) d) e
+abbrev pub total : FileRun → FileRun → FileRun → FileRun → FileRun → FileRun → FileRun → Counts
+total a b c d e f g = withRun (withRun (withRun (withRun (withRun (withRun (withRun (record { run = 0; differ = 0 }) a) b) c) d) e) f) g
 
 -- x is a report: the line of names, the files' lines and that of their sum
 pub record Reports (x : List ℕ) : Type 0 where
@@ -37,8 +37,10 @@ pub record Reports (x : List ℕ) : Type 0 where
   pub llvm : FileRun
   pub mpfr : FileRun
   pub nan : FileRun
-  pub ran : Ran testfloat × Ran glibc × Ran llvm × Ran mpfr × Ran nan
-  pub text : x ≡ ascii "file run differ\n" ++ fileText (ascii "div-testfloat.txt") testfloat ++ fileText (ascii "div-glibc.txt") glibc ++ fileText (ascii "div-llvm.txt") llvm ++ fileText (ascii "div-mpfr.txt") mpfr ++ fileText (ascii "div-nan.txt") nan ++ countsText (ascii "total") (total testfloat glibc llvm mpfr nan)
+  pub root-testfloat : FileRun
+  pub root-glibc : FileRun
+  pub ran : Ran testfloat × Ran glibc × Ran llvm × Ran mpfr × Ran nan × Ran root-testfloat × Ran root-glibc
+  pub text : x ≡ ascii "file run differ\n" ++ fileText (ascii "div-testfloat.txt") testfloat ++ fileText (ascii "div-glibc.txt") glibc ++ fileText (ascii "div-llvm.txt") llvm ++ fileText (ascii "div-mpfr.txt") mpfr ++ fileText (ascii "div-nan.txt") nan ++ fileText (ascii "sqrt-testfloat.txt") root-testfloat ++ fileText (ascii "sqrt-glibc.txt") root-glibc ++ countsText (ascii "total") (total testfloat glibc llvm mpfr nan root-testfloat root-glibc)
 
 -- what is below is for private functions
 

@@ -1,6 +1,7 @@
 -- A line of the vector files, 56 bytes: operands a and b, direction, expected pattern (hexadecimal) and flags (two decimal digits), parted by spaces, and the end of line.
+-- Of a root, which has one operand, b is blank.
 use mathlib.Core.Path.{_≡_}
-use mathlib.Core.Bool.{Bool, true, false, cond, not}
+use mathlib.Core.Bool.{Bool, true, false, cond, not, _&&_}
 use mathlib.Core.List.{List}
 use Prim.Native.Char.{code}
 use Prim.Native.Nat.{ℕ, zero, suc, _+_, _*_, _-_, _/_}
@@ -9,6 +10,7 @@ use lib.ListN.{length, getD, take, drop}
 use Rattle.division.specs.declared.binary64.Binary64Answer.{Binary64Answer}
 use Rattle.selection.specs.Computed.{madeTable, countBelow}
 use Rattle.division.specs.Binary64.{binary64Of}
+use Rattle.division.specs.RootCalls.{rootBinary64Of}
 use Rattle.printing.specs.declared.input.Input.{Input}
 use Rattle.vectors.specs.declared.Vector.{Vector}
 use Rattle.vectors.specs.declared.Counts.{Counts}
@@ -24,9 +26,13 @@ unfoldable pub hexOf : List ℕ → ℕ → ℕ → ℕ
 hexOf s at zero = 0
 hexOf s at (suc n) = 16 * hexOf s at n + nibbleOf (getD s (at + n) 0)
 
+-- a line is a root's
+abbrev pub isRoot : List ℕ → Bool
+isRoot s = eqb (getD s 17 0) (code " ")
+
 -- the case that a line holds
 abbrev pub vectorOf : List ℕ → Vector
-vectorOf s = record { a = hexOf s 0 16; b = hexOf s 17 16; direction = hexOf s 34 1; pattern = hexOf s 36 16; flags = 10 * hexOf s 53 1 + hexOf s 54 1 }
+vectorOf s = record { root = isRoot s; a = hexOf s 0 16; b = hexOf s 17 16; direction = hexOf s 34 1; pattern = hexOf s 36 16; flags = 10 * hexOf s 53 1 + hexOf s 54 1 }
 
 -- 0 to 9
 abbrev pub isDecimal : ℕ → Bool
@@ -44,22 +50,33 @@ parts i = cond (eqb i 16) true (cond (eqb i 33) true (cond (eqb i 35) true (eqb 
 abbrev pub decimals : ℕ → Bool
 decimals i = cond (eqb i 34) true (cond (ltb i 53) false (ltb i 55))
 
--- a line may have the byte c at index i: a space between two fields, a decimal digit in direction and flags, an end of line at the end, elsewhere a hexadecimal digit
+-- a line of two operands may have the byte c at index i: a space between two fields, a decimal digit in direction and flags, an end of line at the end, elsewhere a hexadecimal digit
 abbrev pub fitsAt : ℕ → ℕ → Bool
 fitsAt i c = cond (parts i) (eqb c (code " ")) (cond (decimals i) (isDecimal c) (cond (eqb i 55) (eqb c (code "\n")) (isHex c)))
+
+-- a line may: of a root the second operand is blank
+abbrev pub blankAt : Bool → ℕ → Bool
+blankAt root i = root && (ltb 16 i && ltb i 33)
+
+abbrev pub lineFits : Bool → ℕ → ℕ → Bool
+lineFits root i c = cond (blankAt root i) (eqb c (code " ")) (fitsAt i c)
 
 -- the first n bytes fit
 unfoldable pub formedUpto : List ℕ → ℕ → Bool
 formedUpto s zero = true
-formedUpto s (suc n) = cond (formedUpto s n) (fitsAt n (getD s n 0)) false
+formedUpto s (suc n) = cond (formedUpto s n) (lineFits (isRoot s) n (getD s n 0)) false
 
 -- an answer differs from a case: it is a refusal, or in the pattern, or in the flags
 abbrev pub differsFrom : Vector → Binary64Answer → Bool
 differsFrom v x = cond (eqb (x .refusal .number) 0) (cond (eqb (x .pattern) (v .pattern)) (not (eqb (x .flags) (v .flags))) true) true
 
--- the unit's answer, through the kept table, differs from a case
+-- the unit's answer: a root, or a quotient through the kept table
+abbrev pub answerOf : Bool → ℕ → ℕ → ℕ → Binary64Answer
+answerOf root a b direction = cond root (rootBinary64Of direction a) (binary64Of madeTable direction a b)
+
+-- the unit's answer differs from a case
 abbrev pub differsIn : Vector → Bool
-differsIn v = differsFrom v (binary64Of madeTable (v .direction) (v .a) (v .b))
+differsIn v = differsFrom v (answerOf (v .root) (v .a) (v .b) (v .direction))
 
 -- a line differs: it is cut short, or not in the form, or the unit's answer differs from its case
 abbrev pub lineDiffers : List ℕ → Bool

@@ -1,11 +1,12 @@
-// Public test vectors of IEEE 754 division through the unit: of each file how many lines were run, and how many of them differ.
+// Public test vectors of IEEE 754 division and square root through the unit: of each file how many lines were run, and how many of them differ.
 ghost use mathlib.Core.Path.{_≡_};
 ghost use Prim.Native.Nat.{_+_, _*_, _^_, _≤_, _<_};
 ghost use lib.ListN.{length, take};
 ghost use Rattle.io.specs.Counts.{Counts as Counts·io};
 ghost use Rattle.printing.specs.Text.{Appended};
-ghost use Rattle.vectors.specs.Vectors.{nibbleOf, hexOf, vectorOf, isDecimal, isHex, fitsAt, formedUpto, differsIn, lineDiffers, lineAt, countsOf, runOf, Ran};
+ghost use Rattle.vectors.specs.Vectors.{nibbleOf, hexOf, isRoot, vectorOf, isDecimal, isHex, fitsAt, blankAt, lineFits, formedUpto, answerOf, differsIn, lineDiffers, lineAt, countsOf, runOf, Ran};
 ghost use Rattle.vectors.specs.Report.{countsText, added, Room, WithFile, Reports};
+use division::binary64::Binary64Answer;
 use libc::STDERR_FILENO;
 use libc::STDOUT_FILENO;
 use printing::input::Input;
@@ -13,8 +14,9 @@ use printing::input::read_input;
 use printing::text::append;
 use printing::text::append_number;
 
-// One case: two operands, a direction, and the pattern and flags that are expected.
+// One case: two operands, or the operand of a root, a direction, and the pattern and flags that are expected.
 struct Vector {
+    root: bool,
     a: u64,
     b: u64,
     direction: u64,
@@ -39,8 +41,8 @@ struct Page {
     total: Counts,
 }
 
-// Room for the longest report: 16 bytes of names, and six lines of a name and two numbers of 20 digits.
-const ROOM: usize = 344;
+// Room for the longest report: 16 bytes of names, and eight lines of a name and two numbers of 20 digits.
+const ROOM: usize = 462;
 
 // Room for the bytes of 16,000 lines and one byte more, so that a longer file is seen.
 const FILE: usize = 896001;
@@ -84,7 +86,7 @@ fn is_hex(c: u8) -> bool
     c <= b'f'
 }
 
-// Whether a line may have the byte c at index i.
+// Whether a line of two operands may have the byte c at index i.
 fn fits(i: usize, c: u8) -> bool
     ensures { λ r. ⌜ r ≡ fitsAt i c ⌝ }
 {
@@ -97,13 +99,39 @@ fn fits(i: usize, c: u8) -> bool
     }
 }
 
+// Whether a line is blank at index i: a root has no second operand.
+fn blank_at(root: bool, i: usize) -> bool
+    ensures { λ r. ⌜ r ≡ blankAt root i ⌝ }
+{
+    root && (16 < i && i < 33)
+}
+
+// Whether a line may have the byte c at index i.
+fn line_fits(root: bool, i: usize, c: u8) -> bool
+    ensures { λ r. ⌜ r ≡ lineFits root i c ⌝ }
+{
+    if blank_at(root, i) {
+        return c == b' ';
+    }
+    fits(i, c)
+}
+
+// Whether a line is a root's: its second operand is blank.
+fn is_root(line: &[u8]) -> bool
+    requires { ⌜ length (now line) ≡ 56 ⌝ }
+    ensures { λ r. ⌜ r ≡ isRoot (now (line .entry)) ⌝ }
+{
+    line[17] == b' '
+}
+
 fn well_formed(line: &[u8]) -> bool
     requires { ⌜ length (now line) ≡ 56 ⌝ }
     ensures { λ r. ⌜ r ≡ formedUpto (now (line .entry)) 56 ⌝ }
 {
+    let root = is_root(line);
     let mut i: usize = 0;
     while i < 56 {
-        if !fits(i, line[i]) {
+        if !line_fits(root, i, line[i]) {
             return false;
         }
         i += 1;
@@ -129,12 +157,14 @@ fn parse(line: &[u8]) -> Vector
     requires { ⌜ length (now line) ≡ 56 ⌝ }
     ensures { λ r. ⌜ r ≡ vectorOf (now (line .entry)) ⌝ }
 {
+    let root = is_root(line);
     let a = hex(line, 0, 16);
     let b = hex(line, 17, 16);
     let direction = hex(line, 34, 1);
     let pattern = hex(line, 36, 16);
     let flags = 10 * hex(line, 53, 1) + hex(line, 54, 1);
     Vector {
+        root,
         a,
         b,
         direction,
@@ -143,11 +173,21 @@ fn parse(line: &[u8]) -> Vector
     }
 }
 
-// Whether the unit's answer, through the kept table, differs from the expected one.
+// The unit's answer: a root, or a quotient through the kept table.
+fn answer_of(root: bool, a: u64, b: u64, direction: u64) -> Binary64Answer
+    ensures { λ r. ⌜ r ≡ answerOf root a b direction ⌝ }
+{
+    if root {
+        return division::root::root_binary64(a, direction);
+    }
+    division::binary64::divide_binary64_kept(a, b, direction)
+}
+
+// Whether the unit's answer differs from the expected one.
 fn differs(v: Vector) -> bool
     ensures { λ r. ⌜ r ≡ differsIn v ⌝ }
 {
-    let answer = division::binary64::divide_binary64_kept(v.a, v.b, v.direction);
+    let answer = answer_of(v.root, v.a, v.b, v.direction);
     if answer.refusal.number != 0 {
         return true;
     }
@@ -307,7 +347,9 @@ fn report(out: &mut [u8; ROOM]) -> usize
     let three = with_file(out, two, b"div-llvm.txt");
     let four = with_file(out, three, b"div-mpfr.txt");
     let five = with_file(out, four, b"div-nan.txt");
-    append_counts(out, five.end, b"total", five.total)
+    let six = with_file(out, five, b"sqrt-testfloat.txt");
+    let seven = with_file(out, six, b"sqrt-glibc.txt");
+    append_counts(out, seven.end, b"total", seven.total)
 }
 
 fn main() {

@@ -58,6 +58,15 @@ pub struct Whole {
 
 #[repr(C)]
 #[derive(Clone, Copy, Debug, Default, PartialEq, Eq)]
+pub struct Root {
+    pub refusal: u64,
+    pub place: u64,
+    pub root: u64,
+    pub remainder: u64,
+}
+
+#[repr(C)]
+#[derive(Clone, Copy, Debug, Default, PartialEq, Eq)]
 pub struct Binary64 {
     pub refusal: u64,
     pub place: u64,
@@ -128,6 +137,8 @@ extern "C" {
         remainders: *mut u64,
         remainders_length: usize,
     ) -> Averages;
+    fn quendaric_root_whole(a: u64) -> Root;
+    fn quendaric_root_binary64(a: u64, direction: u64) -> Binary64;
 }
 
 /// A call with a lent table or list to read, which it leaves as it was.
@@ -200,4 +211,12 @@ pub fn average_windows(readings: &[u64], width: usize, means: &mut [u64], remain
     let (m, m_length) = (means.as_mut_ptr(), means.len());
     let (r, r_length) = (remainders.as_mut_ptr(), remainders.len());
     lend(readings, |list, length| unsafe { quendaric_average_windows(list, length, width, m, m_length, r, r_length) })
+}
+
+pub fn root_whole(a: u64) -> Root {
+    unsafe { quendaric_root_whole(a) }
+}
+
+pub fn root_binary64(a: u64, direction: u64) -> Binary64 {
+    unsafe { quendaric_root_binary64(a, direction) }
 }

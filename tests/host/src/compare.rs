@@ -1,12 +1,12 @@
-//! Binary64 division through the unit against both other dividers.
-use crate::calls;
-use crate::dividers::{exact, is_tie, processor, NAN};
+//! Binary64 quotients and roots of the unit against those of both others.
+use crate::calls::{self, Binary64};
+use crate::dividers::{exact, exact_root, is_tie, processor, processor_root, NAN};
 use crate::draw::Draw;
 
 /// What was compared, and how often each kind of result came up.
 #[derive(Clone, Copy, Debug, Default)]
 pub struct Tally {
-    pub divisions: u64,
+    pub answers: u64,
     pub differences: u64,
     pub inexact: u64,
     pub underflow: u64,
@@ -21,7 +21,7 @@ pub struct Tally {
 impl Tally {
     pub fn plus(self, o: Tally) -> Tally {
         Tally {
-            divisions: self.divisions + o.divisions,
+            answers: self.answers + o.answers,
             differences: self.differences + o.differences,
             inexact: self.inexact + o.inexact,
             underflow: self.underflow + o.underflow,
@@ -35,29 +35,46 @@ impl Tally {
     }
 }
 
+impl Tally {
+    /// One answer of the unit to `what` against those of the two others.
+    fn compare(&mut self, what: impl Fn() -> String, r: Binary64, processor: (u64, u64), exact: (u64, u64)) {
+        assert_eq!(processor, exact, "the two others differ: {}", what());
+        let (pattern, flags) = exact;
+        self.answers += 1;
+        if r != (Binary64 { refusal: 0, place: 0, pattern, flags }) {
+            self.differences += 1;
+            if self.differences < 10 {
+                println!("{}: {r:x?}, the others say {exact:x?}", what());
+            }
+        }
+        self.inexact += flags & 1;
+        self.underflow += flags >> 1 & 1;
+        self.overflow += flags >> 2 & 1;
+        self.by_zero += flags >> 3 & 1;
+        self.invalid += flags >> 4 & 1;
+        let field = pattern >> 52 & 2047;
+        self.subnormal += u64::from(field == 0 && pattern << 1 != 0);
+        self.nan += u64::from(pattern == NAN);
+    }
+}
+
 /// One pair in all four directions, through a lent table or the kept one.
 pub fn pair(table: Option<&[u8]>, a: u64, b: u64, tally: &mut Tally) {
     for direction in 0..4 {
-        let (x, y) = (processor(a, b, direction), exact(a, b, direction));
-        assert_eq!(x, y, "the two other dividers differ: {a:016x} / {b:016x}, direction {direction}");
+        let what = || format!("{a:016x} / {b:016x}, direction {direction}");
         let r = calls::divide_binary64(table, a, b, direction);
-        tally.divisions += 1;
-        if (r.refusal, r.place, r.pattern, r.flags) != (0, 0, x.0, x.1) {
-            tally.differences += 1;
-            if tally.differences < 10 {
-                println!("{a:016x} / {b:016x}, direction {direction}: {r:x?}, the other dividers say {x:x?}");
-            }
-        }
-        tally.inexact += x.1 & 1;
-        tally.underflow += x.1 >> 1 & 1;
-        tally.overflow += x.1 >> 2 & 1;
-        tally.by_zero += x.1 >> 3 & 1;
-        tally.invalid += x.1 >> 4 & 1;
-        let field = x.0 >> 52 & 2047;
-        tally.subnormal += u64::from(field == 0 && x.0 << 1 != 0);
-        tally.nan += u64::from(x.0 == NAN);
+        tally.compare(what, r, processor(a, b, direction), exact(a, b, direction));
     }
     tally.ties += u64::from(is_tie(a, b));
+}
+
+/// The root of one operand in all four directions.
+pub fn root(a: u64, tally: &mut Tally) {
+    for direction in 0..4 {
+        let what = || format!("the root of {a:016x}, direction {direction}");
+        let r = calls::root_binary64(a, direction);
+        tally.compare(what, r, processor_root(a, direction), exact_root(a, direction));
+    }
 }
 
 /// So many pairs, drawn from a seed.
@@ -71,15 +88,26 @@ pub fn drawn(table: Option<&[u8]>, seed: u64, pairs: u64) -> Tally {
     tally
 }
 
-/// The same through the kept table, parted over the machine's cores. Each block of pairs has a seed of its own, so the
-/// pairs do not depend on the number of cores.
-pub fn drawn_on_all_cores(seed: u64, blocks: u64, pairs: u64) -> Tally {
+/// The roots of so many operands, drawn from a seed.
+pub fn drawn_roots(seed: u64, operands: u64) -> Tally {
+    let mut draw = Draw::new(seed);
+    let mut tally = Tally::default();
+    for turn in 0..operands {
+        root(draw.root_operand(turn), &mut tally);
+    }
+    tally
+}
+
+/// Blocks of answers, parted over the machine's cores. Each block has a seed of its own, so the answers do not depend on
+/// the number of cores.
+pub fn on_all_cores(blocks: u64, answers: impl Fn(u64) -> Tally + Sync) -> Tally {
     let cores = std::thread::available_parallelism().map_or(1, |n| n.get()) as u64;
     let part = |core: u64| {
         let own = (core..blocks).step_by(cores as usize);
-        own.map(|block| drawn(None, seed + block, pairs)).fold(Tally::default(), Tally::plus)
+        own.map(&answers).fold(Tally::default(), Tally::plus)
     };
     std::thread::scope(|scope| {
+        let part = &part;
         let parts: Vec<_> = (0..cores).map(|core| scope.spawn(move || part(core))).collect();
         parts.into_iter().map(|p| p.join().expect("a thread of the comparison")).fold(Tally::default(), Tally::plus)
     })

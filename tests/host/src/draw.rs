@@ -109,6 +109,28 @@ impl Draw {
         (ea << 52 | a & FRACTION, eb << 52 | b & FRACTION | self.bits() & SIGN)
     }
 
+    /// A square, or a neighbour of one: half of them of a number of at most 26 bits, which is exact, the others of one of
+    /// 54 bits, so that the root lies next to a number or halfway to the next one.
+    fn square(&mut self) -> u64 {
+        let exact = self.below(2) == 0;
+        let s = if exact { self.bits() >> (38 + self.below(26)) } else { self.bits() >> 10 | 1 << 53 };
+        let n = u128::from(s) * u128::from(s);
+        let m = if exact { n as u64 } else { (n >> (n.ilog2() - 52)) as u64 };
+        let a = Draw::pattern(m, self.below(2046) as i64 - 1074);
+        (a + self.below(3)).saturating_sub(1)
+    }
+
+    /// The operand of a root. Five kinds in turn.
+    pub fn root_operand(&mut self, turn: u64) -> u64 {
+        match turn % 5 {
+            0 => self.bits(),
+            1 => self.edge(),
+            2 => self.bits() >> (12 + self.below(52)),
+            3 => (self.below(2048) << 52 | self.bits() & FRACTION) & !SIGN,
+            _ => self.square(),
+        }
+    }
+
     /// Two binary64 operands. Seven kinds in turn.
     pub fn operands(&mut self, turn: u64) -> (u64, u64) {
         match turn % 7 {

@@ -1,6 +1,6 @@
 //! Would catch a refusal that is missing, raised without its condition, out of order, with a wrong place or with values
 //! that are not zeros, and a call that touches a lent buffer when it refuses or writes past its end.
-use host::calls::{self, Binary64, Cell, Limits, Make, Run, Samples, Table, Whole};
+use host::calls::{self, Binary64, Cell, Limits, Make, Root, Run, Samples, Table, Whole};
 use host::document::{rule, run, CELLS};
 
 const CANARY: u8 = 0xA5;
@@ -237,4 +237,23 @@ fn samples() {
         }
     }
     assert_eq!(seen.keys().copied().collect::<Vec<u64>>(), [0, 6, 7, 8, 9, 10, 11]);
+}
+
+#[test]
+fn roots() {
+    for a in [0, 1, (1 << 60) - 1, 1 << 60, (1 << 60) + 1, u64::MAX] {
+        let got = calls::root_whole(a);
+        match a >> 60 {
+            0 => assert_eq!((got.refusal, got.place), (0, 0), "{a}"),
+            _ => assert_eq!(got, Root { refusal: 4, ..Default::default() }, "{a}"),
+        }
+        // of a binary64 root only the direction is refused, whatever the operand
+        for direction in [0, 1, 2, 3, 4, 5, 1 << 32, u64::MAX] {
+            let got = calls::root_binary64(a, direction);
+            match direction {
+                0..=3 => assert_eq!((got.refusal, got.place), (0, 0), "{a} {direction}"),
+                _ => assert_eq!(got, Binary64 { refusal: 6, ..Default::default() }, "{a} {direction}"),
+            }
+        }
+    }
 }

@@ -5,10 +5,10 @@ use Rattle.vectors.proofs.parse.Tie as tie
 
 returns : tie.Need-returns
 returns c =
-    rw (c .before .before .before .before .before .hex .ensures .0, c .before .before .before .before .hex2 .ensures .0, c .before .before .before .hex3 .ensures .0, c .before .before .hex4 .ensures .0, c .before .hex5 .ensures .0, c .hex6 .ensures .0)
+    rw (c .before .before .before .before .before .before .is-root .ensures, c .before .before .before .before .before .hex .ensures .0, c .before .before .before .before .hex2 .ensures .0, c .before .before .before .hex3 .ensures .0, c .before .before .hex4 .ensures .0, c .before .hex5 .ensures .0, c .hex6 .ensures .0)
 
 pub parse-spec : {M : Type 1} → statement M
 parse-spec =
     tie.close (tie.spec (λ c κs. search needs) (λ c κs. search needs) (λ c κs. search needs)
-    (λ c κs. search needs) (λ c κs. search needs) (λ c. search needs) (λ c κs. search needs)
+    (λ c κs. search needs) (λ c κs. search needs) (λ c κs. search needs) (λ c. search needs) (λ c κs. search needs)
     (λ c. search needs) returns)
