@@ -25,7 +25,7 @@ broken-point w = record { divisor = w .divisor; remainder = w .remainder; point 
 
 -- a point lies in the columns 20 to 106
 pub point-columns : {r c : ℕ} → r ≤ 15 → c ≤ 127 → HasPoint r c → (20 ≤ c) × (c ≤ 106)
-point-columns hr hc p = let b = of-point hr hc (p .point) .point in (omega (arith, b), omega (arith, b))
+point-columns hr hc p = let b = of-point (omega arith) hr hc (p .point) .point in (omega (arith, b), omega (arith, b))
 
 pub drawn-yes : {c : ℕ} → 16 ≤ c → c < 112 → DrawnIs c true
 drawn-yes l h = record { yes = λ e. (l, h); no = λ e. absurd (subst T e tt) }

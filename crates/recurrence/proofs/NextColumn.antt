@@ -11,56 +11,56 @@ use Rattle.recurrence.specs.FastRun.{withColumn, topBitsOf, multiplesOf,
 use Rattle.recurrence.specs.declared.RunState.{RunState}
 use Rattle.recurrence.proofs.CarrySave.{tops, majority}
 
-shifted : (n : ℕ) → n * 4 % 2 ^ 64 / 2 ^ 57 ≡ n / 2 ^ 55 % 128
+shifted : (n : ℕ) → n * 4 % 2 ^ 64 / 2 ^ 56 ≡ n / 2 ^ 54 % 256
 shifted n = omega arith
 
-halves : (σ μ k t : ℕ) → k ≤ 1 → σ / 2 ^ 54 + μ / 2 ^ 54 * 2 ≡ t → σ / 2 ^ 55 + (μ * 2 + k) / 2 ^ 55 ≡ t / 2
+halves : (σ μ k t : ℕ) → k ≤ 1 → σ / 2 ^ 53 + μ / 2 ^ 53 * 2 ≡ t → σ / 2 ^ 54 + (μ * 2 + k) / 2 ^ 54 ≡ t / 2
 halves σ μ k t h e = omega arith
 
 -- the next column needs the tops of the words and of the multiple, and neither of the next words
 pub ahead : (a b x k : ℕ) → k ≤ 1
-    → column (sum3 a b x * 4 % 2 ^ 64) ((maj3 a b x * 2 + k) * 4 % 2 ^ 64) ≡ ((a / 2 ^ 54 + b / 2 ^ 54 + x / 2 ^ 54) / 2 + 64) % 128
+    → column (sum3 a b x * 4 % 2 ^ 64) ((maj3 a b x * 2 + k) * 4 % 2 ^ 64) ≡ ((a / 2 ^ 53 + b / 2 ^ 53 + x / 2 ^ 53) / 2 + 128) % 256 / 2
 ahead a b x k h =
     rw (
       shifted (sum3 a b x),
       shifted (maj3 a b x * 2 + k),
-      mod-sum (sum3 a b x / 2 ^ 55) ((maj3 a b x * 2 + k) / 2 ^ 55) 64 128,
-      halves (sum3 a b x) (maj3 a b x) k _ h (tops a b x 54),
+      mod-sum (sum3 a b x / 2 ^ 54) ((maj3 a b x * 2 + k) / 2 ^ 54) 128 256,
+      halves (sum3 a b x) (maj3 a b x) k _ h (tops a b x 53),
     )
 
--- the eight bits of a word that count
-top : (n : ℕ) → bitAnd (n % 2 ^ 62) (2 ^ 64 - 2 ^ 54) ≡ n / 2 ^ 54 % 256 * 2 ^ 54
-top n = and-high (n % 2 ^ 62) 10 54 ∙ omega arith
+-- the nine bits of a word that count
+top : (n : ℕ) → bitAnd (n % 2 ^ 62) (2 ^ 64 - 2 ^ 53) ≡ n / 2 ^ 53 % 512 * 2 ^ 53
+top n = and-high (n % 2 ^ 62) 11 53 ∙ omega arith
 
-moved-up : (u v : ℕ) → (u % 256 * 2 ^ 54 + v % 256 * 2 ^ 54) % 2 ^ 64 * 4 % 2 ^ 64 ≡ (u % 256 + v % 256) * 2 ^ 56 % 2 ^ 64
+moved-up : (u v : ℕ) → (u % 512 * 2 ^ 53 + v % 512 * 2 ^ 53) % 2 ^ 64 * 4 % 2 ^ 64 ≡ (u % 512 + v % 512) * 2 ^ 55 % 2 ^ 64
 moved-up u v = omega arith
 
 -- only one addend has bits below them
-added : (u l : ℕ) → (u * 2 ^ 56 % 2 ^ 64 + l) % 2 ^ 64 / 2 ^ 57 ≡ (u + l / 2 ^ 56) % 256 / 2
-added u l = rw mod-add-mod (low (u + l / 2 ^ 56) (u * 2 ^ 56 + l) (omega arith))
+added : (u l : ℕ) → (u * 2 ^ 55 % 2 ^ 64 + l) % 2 ^ 64 / 2 ^ 57 ≡ (u + l / 2 ^ 55) % 512 / 4
+added u l = rw mod-add-mod (low (u + l / 2 ^ 55) (u * 2 ^ 55 + l) (omega arith))
   where
-    low : (v w : ℕ) → w / 2 ^ 56 ≡ v → w % 2 ^ 64 / 2 ^ 57 ≡ v % 256 / 2
+    low : (v w : ℕ) → w / 2 ^ 55 ≡ v → w % 2 ^ 64 / 2 ^ 57 ≡ v % 512 / 4
     low v w e = omega arith
 
-turned : (a b x : ℕ) → (a % 256 + b % 256 + (x + 128) % 256) % 256 / 2 ≡ ((a + b + x) / 2 + 64) % 128
-turned a b x = rw (add-mod-mod, mod-sum a b (x + 128) 256) (half (a + b + x) (omega arith))
+turned : (a b x : ℕ) → (a % 512 + b % 512 + (x + 256) % 512) % 512 / 4 ≡ ((a + b + x) / 2 + 128) % 256 / 2
+turned a b x = rw (add-mod-mod, mod-sum a b (x + 256) 512) (half (a + b + x) (omega arith))
   where
-    half : (t : ℕ) {u : ℕ} → u ≡ t + 128 → u % 256 / 2 ≡ (t / 2 + 64) % 128
+    half : (t : ℕ) {u : ℕ} → u ≡ t + 256 → u % 512 / 4 ≡ (t / 2 + 128) % 256 / 2
     half t e = omega arith
 
 -- the code's column
-pub ahead-code : (a b x k l : ℕ) → k ≤ 1 → l / 2 ^ 56 ≡ topBitsOf x
-    → ((bitAnd (a % 2 ^ 62) (2 ^ 64 - 2 ^ 54) + bitAnd (b % 2 ^ 62) (2 ^ 64 - 2 ^ 54)) % 2 ^ 64 * 4 % 2 ^ 64 + l) % 2 ^ 64 / 2 ^ 57
+pub ahead-code : (a b x k l : ℕ) → k ≤ 1 → l / 2 ^ 55 ≡ topBitsOf x
+    → ((bitAnd (a % 2 ^ 62) (2 ^ 64 - 2 ^ 53) + bitAnd (b % 2 ^ 62) (2 ^ 64 - 2 ^ 53)) % 2 ^ 64 * 4 % 2 ^ 64 + l) % 2 ^ 64 / 2 ^ 57
     ≡ column (sum3 a b x * 4 % 2 ^ 64) ((maj3 a b x * 2 + k) * 4 % 2 ^ 64)
 ahead-code a b x k l h e =
-    rw (top a, top b, moved-up (a / 2 ^ 54) (b / 2 ^ 54), added, e, ahead a b x k h) (turned (a / 2 ^ 54) (b / 2 ^ 54) (x / 2 ^ 54))
+    rw (top a, top b, moved-up (a / 2 ^ 53) (b / 2 ^ 53), added, e, ahead a b x k h) (turned (a / 2 ^ 53) (b / 2 ^ 53) (x / 2 ^ 53))
 
 -- the top bits of each come to the top by its shift
-pub top-bits-at : (ms : List ℕ) (d : ℕ) → d ≤ 4 → allTopBits ms * 2 ^ (9 * d) % 2 ^ 64 / 2 ^ 56 ≡ topBitsOf (getD ms d 0)
+pub top-bits-at : (ms : List ℕ) (d : ℕ) → d ≤ 4 → allTopBits ms * 2 ^ (9 * d) % 2 ^ 64 / 2 ^ 55 ≡ topBitsOf (getD ms d 0)
 top-bits-at ms = joined (λ d. topBitsOf (getD ms d 0)) (λ d. omega arith)
   where
-    joined : (f : ℕ → ℕ) → ((d : ℕ) → f d < 256) → (d : ℕ) → d ≤ 4
-        → ((((f 0 * 512 + f 1) * 512 + f 2) * 512 + f 3) * 512 + f 4) * 2 ^ 20 * 2 ^ (9 * d) % 2 ^ 64 / 2 ^ 56 ≡ f d
+    joined : (f : ℕ → ℕ) → ((d : ℕ) → f d < 512) → (d : ℕ) → d ≤ 4
+        → ((((f 0 * 512 + f 1) * 512 + f 2) * 512 + f 3) * 512 + f 4) * 2 ^ 19 * 2 ^ (9 * d) % 2 ^ 64 / 2 ^ 55 ≡ f d
     joined f s zero h = omega (arith, s 0, s 1, s 2, s 3, s 4)
     joined f s (suc zero) h = omega (arith, s 0, s 1, s 2, s 3, s 4)
     joined f s (suc (suc zero)) h = omega (arith, s 0, s 1, s 2, s 3, s 4)
@@ -88,12 +88,12 @@ one-bit : (d : ℕ) → lowestCarry d ≤ 1
 one-bit d = by-cond (λ n. n ≤ 1) (ltb 2 d) 1 0 (λ t. omega arith) (λ t. omega arith)
 
 -- the words and the column that the code forms are those of the step
-pub step-code : (p : State) (d x l : ℕ) → x ≡ multiple d (p .divisor) → l / 2 ^ 56 ≡ topBitsOf x
+pub step-code : (p : State) (d x l : ℕ) → x ≡ multiple d (p .divisor) → l / 2 ^ 55 ≡ topBitsOf x
     → _≡_ {A = RunState} (record {
       sum = bitXor (bitXor (p .sum) (p .carry)) x * 4 % 2 ^ 64;
       carry = ((bitAnd (p .sum) (p .carry) + bitAnd (bitXor (p .sum) (p .carry)) x) % 2 ^ 64 * 2 % 2 ^ 64 + lowestCarry d) * 4 % 2 ^ 64;
       divisor = p .divisor;
-      column = ((bitAnd (p .sum % 2 ^ 62) (2 ^ 64 - 2 ^ 54) + bitAnd (p .carry % 2 ^ 62) (2 ^ 64 - 2 ^ 54)) % 2 ^ 64 * 4 % 2 ^ 64 + l) % 2 ^ 64 / 2 ^ 57;
+      column = ((bitAnd (p .sum % 2 ^ 62) (2 ^ 64 - 2 ^ 53) + bitAnd (p .carry % 2 ^ 62) (2 ^ 64 - 2 ^ 53)) % 2 ^ 64 * 4 % 2 ^ 64 + l) % 2 ^ 64 / 2 ^ 57;
       digit = d;
     }) (withColumn (stepBy d p))
 step-code p d x l e h =

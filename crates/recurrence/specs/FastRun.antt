@@ -20,14 +20,14 @@ stateOf p = record { sum = p .sum; carry = p .carry; divisor = p .divisor; digit
 abbrev pub multiplesOf : ℕ → List ℕ
 multiplesOf D = 2 * D ∷ D ∷ 0 ∷ (2 ^ 64 - 1 - D) ∷ (2 ^ 64 - 1 - 2 * D) ∷ []
 
--- the eight bits of a multiple that the next column needs, plus 128: one bit up, the column's 64
+-- the nine bits of a multiple that the next column needs, plus 256: two bits up, the column's 64
 abbrev pub topBitsOf : ℕ → ℕ
-topBitsOf x = (x / 2 ^ 54 + 128) % 256
+topBitsOf x = (x / 2 ^ 53 + 256) % 512
 
--- the top bits of five multiples, one in each nine bits, the first highest
+-- the top bits of five multiples, the first highest
 abbrev pub allTopBits : List ℕ → ℕ
 allTopBits ms =
-    ((((topBitsOf (getD ms 0 0) * 512 + topBitsOf (getD ms 1 0)) * 512 + topBitsOf (getD ms 2 0)) * 512 + topBitsOf (getD ms 3 0)) * 512 + topBitsOf (getD ms 4 0)) * 2 ^ 20
+    ((((topBitsOf (getD ms 0 0) * 512 + topBitsOf (getD ms 1 0)) * 512 + topBitsOf (getD ms 2 0)) * 512 + topBitsOf (getD ms 3 0)) * 512 + topBitsOf (getD ms 4 0)) * 2 ^ 19
 
 -- 128 digit bytes
 pub record DigitBytes (bytes : List ℕ) : Type 0 where

@@ -18,10 +18,10 @@ ghost use Rattle.recurrence.specs.Row.{Row};
 ghost use Rattle.recurrence.specs.Run.{longest, runRungs, written, runZeros, runValues, runOf, bufferOf};
 ghost use Rattle.recurrence.specs.FastRun.{withColumn, stateOf, multiplesOf, topBitsOf, allTopBits, DigitBytes, StepReady, resultFromWord, CorrectionReady};
 
-// The next column needs the bits 61 to 54 of a word: what is left of it by 2^62, without the bits below 2^54.
+// The next column needs the bits 61 to 53 of a word: what is left of it by 2^62, without the bits below 2^53.
 const TOP_END: u64 = 0x4000_0000_0000_0000;
 
-const TOP_BITS: u64 = 0xffc0_0000_0000_0000;
+const TOP_BITS: u64 = 0xffe0_0000_0000_0000;
 
 // The spans: a divisor is from 2^60 to 2^61 - 1, a dividend from 0 to 2^61 - 1.
 const DIVISOR_LEAST: u64 = 0x1000_0000_0000_0000;
@@ -67,26 +67,26 @@ fn multiples_of(divisor: u64) -> [u64; 5]
     [2 * divisor, divisor, 0, !divisor, !(2 * divisor)]
 }
 
-// The eight bits of a multiple that the next column needs, plus 128: one bit up, the column's 64.
+// The nine bits of a multiple that the next column needs, plus 256: two bits up, the column's 64.
 fn top_bits(multiple: u64) -> u64
     ensures { λ r. ⌜ r ≡ topBitsOf multiple ⌝ }
 {
-    ((multiple >> 54) + 128) % 256
+    ((multiple >> 53) + 256) % 512
 }
 
-// The top bits of the five multiples, nine bits apart, the first at the word's top (so the last starts at bit 20).
+// The top bits of the five multiples, nine bits each, the first at the word's top (so the last starts at bit 19).
 fn all_top_bits(m: &[u64; 5]) -> u64
     ensures { λ r. ⌜ r ≡ allTopBits (now (m .entry)) ⌝ }
 {
     let high = (top_bits(m[0]) * 512 + top_bits(m[1])) * 512 + top_bits(m[2]);
-    ((high * 512 + top_bits(m[3])) * 512 + top_bits(m[4])) * 1048576
+    ((high * 512 + top_bits(m[3])) * 512 + top_bits(m[4])) * 524288
 }
 
 // The column of two words: their truncated estimate, plus 64.
 fn column_of(sum: u64, carry: u64) -> u64
     ensures { λ r. ⌜ r ≡ column sum carry ⌝ }
 {
-    ((sum >> 57) + (carry >> 57) + 64) % 128
+    ((sum >> 56) + (carry >> 56) + 128) % 256 / 2
 }
 
 fn digit_at(row: &[u8], column: usize) -> u8

@@ -4,7 +4,7 @@ use Rattle.laws.proofs.Tests.{by-cond}
 use Rattle.laws.proofs.Diff.{diff, diffs, diff-sub, diff-eq}
 use Rattle.laws.proofs.Division.{le-or-lt}
 use Rattle.selection.specs.Word.{signed, Within}
-use Rattle.selection.specs.Cell.{Point, Keeps, Allows, Against, IsCell, cellRungs, CellChecked, CellMeaning, digit}
+use Rattle.selection.specs.Cell.{earlierSpan, PointUnder, Point, Keeps, Allows, Against, IsCell, cellRungs, CellChecked, CellMeaning, digit}
 use Rattle.selection.specs.Multiples.{Finding, multiplesOf, testOf, cellVerdictOf}
 use Rattle.selection.specs.Multiples.Finding.{NoWitness, LeastAt}
 use Rattle.selection.specs.Answer.{answerBy}
@@ -15,7 +15,7 @@ use Rattle.selection.specs.Computed.{cellOf}
 use Rattle.selection.specs.declared.CellVerdict.{CellVerdict}
 use Rattle.selection.specs.declared.CellVerdict.the-variants.{Allowed, Disallowed, Refused}
 use Rattle.selection.proofs.Ladders.{Ladder, Meets, ladder-meets, not-below}
-use Rattle.selection.proofs.Breaking.{BiasedPoint, Low, High, Breaks, IsLeast}
+use Rattle.selection.proofs.Breaking.{BiasedPointUnder, BiasedPoint, Low, High, Breaks, IsLeast}
 use Rattle.selection.proofs.Tested.{test-right}
 
 -- a word read as signed is that word with its top bit turned, less 2^63
@@ -43,13 +43,13 @@ thrice W = simp diffs (omega arith)
 pub left-over : (b D W : ℕ) → pos 3 *ℤ (diff W (2 ^ 63) -ℤ pos D *ℤ digit b) ≡ diff (3 * (W + D * 2)) (3 * (2 ^ 63 + D * b))
 left-over b D W = rw (digit-diff b) (simp diffs (omega arith))
 
-pub record Biased (r c D : ℕ) (P : ℤ) : Type 0 where
+pub record Biased (m r c D : ℕ) (P : ℤ) : Type 0 where
   pub W : ℕ
   pub is : P ≡ diff W (2 ^ 63)
-  pub point : BiasedPoint r c D W
+  pub point : BiasedPointUnder m r c D W
 
-pub of-point : {r c D : ℕ} {P : ℤ} → r ≤ 15 → c ≤ 127 → Point r c D P → Biased r c D P
-of-point {r} {c} {D} {P} hr hc p =
+pub of-point : {m r c D : ℕ} {P : ℤ} → m ≤ earlierSpan → r ≤ 15 → c ≤ 127 → PointUnder m r c D P → Biased m r c D P
+of-point {m} {r} {c} {D} {P} hm hr hc p =
     let n = (c + 64) * 2 ^ 57 + p .column .e in
     let W = (n + 2 ^ 63) % 2 ^ 64 in
     let e : P ≡ diff W (2 ^ 63) = p .column .is ∙ signed-diff n in
@@ -81,7 +81,7 @@ module _ (b D W : ℕ) where
 module _ (r c b : ℕ) (known : IsCell r c b) where
   breaks : {D : ℕ} {P : ℤ} → Against r c (digit b) D P → (W : ℕ) × (P ≡ diff W (2 ^ 63)) × Breaks r c b D W
   breaks {D} a =
-      let p = of-point (known .row) (known .column) (a .point) in
+      let p = of-point (omega arith) (known .row) (known .column) (a .point) in
       let k : Keeps (digit b) D (diff (p .W) (2 ^ 63)) → ⊥ = λ h. a .broken (subst (Keeps (digit b) D) (sym (p .is)) h) in
       (p .W, p .is, record { point = p .point; side = ⊎-elim (λ h. absurd (k h)) (λ s. s) (sides b D (p .W)) })
 
@@ -89,7 +89,7 @@ module _ (r c b : ℕ) (known : IsCell r c b) where
   result-means NoWitness s = (
     known,
     λ D P p.
-        let q = of-point (known .row) (known .column) p in
+        let q = of-point (omega arith) (known .row) (known .column) p in
         subst (Keeps (digit b) D) (sym (q .is)) (⊎-elim (λ k. k) (λ k. absurd (s D (q .W) (record { point = q .point; side = k }))) (sides b D (q .W))),
   )
   result-means (LeastAt d w) s = (

@@ -4,14 +4,17 @@ use Rattle.selection.specs.Cell.{span}
 use Rattle.selection.specs.Multiples.{Finding}
 use Rattle.selection.specs.Multiples.Finding.{NoWitness, LeastAt}
 
--- a point of a cell
-pub record BiasedPoint (r c D W : ℕ) : Type 0 where
+-- a point of a cell, where the greatest e is m
+pub record BiasedPointUnder (m r c D W : ℕ) : Type 0 where
   pub from : (16 + r) * 2 ^ 56 ≤ D
   pub below : D < (17 + r) * 2 ^ 56
   pub left : c * 2 ^ 57 ≤ W
-  pub right : W ≤ c * 2 ^ 57 + span
+  pub right : W ≤ c * 2 ^ 57 + m
   pub low : 3 * 2 ^ 63 ≤ 3 * W + 8 * D
   pub high : 3 * W ≤ 3 * 2 ^ 63 + 8 * D
+
+abbrev pub BiasedPoint : ℕ → ℕ → ℕ → ℕ → Type 0
+BiasedPoint r c D W = BiasedPointUnder span r c D W
 
 -- 3(P - qD) is below -2D; above 2D
 pub record Low (b D W : ℕ) : Type 0 where

@@ -81,7 +81,7 @@ pub case-4 : AllowedDigits 0 67 (pos 0 ∷ pos 1 ∷ [])
 unfolding allowsOf digit listed same
 case-4 = cell 0 67 _ tt tt tt
 
-pub case-5 : AllowedDigits 0 50 (negsuc 1 ∷ []) × AllowedDigits 0 51 (negsuc 0 ∷ [])
+pub case-5 : AllowedDigits 0 50 (negsuc 1 ∷ []) × AllowedDigits 0 51 (negsuc 1 ∷ negsuc 0 ∷ [])
 unfolding allowsOf digit listed same
 case-5 = (cell 0 50 _ tt tt tt, cell 0 51 _ tt tt tt)
 

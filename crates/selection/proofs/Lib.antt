@@ -20,6 +20,8 @@ pub mod UniqueMade
 pub mod Reports
 pub mod MadeTables
 pub mod RefusedExactly
+pub mod EarlierSpan
+pub mod EarlierKept
 pub mod CellCases
 pub mod Verdicts
 pub mod Ladders

@@ -15,8 +15,8 @@ module _ {r c : ℕ} {q : ℤ} (hr : r ≤ 15) (hc : c ≤ 127) where
 
   one-remainder : {D : ℕ} {P P' : ℤ} → LeastWitness r c q D P → LeastWitness r c q D P' → P ≡ P'
   one-remainder {D} {P} {P'} a b =
-      let x = of-point hr hc (a .against .point) in
-      let y = of-point hr hc (b .against .point) in
+      let x = of-point (omega arith) hr hc (a .against .point) in
+      let y = of-point (omega arith) hr hc (b .against .point) in
       let l : (diff (x .W) (2 ^ 63)) ≤ℤ (diff (y .W) (2 ^ 63)) = rw (← x .is, ← y .is) (a .remainder-least P' (b .against)) in
       let m : (diff (y .W) (2 ^ 63)) ≤ℤ (diff (x .W) (2 ^ 63)) = rw (← x .is, ← y .is) (b .remainder-least P (a .against)) in
       x .is ∙ diff-eq _ _ _ _ .1 (omega (arith, simp diffs at l, simp diffs at m)) ∙ sym (y .is)

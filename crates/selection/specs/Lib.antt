@@ -4,6 +4,7 @@ pub mod Multiples
 pub mod Allowed
 pub mod Table
 pub mod Maker
+pub mod EarlierKept
 pub mod Answer
 pub mod Refusals
 pub mod Computed

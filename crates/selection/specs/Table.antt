@@ -6,7 +6,7 @@ use lib.IntN.{ℤ}
 use lib.ListN.{length, getD, take, drop}
 use Rattle.selection.specs.Refusals.{First, Rung, differ, number, numberFirst, Wrongs, FirstRefusal}
 use Rattle.selection.specs.Allowed.{aboveFour, isBad}
-use Rattle.selection.specs.Cell.{Allows, Against, LeastWitness, digit}
+use Rattle.selection.specs.Cell.{span, AllowsUnder, Against, LeastWitness, digit}
 use Rattle.selection.specs.declared.table.Outcome.{Outcome}
 use Rattle.selection.specs.declared.table.Outcome.the-variants.{Passed, Bad, Refused}
 use Rattle.selection.specs.declared.table.Report.{Report}
@@ -26,10 +26,13 @@ pub record BadAt (t : List ℕ) (k : ℕ) : Type 0 where
   pub remainder : ℤ
   pub against : Against (k / 128) (k % 128) (digit (getD t k 0)) divisor remainder
 
--- a table that passes: each cell holds an allowed digit
-pub record Passes (t : List ℕ) : Type 0 where
+-- a table that passes: each cell holds a digit that is allowed where the greatest e is m
+pub record PassesUnder (m : ℕ) (t : List ℕ) : Type 0 where
   pub table : Table t
-  pub allowed : (k : ℕ) → k < 2048 → Allows (k / 128) (k % 128) (digit (getD t k 0))
+  pub allowed : (k : ℕ) → k < 2048 → AllowsUnder m (k / 128) (k % 128) (digit (getD t k 0))
+
+abbrev pub Passes : List ℕ → Type 0
+Passes t = PassesUnder span t
 
 -- n of the numbers below m have the property P
 pub data Tally (P : ℕ → Type 0) : ℕ → ℕ → Type 0 where

@@ -12,7 +12,7 @@ use crate::Witness;
 const HALF: u64 = 0x8000_0000_0000_0000;
 
 // What the estimate leaves out at most.
-const SPAN: u64 = 0x3ff_ffff_ffff_fffe;
+const SPAN: u64 = 0x2ff_ffff_ffff_fffe;
 
 // The width of a column, and of a row.
 const COLUMN: u64 = 0x200_0000_0000_0000;

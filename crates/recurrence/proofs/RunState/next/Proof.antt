@@ -16,7 +16,7 @@ returns c =
     let ms = s .args .multiples .now in
     let d = c .before .before .before .before .before .digit-at in
     let x : getD ms (d .result) 0 ≡ multiple (d .result) (p .divisor) = rw (s .pre .multiples) (multiple-at (p .divisor) (d .result) (d .ensures .1)) in
-    let l : s .args .tops * 2 ^ (9 * d .result) % 2 ^ 64 / 2 ^ 56 ≡ topBitsOf (getD ms (d .result) 0)
+    let l : s .args .tops * 2 ^ (9 * d .result) % 2 ^ 64 / 2 ^ 55 ≡ topBitsOf (getD ms (d .result) 0)
     = rw (s .pre .top-bits) (top-bits-at ms (d .result) (d .ensures .1)) in
     λ t f.
     let e : d .result ≡ getD t (cellAt (stateOf p)) 0 = d .ensures .0 ∙ rw (f, s .pre .current) (row-at t (row (p .divisor)) (column (p .sum) (p .carry)) (omega arith)) in
