@@ -1,7 +1,8 @@
 /* The division unit: radix-4 SRT division with a table of quotient digits, and square roots, which use no table.
 
    A table is 2,048 bytes. Byte 128 * row + column holds a quotient digit q as q + 2, so 0 to 4. The row is the four
-   bits after the divisor's leading one, the column a truncated estimate of the partial remainder.
+   bits after the divisor's leading one, the column a truncated estimate of the partial remainder, from the top eight
+   bits of each of its two words.
    The kept table is the unit's own; it passes the check. A call whose name ends in _kept uses it and takes no table.
 
    Every call ends, and answers by value. The first two fields of an answer are the refusal (0: none) and its place.
@@ -50,9 +51,9 @@ extern "C" {
 #endif
 
 /* The version of these calls; CHANGELOG.md tells what changed. */
-#define QUENDARIC_VERSION "1.5.0"
+#define QUENDARIC_VERSION "1.6.0"
 #define QUENDARIC_VERSION_MAJOR 1
-#define QUENDARIC_VERSION_MINOR 5
+#define QUENDARIC_VERSION_MINOR 6
 #define QUENDARIC_VERSION_PATCH 0
 
 #define QUENDARIC_TABLE_LENGTH 2048

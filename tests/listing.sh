@@ -11,6 +11,8 @@ same 'the maker writes the kept table' "$kept"
 names='row column digit divisor remainder'
 first='1 87 0 1242993497154256896 3314649325744685056'
 prints 'a table that passes' listing "$kept" "$names"
+prints 'the kept table before the finer estimate' listing "$root/tables/kept-seven-bits.table" "$names"
+prints 'the table that Clarke and Zhao print' listing "$root/tables/clarke-zhao-1995.table" "$names"
 
 changed "$kept" 215 002
 prints "document 01's example" listing "$work/changed" "$names
@@ -36,4 +38,4 @@ loses listing "$kept"
 loses maker /dev/null
 unread listing
 
-ends listing 16
+ends listing 18

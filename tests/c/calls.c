@@ -36,7 +36,8 @@ static void cells(void) {
   SAME(cell.allowed, 0);
   SAME(cell.divisor, (33ull << 55) + 1);
   SAME(cell.remainder, 11ll << 57);
-  cell = quendaric_check_cell(0, 51, 0);
+  SAME(quendaric_check_cell(0, 51, 0).allowed, 1);
+  cell = quendaric_check_cell(0, 50, 1);
   SAME(cell.allowed, 0);
   SAME(cell.remainder < 0, 1);
   cell = quendaric_check_cell(3, 5, 9);

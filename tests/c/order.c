@@ -81,7 +81,7 @@ static const struct {
     {"check_cell", check_cell, 3, {0, 75, 4}, {{0, 0, 0, 1188950301625810945ull, 1585267068834414592ull}, {0}}},
     {"check_table", check_table, 1, {2048}, {{0}, {0}}},
     /* row; the six columns stand in one word, the first lowest */
-    {"row_limits", row_limits, 1, {7}, {{0, 0, 0x605246392D1Full}, {0}}},
+    {"row_limits", row_limits, 1, {7}, {{0, 0, 0x605247392D1Full}, {0}}},
     {"make_table", make_table, 1, {ROOM}, {{7}, {0}}},
     /* table length, dividend, divisor, digits, buffer length, place: N * 4^4 = 145 * D + 2208485150033111375 */
     {"run",

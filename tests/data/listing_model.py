@@ -1,5 +1,5 @@
 #!/usr/bin/env python3
-"""A second model of the cell rule and the listing, written from document 01 alone, and the two files made with it.
+"""A second model of the cell rule and the listing, written from documents 01 and 02 alone, and the two files made with it.
 
     python3 listing_model.py          writes all-bad.table and all-bad.listing beside this file
     python3 listing_model.py --self   compares the model with an enumeration of every point, on a small unit
@@ -16,7 +16,7 @@ from fractions import Fraction
 
 
 class Unit:
-    """The unit with D from 2^k to 2^(k+1) - 1 and words of k + 4 bits; document 01's has k = 60."""
+    """The unit with D from 2^k to 2^(k+1) - 1 and words of k + 4 bits; the documents' has k = 60."""
 
     def __init__(self, k):
         self.k = k
@@ -25,9 +25,9 @@ class Unit:
         return (16 + r) << (self.k - 4), ((17 + r) << (self.k - 4)) - 1
 
     def column(self, c):
-        """The parts that P takes: t·2^(k-3) + e modulo 2^(k+4), read as signed."""
+        """The parts that P takes: t·2^(k-3) + e modulo 2^(k+4), read as signed; e from 0 to 3·2^(k-4) - 2."""
         low = (c - 64) << (self.k - 3)
-        high = low + (1 << (self.k - 2)) - 2
+        high = low + (3 << (self.k - 4)) - 2
         top = 1 << (self.k + 3)
         if high < top:
             return [(low, high)]

@@ -3,7 +3,7 @@
 //! divides all rightly, and is refused too. docs/ONE-WRONG-CELL.md tells the story with these numbers. The draws are from
 //! the fixed seed below.
 use host::calls::{self, Binary64, Run, Samples, Whole};
-use host::document::{breaks, rule, run, Trace, FULL};
+use host::document::{breaks, coarser, rule, run, run_by, Trace, COARSER, FULL};
 use host::draw::Draw;
 
 const SEED: u64 = 0x5EED_0991;
@@ -12,18 +12,28 @@ const DIGITS: usize = 28;
 /// Row and column of the cells that the 1994 Pentium is reported to have held as 0.
 const FIVE: [(u64, u64); 5] = [(1, 87), (4, 91), (7, 95), (10, 99), (13, 103)];
 
-/// The one of them that the division below meets.
-const MET: (u64, u64) = (7, 95);
+/// The one of them that the division below meets, and the one that the division of 1994 met.
+const MET: (u64, u64) = (4, 91);
+const MET_1994: (u64, u64) = (7, 95);
 
 const PENTIUM: &[u8] = include_bytes!("../../../tables/pentium-1994.table");
 
-/// 4195835 over 3145727 as the unit's binary64 division runs it: each operand's 53 bits, moved up 8.
-const DIVIDEND: u64 = 4195835 << 38;
-const DIVISOR: u64 = 3145727 << 39;
+/// 3175 over 1343 as the unit's binary64 division runs it: each operand's 53 bits, moved up 8.
+const DIVIDEND: u64 = 3175 << 49;
+const DIVISOR: u64 = 1343 << 50;
 
 const RIGHT: [i16; DIGITS] =
-    [1, -1, -1, -1, -1, -1, -1, 2, 2, 2, 2, 0, 1, -1, 2, 1, 0, -1, 2, 1, -1, 2, -2, -2, 2, 0, 1, 1];
+    [1, 1, -1, -1, 2, 2, 2, -1, -1, 1, -1, -2, 2, -1, 0, 0, -1, -1, 1, 0, -1, 0, 0, 1, -1, -1, 2, -1];
 const WRONG: [i16; DIGITS] =
+    [1, 1, -1, -1, 0, -2, 1, -1, 2, 2, -2, 1, 0, 1, 0, 1, 0, -1, 2, -1, 0, 1, -1, -2, 2, 0, -1, 0];
+
+/// 4195835 over 3145727 in the same way.
+const DIVIDEND_1994: u64 = 4195835 << 38;
+const DIVISOR_1994: u64 = 3145727 << 39;
+
+const RIGHT_1994: [i16; DIGITS] =
+    [1, -1, -1, -1, -1, -1, -1, 2, 2, 2, 2, 0, 1, -1, 2, 1, 0, -1, 2, 1, -1, 2, -2, -2, 2, 0, 1, 1];
+const WRONG_1994: [i16; DIGITS] =
     [1, -1, -1, -1, -1, -1, -1, 2, 0, 0, -1, 2, -2, 1, -1, 2, 1, 1, -1, -2, 2, 2, -1, 2, -2, 2, 1, -2];
 
 fn index((row, column): (u64, u64)) -> usize {
@@ -45,9 +55,36 @@ fn digits(trace: &Trace) -> Vec<i16> {
     trace.digits.iter().map(|&byte| i16::from(byte) - 2).collect()
 }
 
-/// So many decimals of 4195835/3145727 as a quotient of so many digits reads, the others cut off.
+/// So many decimals of an operand over another as a quotient of so many digits reads, the others cut off. The divisor was
+/// moved up by one bit more than the dividend.
 fn reads(quotient: i128, digits: usize, decimals: u32) -> i128 {
     (2 * quotient * 10i128.pow(decimals)) >> (2 * (digits - 1))
+}
+
+/// Before which digits a run comes to one of the five cells.
+fn met(trace: &Trace) -> Vec<usize> {
+    let of_five = |&i: &usize| FIVE.iter().any(|&cell| index(cell) == trace.cells[i]);
+    (0..trace.cells.len()).filter(of_five).collect()
+}
+
+/// The wrong run leaves the range behind the digit at `step`, where the words lose 2^64. From there on they hold the
+/// remainders that another dividend has with these digits, and stay in range. Its quotient, corrected by the words' sign.
+fn goes_on_as(wrong: &Trace, step: usize, other: i128, divisor: u64) -> i128 {
+    let divisor = i128::from(divisor);
+    let within = |p: i128| 3 * p.abs() <= 8 * divisor;
+    assert!(wrong.remainders[..=step].iter().all(|&p| within(p)) && !within(wrong.remainders[step + 1]));
+    assert_eq!(wrong.words[..=step], wrong.remainders[..=step]);
+    assert_eq!(wrong.words[step + 1], wrong.remainders[step + 1] - (1 << 64));
+    let mut p = other;
+    for (i, q) in digits(wrong).into_iter().enumerate() {
+        p = 4 * (p - i128::from(q) * divisor);
+        assert!(i < step || p == wrong.words[i + 1] && within(p), "digit {i}");
+    }
+    // their last sum is negative: a divider that knows only its words takes 1 from S, and has the other's quotient
+    assert!(wrong.words[DIGITS] < 0);
+    let corrected = wrong.quotient - 1;
+    assert_eq!(corrected, (other << (2 * (DIGITS - 1))) / divisor);
+    corrected
 }
 
 #[test]
@@ -78,68 +115,79 @@ fn the_five_witnesses_lie_on_the_range_itself() {
 fn the_plain_recurrence_goes_wrong() {
     let right = run(&rule().farthest(), DIVIDEND, DIVISOR, DIGITS);
     assert_eq!(digits(&right), RIGHT);
-    assert_eq!(right.quotient, 12013986555418245);
+    assert_eq!(right.quotient, 21294011640955062);
     assert_eq!(right.quotient, (i128::from(DIVIDEND) << (2 * (DIGITS - 1))) / i128::from(DIVISOR));
-    assert_eq!(reads(right.quotient, DIGITS, 14), 1_33382044913624);
-    // one wrong cell does it; the other four of 1994 are not met
+    assert_eq!(reads(right.quotient, DIGITS, 14), 2_36411020104244);
+    // one wrong cell does it; the other four are not met
     for table in [&one_wrong()[..], PENTIUM] {
         let wrong = run(table, DIVIDEND, DIVISOR, DIGITS);
         assert_eq!(digits(&wrong), WRONG);
-        let met = |&i: &usize| FIVE.iter().any(|&cell| index(cell) == wrong.cells[i]);
-        assert_eq!((0..DIGITS).filter(met).collect::<Vec<_>>(), [8]);
-        assert_eq!(wrong.cells[8], index(MET));
-        assert_eq!(wrong.quotient, 12013253547433378);
-        assert_eq!(reads(wrong.quotient, DIGITS, 14), 1_33373906890203);
-        // a run's most digits, to 18 decimals and rounded
-        let longest = run(table, DIVIDEND, DIVISOR, 31).quotient;
-        assert_eq!((reads(longest, 31, 19) + 5) / 10, 1_333739068902037589);
+        assert_eq!((met(&wrong), wrong.cells[4]), (vec![4], index(MET)));
+        assert_eq!(wrong.quotient, 21079394830715516);
+        assert_eq!(reads(wrong.quotient, DIGITS, 14), 2_34028294862248);
     }
 }
 
 #[test]
-fn the_words_go_on_as_if_the_dividend_were_256_less() {
+fn the_words_go_on_as_if_the_dividend_were_32_less() {
     let wrong = run(&one_wrong(), DIVIDEND, DIVISOR, DIGITS);
-    let divisor = i128::from(DIVISOR);
-    let within = |p: i128| 3 * p.abs() <= 8 * divisor;
-    assert!(wrong.remainders[..9].iter().all(|&p| within(p)) && !within(wrong.remainders[9]));
-    assert_eq!((wrong.remainders[8], wrong.remainders[9]), (4545640553970139136, 18182562215880556544));
-    assert_eq!(wrong.words[9], 18182562215880556544 - (1 << 64));
-    // from there on the words hold the remainders that 4195579 over 3145727 has with these digits, and stay in range
-    let mut p = 4195579i128 << 38;
-    for (i, q) in WRONG.into_iter().enumerate() {
-        p = 4 * (p - i128::from(q) * divisor);
-        assert!(i < 8 || p == wrong.words[i + 1] && within(p), "digit {i}");
+    assert_eq!((wrong.remainders[4], wrong.remainders[5]), (3940649673949184000, 15762598695796736000));
+    let corrected = goes_on_as(&wrong, 4, 3143 << 49, DIVISOR);
+    // rounded to binary64, and times 1343: 32 are missing
+    let answer = f64::from_bits(0x4002_B8E6_443D_C29F);
+    assert_eq!((corrected + 2) / 4, i128::from(answer.to_bits() & ((1 << 52) - 1) | 1 << 52));
+    assert_eq!(answer, 3143.0 / 1343.0);
+    assert_eq!(3175.0 - answer * 1343.0, 32.0);
+}
+
+/// By the estimate before the finer one, which adds the words' top seven bits, and the digits farthest from zero by its rule.
+#[test]
+fn the_division_of_1994_by_seven_bits() {
+    let good = coarser().farthest();
+    let run = |table: &[u8], digits| run_by(COARSER, table, DIVIDEND_1994, DIVISOR_1994, digits);
+    let right = run(&good, DIGITS);
+    assert_eq!(digits(&right), RIGHT_1994);
+    assert_eq!(right.quotient, 12013986555418245);
+    assert_eq!(right.quotient, (i128::from(DIVIDEND_1994) << (2 * (DIGITS - 1))) / i128::from(DIVISOR_1994));
+    assert_eq!(reads(right.quotient, DIGITS, 14), 1_33382044913624);
+    for table in [at_0(good.clone(), &[MET_1994]), at_0(good, &FIVE)] {
+        let wrong = run(&table, DIGITS);
+        assert_eq!(digits(&wrong), WRONG_1994);
+        assert_eq!((met(&wrong), wrong.cells[8]), (vec![8], index(MET_1994)));
+        assert_eq!(wrong.quotient, 12013253547433378);
+        assert_eq!(reads(wrong.quotient, DIGITS, 14), 1_33373906890203);
+        // a run's most digits, to 18 decimals and rounded
+        assert_eq!((reads(run(&table, 31).quotient, 31, 19) + 5) / 10, 1_333739068902037589);
+        let corrected = goes_on_as(&wrong, 8, 4195579 << 38, DIVISOR_1994);
+        let answer = f64::from_bits(0x3FF5_56FE_C725_4ED1);
+        assert_eq!((corrected + 1) / 2, i128::from(answer.to_bits() & ((1 << 52) - 1) | 1 << 52));
+        assert_eq!(answer, 4195579.0 / 3145727.0);
+        assert_eq!(4195835.0 - answer * 3145727.0, 256.0);
+        // by eight bits it does not come to the cell, and is right
+        let finer = host::document::run(&table, DIVIDEND_1994, DIVISOR_1994, DIGITS);
+        assert_eq!((met(&finer), finer.quotient), (vec![], right.quotient));
     }
-    // their last sum is negative: a divider that knows only its words takes 1 from S, and has the quotient of 4195579
-    assert!(wrong.words[DIGITS] < 0);
-    let corrected = wrong.quotient - 1;
-    assert_eq!(corrected, (4195579i128 << 38 << (2 * (DIGITS - 1))) / divisor);
-    // rounded to binary64, and times 3145727: 256 are missing
-    let answer = f64::from_bits(0x3FF5_56FE_C725_4ED1);
-    assert_eq!((corrected + 1) / 2, i128::from(answer.to_bits() & ((1 << 52) - 1) | 1 << 52));
-    assert_eq!(answer, 4195579.0 / 3145727.0);
-    assert_eq!(4195835.0 - answer * 3145727.0, 256.0);
 }
 
 #[test]
 fn the_check_refuses_the_table_with_its_witness() {
     let report = calls::check_table(&one_wrong());
-    assert_eq!((report.refusal, report.place), (10, 991));
-    assert_eq!((report.count, report.row, report.column), (1, 7, 95));
-    assert_eq!((report.divisor, report.remainder), (1675339061381824512, 4467570830351532032));
+    assert_eq!((report.refusal, report.place), (10, 603));
+    assert_eq!((report.count, report.row, report.column), (1, 4, 91));
+    assert_eq!((report.divisor, report.remainder), (1459166279268040704, 3891110078048108544));
     let witness = (i128::from(report.divisor), i128::from(report.remainder));
-    assert!(FULL.is_point(7, 95, witness) && breaks(0, witness));
+    assert!(FULL.is_point(4, 91, witness) && breaks(0, witness));
 }
 
 #[test]
 fn every_call_refuses_the_tables_and_right_ones_divide_rightly() {
-    let (a, b) = (4195835f64.to_bits(), 3145727f64.to_bits());
-    for (table, place) in [(&one_wrong()[..], 991), (PENTIUM, 215)] {
+    let (a, b) = (3175f64.to_bits(), 1343f64.to_bits());
+    for (table, place) in [(&one_wrong()[..], 603), (PENTIUM, 215)] {
         let mut buffer = [7u8; DIGITS];
         let ran = calls::run(Some(table), DIVIDEND, DIVISOR, DIGITS, &mut buffer, 0);
         assert_eq!(ran, Run { refusal: 10, place, ..Default::default() });
         assert_eq!(buffer, [7; DIGITS]);
-        let whole = calls::divide_whole(Some(table), 4195835, 3145727);
+        let whole = calls::divide_whole(Some(table), 3175, 1343);
         assert_eq!(whole, Whole { refusal: 10, place, ..Default::default() });
         let binary64 = calls::divide_binary64(Some(table), a, b, 0);
         assert_eq!(binary64, Binary64 { refusal: 10, place, ..Default::default() });
@@ -150,11 +198,26 @@ fn every_call_refuses_the_tables_and_right_ones_divide_rightly() {
     }
     let good = rule().farthest();
     let mut buffer = [7u8; DIGITS];
-    assert_eq!(calls::run(Some(&good), DIVIDEND, DIVISOR, DIGITS, &mut buffer, 0).quotient, 12013986555418245);
+    assert_eq!(calls::run(Some(&good), DIVIDEND, DIVISOR, DIGITS, &mut buffer, 0).quotient, 21294011640955062);
     assert_eq!(buffer.map(|byte| i16::from(byte) - 2), RIGHT);
-    let right = Binary64 { pattern: 0x3FF5_5754_1C7C_6B43, flags: 1, ..Default::default() };
-    assert_eq!(calls::divide_binary64(Some(&good), a, b, 0), right);
-    assert_eq!(calls::divide_binary64(None, a, b, 0), right);
+    for (a, b, pattern) in
+        [(a, b, 0x4002_E9B2_9BEC_F02E), (4195835f64.to_bits(), 3145727f64.to_bits(), 0x3FF5_5754_1C7C_6B43)]
+    {
+        let right = Binary64 { pattern, flags: 1, ..Default::default() };
+        assert_eq!(calls::divide_binary64(Some(&good), a, b, 0), right);
+        assert_eq!(calls::divide_binary64(None, a, b, 0), right);
+    }
+}
+
+/// Below how many sixteenths of 2^60 the remainders of a row stay behind each digit from -2 to 2, `last` being the last column
+/// that holds the digit. A remainder lies less than 3/16 above its column's start. Behind 2 it comes from the greatest of the
+/// other four, or from the dividend, which is below 32/16.
+fn bounds(row: i128, last: impl Fn(i128) -> i128) -> [i128; 5] {
+    let (least, end) = (16 + row, 17 + row);
+    let behind = |q: i128| 4 * (2 * (last(q) - 64) + 3 - q * if q > 0 { least } else { end });
+    let four = [-2, -1, 0, 1].map(behind);
+    let greatest = four.into_iter().fold(32, i128::max);
+    [four[0], four[1], four[2], four[3], 4 * (greatest - 2 * least)]
 }
 
 /// A dividend, and a divisor of the row: drawn, or next to the ends of their spans.
@@ -180,9 +243,14 @@ fn the_made_table_with_the_wrong_cells_never_comes_to_them() {
     assert_eq!((report.refusal, report.place, report.count), (10, 215, 5));
     let mut draw = Draw::new(SEED);
     // the cells begin at so many eighths of 2^60; the remainders of their rows stay below so many quarters, and come near
-    let bounds = [(23, 11), (27, 12), (31, 15), (35, 16), (39, 19)];
-    for ((row, column), (eighths, quarters)) in FIVE.into_iter().zip(bounds) {
+    let all = [(23, 11), (27, 13), (31, 15), (35, 17), (39, 19)];
+    let behind =
+        [[36, 36, 44, 40, 40], [44, 40, 52, 52, 48], [44, 44, 60, 56, 56], [52, 48, 68, 68, 64], [52, 52, 76, 72, 72]];
+    for (((row, column), (eighths, quarters)), behind) in FIVE.into_iter().zip(all).zip(behind) {
         assert!(column == 64 + eighths && 2 * quarters < eighths);
+        let limits = calls::row_limits(row).limits.map(i128::from);
+        assert_eq!(bounds(row.into(), |q| limits[(q + 3) as usize] - 1), behind);
+        assert_eq!(behind.into_iter().max(), Some(4 * i128::from(quarters)));
         let mut greatest = 0;
         for _ in 0..50_000 {
             let (dividend, divisor) = operands_of_row(row, &mut draw);
@@ -196,4 +264,23 @@ fn the_made_table_with_the_wrong_cells_never_comes_to_them() {
         let bound = i128::from(quarters) << 58;
         assert!(greatest < bound && 100 * greatest > 97 * bound, "row {row}: {greatest}");
     }
+}
+
+/// Three of the five are out of reach through every table whose other cells are right; the other two are met.
+#[test]
+fn three_of_the_five_are_met_through_no_table() {
+    // in sixteenths, where all remainders of the row stay below the cell
+    for ((row, column), all) in FIVE.into_iter().zip([Some(44), None, Some(60), None, Some(76)]) {
+        let last = |q: i128| {
+            let holds = |c: &i128| rule().allowed(128 * row as usize + *c as usize).contains(&((q + 2) as u8));
+            (0..128).filter(|&c| FULL.has_point(row.into(), c)).filter(holds).max().expect("a column")
+        };
+        let greatest = bounds(row.into(), last).into_iter().max();
+        let begins = Some(2 * (i128::from(column) - 64));
+        assert!(if all.is_some() { greatest == all && all < begins } else { greatest > begins }, "{row}/{column}");
+    }
+    let wrong = run(&one_wrong(), DIVIDEND, DIVISOR, DIGITS);
+    assert_eq!(wrong.cells[4], index((4, 91)));
+    let other = run(PENTIUM, 582512570662832343, 1944533356547664828, DIGITS);
+    assert_eq!((met(&other), other.cells[18]), (vec![18], index((10, 99))));
 }
