@@ -2,7 +2,7 @@
 
    A table is 2,048 bytes. Byte 128 * row + column holds a quotient digit q as q + 2, so 0 to 4. The row is the four
    bits after the divisor's leading one, the column a truncated estimate of the partial remainder, from the top eight
-   bits of each of its two words.
+   bits of each of its two words, added, without the lowest bit of the sum.
    The kept table is the unit's own; it passes the check. A call whose name ends in _kept uses it and takes no table.
 
    Every call ends, and answers by value. The first two fields of an answer are the refusal (0: none) and its place.
@@ -190,7 +190,8 @@ QUENDARIC_ANSWER
 quendaric_limits quendaric_row_limits(uint64_t row);
 
 /* Writes the made table, which is the kept one, to the first 2,048 bytes of the buffer: in each cell the allowed digit
-   nearest zero. Later bytes keep their contents. Refuses 7. */
+   nearest zero. It does not suit a divider that adds seven bits of each word. Later bytes keep their contents.
+   Refuses 7. */
 QUENDARIC_ANSWER
 quendaric_made quendaric_make_table(uint8_t *buffer, size_t length);
 

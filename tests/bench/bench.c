@@ -66,7 +66,7 @@ typedef struct {
 } measure;
 
 static measure measures[] = {
-    {"run-plain", "C, document 01's recurrence, 28 digits", run_plain, PAIRS, 0, 0},
+    {"run-plain", "C, the documents' recurrence, 28 digits", run_plain, PAIRS, 0, 0},
     {"run-ahead", "C, the same fast algorithm, 28 digits", run_ahead, PAIRS, 0, 0},
     {"run-kept", "unit, kept run, 28 digits", run_kept, PAIRS, 0, 0},
     {"run-lent", "unit, lent run, 28 digits (checks the table)", run_lent, 32, 0, 0},
@@ -77,7 +77,7 @@ static measure measures[] = {
     {"cell-any", "unit, single cells", cell_any, PAIRS, 0, 0},
     {"make", "unit, the made table", make, 32, 0, 0},
     {"check-plain", "C, count of bad cells, 128-bit numbers", check_plain, 8, 0, 0},
-    {"b64-plain", "C, binary64 over document 01's recurrence", b64_plain, PAIRS, 0, 0},
+    {"b64-plain", "C, binary64 over the documents' recurrence", b64_plain, PAIRS, 0, 0},
     {"b64-ahead", "C, binary64 over the fast algorithm", b64_ahead, PAIRS, 0, 0},
     {"b64-kept", "unit, kept binary64", b64_kept, PAIRS, 0, 0},
     {"b64-processor", "the processor's binary64", b64_processor, PAIRS, 0, 0},

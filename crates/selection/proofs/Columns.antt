@@ -24,18 +24,18 @@ estimate-diff s k =
 pub column-estimate : (s k : ℕ) → pos (column s k) ≡ estimate s k +ℤ pos 64
 column-estimate s k = rw (estimate-diff s k) (simp diffs (omega arith))
 
--- the partial remainder of two words lies in their column
-pub column-of : (s k : ℕ) → InColumn (column s k) (signed (s + k))
-column-of s k =
+-- P is t·2^57 + e modulo 2^64, read as signed, for the e that the estimate leaves out of the two words
+pub left-out : (s k : ℕ) → signed (s + k) ≡ signed ((column s k + 64) * 2 ^ 57 + leftOut s k)
+left-out s k =
     let n = s / 2 ^ 56 + k / 2 ^ 56 in
     let c = column s k in
     let e = leftOut s k in
     let m : n + 128 ≡ 256 * ((n + 128) / 256) + 2 * c + n % 2 = omega arith in
-    record {
-      e = e;
-      small = omega arith;
-      is = signed-diff (s + k) ∙ ap (λ (n : ℕ). diff n (2 ^ 63)) (same-mod (s + k + 2 ^ 63) ((c + 64) * 2 ^ 57 + e + 2 ^ 63) (2 ^ 64) 1 ((n + 128) / 256) (omega arith)) ∙ sym (signed-diff ((c + 64) * 2 ^ 57 + e));
-    }
+    signed-diff (s + k) ∙ ap (λ (n : ℕ). diff n (2 ^ 63)) (same-mod (s + k + 2 ^ 63) ((c + 64) * 2 ^ 57 + e + 2 ^ 63) (2 ^ 64) 1 ((n + 128) / 256) (omega arith)) ∙ sym (signed-diff ((c + 64) * 2 ^ 57 + e))
+
+-- so the partial remainder of two words lies in their column
+pub column-of : (s k : ℕ) → InColumn (column s k) (signed (s + k))
+column-of s k = record { e = leftOut s k; small = omega arith; is = left-out s k }
 
 -- P in a column, in document 01's wording over the integers: P is (c - 64)·2^57 + e but for a multiple of 2^64, and a signed number of 64 bits
 pub record ExactColumn (m c : ℕ) (P : ℤ) : Type 0 where
@@ -77,7 +77,7 @@ turn c x h l =
       | no n ↦ let a : (c + 64) % 128 + 64 ≡ c = omega (arith, lt-of-not-le n) in omega arith
     ]
 
-pub column-all : (c e : ℕ) → c ≤ 127 → e ≤ span → (s : ℕ) × (k : ℕ) × (s < 2 ^ 64) × (k < 2 ^ 64) × (column s k ≡ c) × (leftOut s k ≡ e)
+pub column-all : (c e : ℕ) → c ≤ 127 → e ≤ span → (s : ℕ) × (k : ℕ) × (s < 2 ^ 64) × (k < 2 ^ 64) × (column s k ≡ c) × (signed (s + k) ≡ signed ((c + 64) * 2 ^ 57 + e))
 column-all c e hc he =
     let x = min e (2 ^ 57 - 1) in
     let t = (c + 64) % 128 in
@@ -87,4 +87,6 @@ column-all c e hc he =
     let b : k / 2 ^ 56 ≡ 0 = omega arith in
     let u : s % 2 ^ 56 ≡ x % 2 ^ 56 = omega arith in
     let v : k % 2 ^ 56 ≡ k = omega arith in
-    (s, k, omega arith, omega arith, ap₂ (λ (m n : ℕ). (m + n + 128) % 256 / 2) a b ∙ turn c (x / 2 ^ 56) hc (omega arith), omega (arith, a, b, u, v))
+    let f : column s k ≡ c = ap₂ (λ (m n : ℕ). (m + n + 128) % 256 / 2) a b ∙ turn c (x / 2 ^ 56) hc (omega arith) in
+    let g : leftOut s k ≡ e = omega (arith, a, b, u, v) in
+    (s, k, omega arith, omega arith, f, left-out s k ∙ ap₂ (λ (m n : ℕ). signed ((m + 64) * 2 ^ 57 + n)) f g)

@@ -13,12 +13,16 @@ use Rattle.selection.proofs.Tables.{table-of}
 
 -- ---- a test in units of 2^56, in which the column c begins at 2c, ends before 2c + 4, and 0 is at 128
 
+-- three times 0, so moved up
+abbrev zeroAt : ℕ
+zeroAt = 384
+
 -- at the divisor v no remainder is too low for the byte b, and none too high. No point is too low for 0 or too high for 4
 abbrev notLow : ℕ → ℕ → ℕ → Bool
-notLow c b v = eqb b 0 || leb (384 + 3 * b * v) (6 * c + 8 * v)
+notLow c b v = eqb b 0 || leb (zeroAt + 3 * b * v) (6 * c + 8 * v)
 
 abbrev notHigh : ℕ → ℕ → ℕ → Bool
-notHigh c b v = eqb b 4 || leb (6 * c + 12 + 4 * v) (384 + 3 * b * v)
+notHigh c b v = eqb b 4 || leb (6 * c + 12 + 4 * v) (zeroAt + 3 * b * v)
 
 -- the end of the row r, less r, at which a remainder is too low first, and too high
 abbrev lowEnd : ℕ → ℕ
@@ -28,7 +32,7 @@ abbrev highEnd : ℕ → ℕ
 highEnd b = cond (ltb 1 b) 16 17
 
 abbrev outside : ℕ → ℕ → Bool
-outside r c = leb (384 + 8 * (17 + r)) (6 * c) || leb (6 * c + 12 + 8 * (17 + r)) 384
+outside r c = leb (zeroAt + 8 * (17 + r)) (6 * c) || leb (6 * c + 12 + 8 * (17 + r)) zeroAt
 
 abbrev inside : ℕ → ℕ → ℕ → Bool
 inside r c b = both (notLow c b (lowEnd b + r)) (notHigh c b (highEnd b + r))
@@ -43,7 +47,7 @@ either false y t = inr t
 module _ (r c D W : ℕ) (p : BiasedPointUnder earlierSpan r c D W) where
   -- a column that lies outside has no point
   not-outside : T (outside r c) → ⊥
-  not-outside t = ⊎-elim (λ h. omega (arith, leb→le)) (λ h. omega (arith, leb→le)) (either (leb (384 + 8 * (17 + r)) (6 * c)) (leb (6 * c + 12 + 8 * (17 + r)) 384) t)
+  not-outside t = ⊎-elim (λ h. omega (arith, leb→le)) (λ h. omega (arith, leb→le)) (either (leb (zeroAt + 8 * (17 + r)) (6 * c)) (leb (6 * c + 12 + 8 * (17 + r)) zeroAt) t)
 
   abbrev NotLow : ℕ → Type 0
   NotLow b = T (notLow c b (lowEnd b + r)) → Low b D W → ⊥

@@ -1,14 +1,16 @@
 -- For a user with a burned table: what passed under document 01's span passes under this one, and the check says so. The converse is false, by the made table.
-use Rattle.laws.proofs.Basics.{_≡_, refl, ap₂, List, ℕ, _*_, _-_, _^_, _≤_, arith, lit<, lit≤, ℤ, pos}
+use Rattle.laws.proofs.Basics.{_≡_, refl, sym, ap₂, _∙_, List, ℕ, _*_, _-_, _^_, _≤_, arith, lit<, lit≤, ℤ, pos}
 use native.Mathlib.Nat.{le-trans}
 use Rattle.laws.specs.Lists.{listFrom}
 use Rattle.selection.specs.Word.{signed}
 use Rattle.selection.specs.Cell.{earlierSpan, PointUnder, digit}
-use Rattle.selection.specs.Table.{Passes, PassesUnder}
+use Rattle.selection.specs.Table.{tableRungs, Passes, PassesUnder}
 use Rattle.selection.specs.Allowed.{allowsOf}
 use Rattle.selection.specs.Answer.{refusal, outcomeNumbers, reportNumbers, reportZeros}
 use Rattle.selection.specs.Computed.{madeOf, madeTable, reportOf}
-use Rattle.selection.proofs.Reports.{report-checked, passes-told}
+use Rattle.selection.specs.Refusals.{ladder}
+use Rattle.selection.specs.declared.Admission.the-variants.{Admitted}
+use Rattle.selection.proofs.Reports.{report-checked, passes-told, passes-admitted, admission-ladder}
 
 module _ {m n : ℕ} (h : n ≤ m) where
   -- a smaller greatest e leaves fewer points, and allows what was allowed
@@ -18,12 +20,15 @@ module _ {m n : ℕ} (h : n ≤ m) where
   pub passes-narrower : {t : List ℕ} → PassesUnder m t → PassesUnder n t
   passes-narrower p = record { table = p .table; allowed = λ k l D P x. p .allowed k l D P (fewer-points x) }
 
--- every table that passed under the earlier span passes, and no call refuses it
+-- every table that passed under the earlier span passes: the check refuses nothing of it, and no other call turns it away
 pub burned-passes : {t : List ℕ} → PassesUnder earlierSpan t → Passes t
 burned-passes p = passes-narrower (omega arith) p
 
 pub burned-told : {t : List ℕ} → PassesUnder earlierSpan t → reportNumbers (reportOf t) ≡ reportZeros (refusal 0 0)
 burned-told {t} p = let k = passes-told (report-checked t) (burned-passes p) in ap₂ outcomeNumbers (k .0) (k .1)
+
+pub burned-admitted : {t : List ℕ} → PassesUnder earlierSpan t → ladder (tableRungs t) ≡ Admitted
+burned-admitted {t} p = sym (admission-ladder t) ∙ passes-admitted (burned-passes p)
 
 -- the made table holds 0 in row 1, column 68. Under the earlier span e goes up to 2^58 - 2 there, and P to 6·2^57 - 2, which is above 2D/3 at the row's least D
 corner : PointUnder earlierSpan 1 68 (17 * 2 ^ 56) (pos (6 * 2 ^ 57 - 2))

@@ -21,7 +21,7 @@ const ROW: u64 = 0x100_0000_0000_0000;
 
 // A row's number, its smallest divisor, and multiples of its smallest divisor, (16 + row) * 2^56, and of its largest, (17 + row) * 2^56 - 1: those that
 // bound 3P. A point has 3P from -8D to 8D, and the digit q keeps 3P from (3q - 2)D to (3q + 2)D. Each multiple is handed on as a column, the last on its
-// lower side: so a cell's test compares bytes, and three times a column's end, which leaves 64 bits in cells that have points, is not formed.
+// lower side: so a cell's test compares bytes, and three times a column's end, which leaves 64 bits in cells that have points, is not formed for it.
 pub(crate) struct RowMultiples {
     pub row: u64,
     pub smallest: u64,
@@ -144,7 +144,7 @@ fn greatest_byte(m: RowMultiples, c: u8) -> u8
     past(m.minus5, c) + past(m.minus2, c) + past(m.plus1, c) + past(m.plus4, c)
 }
 
-// Whether the cell has a point: one of the outer two columns is passed.
+// Whether the cell has a point: the lower of the outer two columns is passed, and the upper is not.
 fn has_point(m: RowMultiples, c: u8) -> bool
     requires { ⌜ RowOf m × (c ≤ 127) ⌝ }
     ensures { λ r. ⌜ r ≡ hasPoint m c ⌝ }

@@ -156,7 +156,7 @@ fn the_division_of_1994_by_seven_bits() {
         assert_eq!((met(&wrong), wrong.cells[8]), (vec![8], index(MET_1994)));
         assert_eq!(wrong.quotient, 12013253547433378);
         assert_eq!(reads(wrong.quotient, DIGITS, 14), 1_33373906890203);
-        // a run's most digits, to 18 decimals and rounded
+        // 31 digits, the most of the recurrence (a caller's run has 28), to 18 decimals and rounded
         assert_eq!((reads(run(&table, 31).quotient, 31, 19) + 5) / 10, 1_333739068902037589);
         let corrected = goes_on_as(&wrong, 8, 4195579 << 38, DIVISOR_1994);
         let answer = f64::from_bits(0x3FF5_56FE_C725_4ED1);
