@@ -1,13 +1,18 @@
 -- The correction of the last digit: the sign of the last remainder says whether S is one too large. The code corrects by the words;
 -- S and the end remainder, corrected, are the same numbers, and they are quotient and remainder of N·4^(n−1) by D.
-use Rattle.laws.proofs.Basics.{_≡_, sym, ap, ap₂, subst, _∙_, false, List, ℕ, zero, suc, _+_, _-_, _*_, _/_, _%_, _^_, _≤_, _<_, arith, ℤ, pos, negsuc, natAbs, _+ℤ_, _-ℤ_, nonNeg}
+use Rattle.laws.proofs.Basics.{_≡_, sym, ap, ap₂, subst, _∙_, false, cond, List, ℕ, zero, suc, _+_, _-_, _*_, _/_, _%_, _^_, _≤_, _<_, arith, ltb, ltb→lt, nltb→le, ℤ, pos, negsuc, natAbs, _+ℤ_, _-ℤ_, nonNeg}
+use native.Mathlib.Nat.{pow-le-pow-right}
 use lib.Arith.{digits-div, digits-mod}
 use Rattle.laws.proofs.Diff.{diff, diffs}
-use Rattle.recurrence.specs.Recurrence.{State, after, correctedQuotient, correctedRemainder, endRemainder, resultOf}
-use Rattle.recurrence.specs.FastRun.{resultFromWord, CorrectionReady}
+use Rattle.laws.proofs.Tests.{by-cond}
+use Rattle.recurrence.specs.Recurrence.{State, after, digits, value, correctedQuotient, correctedRemainder, endRemainder, resultOf}
+use Rattle.recurrence.specs.Run.{longest}
+use Rattle.recurrence.specs.FastRun.{resultFromWord}
+use Rattle.recurrence.specs.OnTheFly.{PairOf}
 use Rattle.recurrence.specs.declared.RunResult.{RunResult}
 use Rattle.recurrence.proofs.Steps.{biased}
 use Rattle.recurrence.proofs.Invariant.{Invariant, quarter}
+use Rattle.recurrence.proofs.Pair.{word-one}
 
 -- quotient and remainder of M by D
 abbrev pub divided : ℕ → ℕ → ℕ → RunResult
@@ -44,6 +49,10 @@ correction (suc (suc s)) Q R M D l e h = absurd (omega arith)
 abbrev pub wordOf : State → ℕ
 wordOf p = (p .sum + p .carry) % 2 ^ 64
 
+-- the answer from S, the divisor D and that sum
+abbrev pub bySign : ℕ → ℕ → ℕ → ℕ → RunResult
+bySign S D w n = record { quotient = S - w / 2 ^ 63; remainder = (w / 4 + w / 2 ^ 63 * (D + 3 * 2 ^ 62)) % 2 ^ 64; count = n }
+
 -- it is the remainder, and 2^64 more where the sign is set
 signs : (p : State) → wordOf p + 2 ^ 63 ≡ biased p + wordOf p / 2 ^ 63 * 2 ^ 64
 signs p = omega arith
@@ -70,10 +79,15 @@ by-word S D w M z m l h e lo hi =
 unique : (q r M D n : ℕ) → q * D + r ≡ M → r < D → _≡_ {A = RunResult} (record { quotient = q; remainder = r; count = n }) (divided M D n)
 unique q r M D n e h = rw (← e, digits-div q h, digits-mod q h)
 
+-- the sign takes one from S, or chooses: v is S, u one less
+by-choice : (S v u w : ℕ) → w < 2 ^ 64 → w / 2 ^ 63 ≤ S → S ≡ v → v ≡ (u + 1) % 2 ^ 64 → u < 2 ^ 64 → cond (ltb w (2 ^ 63)) v u ≡ S - w / 2 ^ 63
+by-choice S v u w b h e o m =
+    by-cond (λ (q : ℕ). q ≡ S - w / 2 ^ 63) (ltb w (2 ^ 63)) v u (λ c. omega (arith, ltb→lt)) (λ c. omega (arith, nltb→le))
+
 module _ (t : List ℕ) (N D n S : ℕ) (k : Invariant t N D n S) where
   -- where the last remainder is negative, S is not 0
-  pub correction-ready : CorrectionReady S (after t N D n .divisor) (wordOf (after t N D n))
-  correction-ready = record { most = k .in-range .most; less = go S (k .meets) }
+  sign-at-most : wordOf (after t N D n) / 2 ^ 63 ≤ S
+  sign-at-most = go S (k .meets)
     where
       go : (S : ℕ) → biased (after t N D n) + 4 * (S * D) ≡ N * 4 ^ n + 2 ^ 63 → wordOf (after t N D n) / 2 ^ 63 ≤ S
       go zero e = omega arith
@@ -84,23 +98,32 @@ module _ (t : List ℕ) (N D n S : ℕ) (k : Invariant t N D n S) where
   end-remainder h = rw (k .makes) (simp diffs (omega arith))
 
   pub corrected-run : 1 ≤ n
-      → Corrected S (N * 4 ^ (n - 1)) D (resultFromWord S D (wordOf (after t N D n)) n .quotient) (resultFromWord S D (wordOf (after t N D n)) n .remainder)
+      → Corrected S (N * 4 ^ (n - 1)) D (bySign S D (wordOf (after t N D n)) n .quotient) (bySign S D (wordOf (after t N D n)) n .remainder)
   corrected-run h =
       let p = after t N D n in
       let b = signs p in
       let v = k .divisor in
-      by-word S D (wordOf p) (N * 4 ^ (n - 1)) (omega (arith, k .in-range .least)) (omega (arith, k .in-range .most)) (omega arith) (correction-ready .less)
+      by-word S D (wordOf p) (N * 4 ^ (n - 1)) (omega (arith, k .in-range .least)) (omega (arith, k .in-range .most)) (omega arith) sign-at-most
       (omega (arith, k .meets, quarter N n h)) (omega (arith, k .in-range .below)) (omega (arith, k .in-range .above))
 
-  -- the code's answer is the one that S and the end remainder form
-  pub result-from-word : 1 ≤ n → resultFromWord S (after t N D n .divisor) (wordOf (after t N D n)) n ≡ resultOf t N D n
+  -- it is the answer that S and the end remainder form
+  pub result-by-sign : 1 ≤ n → bySign S D (wordOf (after t N D n)) n ≡ resultOf t N D n
   unfolding resultOf
-  result-from-word h =
+  result-by-sign h =
       let c = corrected-run h in
-      rw (k .divisor, k .makes, end-remainder h)
+      rw (k .makes, end-remainder h)
       (sym (ap₂ (λ (a b : ℤ). record { quotient = natAbs a; remainder = natAbs b; count = n }) (c .quotient) (c .remainder)))
+
+  -- and the code's, which chooses the quotient
+  pub result-from-word : 1 ≤ n → n ≤ longest → PairOf (value (digits t N D n)) (after t N D n)
+      → resultFromWord (after t N D n .value) (after t N D n .decremented) (after t N D n .divisor) (wordOf (after t N D n)) n ≡ resultOf t N D n
+  result-from-word h m c =
+      let p = after t N D n in
+      let f : S < 2 ^ 64 = omega (arith, k .size, pow-le-pow-right {n = 4} (omega arith) {i = n} {j = 31} m) in
+      let e : S ≡ p .value = word-one S (p .value) f (rw (k .makes) at (c .value)) in
+      rw (k .divisor, by-choice S (p .value) (p .decremented) (wordOf p) (omega arith) sign-at-most e (c .one-apart) (c .decremented .word)) (result-by-sign h)
 
   pub result-divided : 1 ≤ n → resultOf t N D n ≡ divided (N * 4 ^ (n - 1)) D n
   result-divided h =
       let c = corrected-run h in
-      sym (result-from-word h) ∙ rw (k .divisor) (unique _ _ (N * 4 ^ (n - 1)) D n (c .divides) (c .below))
+      sym (result-by-sign h) ∙ unique _ _ (N * 4 ^ (n - 1)) D n (c .divides) (c .below)

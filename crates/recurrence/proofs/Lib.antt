@@ -1,7 +1,8 @@
 pub mod CarrySave
-pub mod NextColumn
 pub mod Steps
 pub mod Digits
+pub mod Pair
+pub mod NextColumn
 pub mod Invariant
 pub mod Correction
 pub mod Rows

@@ -7,9 +7,10 @@ use Rattle.laws.proofs.Words.{same-mod, mod-sum}
 use Rattle.selection.specs.Cell.{column}
 use Rattle.recurrence.specs.CarrySave.{sum3, maj3, multiple, lowestCarry}
 use Rattle.recurrence.specs.Recurrence.{State, stepBy}
-use Rattle.recurrence.specs.FastRun.{withColumn, topBitsOf, multiplesOf, allTopBits}
+use Rattle.recurrence.specs.FastRun.{withColumn, topBitsOf, multiplesOf, allTopBits, renewed}
 use Rattle.recurrence.specs.declared.RunState.{RunState}
 use Rattle.recurrence.proofs.CarrySave.{tops, majority}
+use Rattle.recurrence.proofs.Pair.{by-digit}
 
 shifted : (n : ℕ) → n * 4 % 2 ^ 64 / 2 ^ 56 ≡ n / 2 ^ 54 % 256
 shifted n = omega arith
@@ -87,14 +88,17 @@ lowest-at = up-to-four (λ d. (d + 5) / 8 ≡ lowestCarry d) refl refl refl refl
 one-bit : (d : ℕ) → lowestCarry d ≤ 1
 one-bit d = by-cond (λ n. n ≤ 1) (ltb 2 d) 1 0 (λ t. omega arith) (λ t. omega arith)
 
--- the words and the column that the code forms are those of the step
-pub step-code : (p : State) (d x l : ℕ) → x ≡ multiple d (p .divisor) → l / 2 ^ 55 ≡ topBitsOf x
+-- the words, the column and the pair that the code forms are those of the step
+pub step-code : (p : State) (d x l : ℕ) → d ≤ 4 → x ≡ multiple d (p .divisor) → l / 2 ^ 55 ≡ topBitsOf x
     → _≡_ {A = RunState} (record {
       sum = bitXor (bitXor (p .sum) (p .carry)) x * 4 % 2 ^ 64;
       carry = ((bitAnd (p .sum) (p .carry) + bitAnd (bitXor (p .sum) (p .carry)) x) % 2 ^ 64 * 2 % 2 ^ 64 + lowestCarry d) * 4 % 2 ^ 64;
       divisor = p .divisor;
       column = ((bitAnd (p .sum % 2 ^ 62) (2 ^ 64 - 2 ^ 53) + bitAnd (p .carry % 2 ^ 62) (2 ^ 64 - 2 ^ 53)) % 2 ^ 64 * 4 % 2 ^ 64 + l) % 2 ^ 64 / 2 ^ 57;
       digit = d;
+      value = renewed (d + 2) (p .value) (p .decremented);
+      decremented = renewed (d + 1) (p .value) (p .decremented);
     }) (withColumn (stepBy d p))
-step-code p d x l e h =
-    rw (majority, carry-word, ahead-code (p .sum) (p .carry) x (lowestCarry d) l (one-bit d) h, e)
+step-code p d x l b e h =
+    let c = by-digit (p .value) (p .decremented) d b in
+    rw (majority, carry-word, ahead-code (p .sum) (p .carry) x (lowestCarry d) l (one-bit d) h, e, c .value, c .decremented)

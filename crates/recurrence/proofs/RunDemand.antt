@@ -1,24 +1,30 @@
 -- Demand 3 of the run: the claim about all its steps, and the same answer through every table that passes, refusals included.
-use Rattle.laws.proofs.Basics.{_≡_, refl, sym, ap, subst, _∙_, List, ℕ, suc, _+_, _-_, _*_, _^_, _≤_, _<_, arith, length, getD, pos, _-ℤ_, _*ℤ_}
+use Rattle.laws.proofs.Basics.{_≡_, refl, sym, ap, subst, _∙_, List, ℕ, suc, _+_, _-_, _*_, _^_, _≤_, _<_, arith, cond, length, getD, pos, nonNeg, _-ℤ_, _*ℤ_}
+use native.Mathlib.Nat.{pow-le-pow-right}
+use Rattle.laws.specs.Lists.{listFrom}
 use Rattle.laws.proofs.Diff.{diffs}
 use Rattle.laws.proofs.Lists.{list-length}
 use Rattle.selection.specs.Answer.{answerBy}
 use Rattle.selection.specs.Refusals.{ladder}
 use Rattle.selection.specs.Cell.{row, column, digit}
 use Rattle.selection.specs.Table.{Passes}
+use Rattle.selection.specs.Allowed.{allowsOf}
+use Rattle.selection.specs.Computed.{madeTable, madeOf}
 use Rattle.selection.specs.Word.{Within}
 use Rattle.selection.specs.declared.Admission.{Admission}
 use Rattle.selection.specs.declared.Admission.the-variants.{Admitted, Refused}
 use Rattle.selection.proofs.Orders.{passed-last}
 use Rattle.recurrence.specs.Recurrence.{Operands, residue, cellAt, nextOf, after, digitOf, digits, value, endRemainder, correctedQuotient, correctedRemainder, resultOf}
-use Rattle.recurrence.specs.Run.{mostDigits, runRungs, written, runZeros, runValues, runOf}
+use Rattle.recurrence.specs.Run.{longest, mostDigits, runRungs, written, runZeros, runValues, runOf}
+use Rattle.recurrence.specs.OnTheFly.{Renews, PairDemand, PairExample}
 use Rattle.recurrence.specs.Demand.{RunAnswered, RunClaim}
 use Rattle.recurrence.specs.declared.RunAnswer.{RunAnswer}
 use Rattle.recurrence.specs.declared.RunResult.{RunResult}
 use Rattle.recurrence.proofs.Steps.{residue-biased, range-of, table-digit-allowed, step-residue}
 use Rattle.recurrence.proofs.Digits.{digit-at}
 use Rattle.recurrence.proofs.Invariant.{Invariant, invariant-after, quarter}
-use Rattle.recurrence.proofs.Correction.{divided, corrected-run, end-remainder, result-from-word, result-divided}
+use Rattle.recurrence.proofs.Pair.{renews-next, pair-after, chosen}
+use Rattle.recurrence.proofs.Correction.{divided, corrected-run, end-remainder, result-by-sign, result-divided}
 use Rattle.recurrence.proofs.Refusals.{spans, no-refusal}
 
 -- ---- after i steps
@@ -52,22 +58,34 @@ module _ (t : List ℕ) (N D n S : ℕ) (k : Invariant t N D n S) (h : 1 ≤ n) 
 
   quotient-formed : pos (resultOf t N D n .quotient) ≡ correctedQuotient (value (digits t N D n)) (endRemainder t N D n)
   quotient-formed =
-      ap (λ (a : RunResult). pos (a .quotient)) (sym (result-from-word t N D n S k h))
+      ap (λ (a : RunResult). pos (a .quotient)) (sym (result-by-sign t N D n S k h))
       ∙ rw (k .makes, end-remainder t N D n S k h) (sym (corrected-run t N D n S k h .quotient))
 
   remainder-formed : pos (resultOf t N D n .remainder) ≡ correctedRemainder (endRemainder t N D n) D
   remainder-formed =
-      ap (λ (a : RunResult). pos (a .remainder)) (sym (result-from-word t N D n S k h))
-      ∙ rw (k .divisor, end-remainder t N D n S k h) (sym (corrected-run t N D n S k h .remainder))
+      ap (λ (a : RunResult). pos (a .remainder)) (sym (result-by-sign t N D n S k h))
+      ∙ rw (end-remainder t N D n S k h) (sym (corrected-run t N D n S k h .remainder))
+
+  quotient-fits : n ≤ longest → resultOf t N D n .quotient < 2 ^ 64
+  quotient-fits m = rw (← result-by-sign t N D n S k h) (omega (arith, k .size, pow-le-pow-right {n = 4} (omega arith) {i = n} {j = 31} m))
+
+  -- it is the number of the last pair that the end remainder's sign chooses
+  quotient-chosen : Passes t → n ≤ longest → resultOf t N D n .quotient ≡ cond (nonNeg (endRemainder t N D n)) (after t N D n .value) (after t N D n .decremented)
+  quotient-chosen ok m =
+      chosen _ (value (digits t N D n)) (endRemainder t N D n) (after t N D n) (quotient-fits m) quotient-formed (pair-after t N D (ok .table .digits) n)
 
   result-parts : (resultOf t N D n .quotient * D + resultOf t N D n .remainder ≡ N * 4 ^ (n - 1)) × (resultOf t N D n .remainder < D)
   result-parts =
       let c = corrected-run t N D n S k h in
-      rw (← result-from-word t N D n S k h, k .divisor) (c .divides, c .below)
+      rw (← result-by-sign t N D n S k h) (c .divides, c .below)
 
 -- quotient and remainder are those of N·4^(n−1) by D
 pub result-divides : (t : List ℕ) (N D n : ℕ) → Passes t → Operands N D → 1 ≤ n → resultOf t N D n ≡ divided (N * 4 ^ (n - 1)) D n
 result-divides t N D n p o h = result-divided t N D n _ (invariant-after t N D p o n .1) h
+
+renews-step : (t : List ℕ) → Passes t → (N D i : ℕ) → Renews (after t N D i) (after t N D (suc i))
+unfolding after
+renews-step t p N D i = renews-next t (p .table .digits) (after t N D i)
 
 pub run-claim : (t : List ℕ) → Passes t → (N D n : ℕ) (b : List ℕ) (place : ℕ) → Operands N D → 1 ≤ n → n ≤ mostDigits → place + n ≤ length b → RunClaim t N D n b place
 unfolding resultOf
@@ -76,6 +94,7 @@ run-claim t p N D n b place o h l r =
     let S = invariant-after t N D p o n .0 in
     let k = invariant-after t N D p o n .1 in
     let e = result-parts t N D n S k h in
+    let q = quotient-formed t N D n S k h in
     record {
       written = ap (answerBy (λ f. b) (written b place (digits t N D n) n)) g;
       many = list-length (digitOf t N D) 0 n;
@@ -83,10 +102,24 @@ run-claim t p N D n b place o h l r =
       step = λ i m. step t N D i _ (invariant-after t N D p o i .1) p ∙ ap (λ (d : ℕ). pos 4 *ℤ (residue (after t N D i) -ℤ digit d *ℤ pos D)) (sym (digit-at t N D n i m));
       exact = λ i m. exact t N D i _ (invariant-after t N D p o i .1);
       range = λ i m. range t N D i _ (invariant-after t N D p o i .1);
+      pair = λ i m. pair-after t N D (p .table .digits) i;
+      renews = λ i m. renews-step t p N D i;
       close = close t N D n S k h;
       answer = subst (RunAnswered t N D n) (sym (ap (answerBy runZeros (runValues (resultOf t N D n))) g))
-          (record { done = refl; count = refl; quotient = quotient-formed t N D n S k h; remainder = remainder-formed t N D n S k h; divides = e .0; below = e .1 });
+          (record { done = refl; count = refl; quotient = q; chosen = quotient-chosen t N D n S k h p (omega arith); remainder = remainder-formed t N D n S k h; divides = e .0; below = e .1 });
     }
+
+pub pair-demand : PairDemand
+pair-demand = record {
+  start = λ N D. (refl, refl);
+  renews = λ t p. renews-next t (p .table .digits);
+  pair = λ t p N D. pair-after t N D (p .table .digits);
+  chosen = λ t p N D n o h l. quotient-chosen t N D n _ (invariant-after t N D p o n .1) h p l;
+}
+
+pub pair-example : PairExample
+unfolding madeTable listFrom madeOf allowsOf nextOf after
+pair-example = record { one = (refl, refl); two = (refl, refl); three = (refl, refl) }
 
 -- the same answer through every table that passes, whatever the arguments
 pub run-same : (t u : List ℕ) → Passes t → Passes u → (N D n : ℕ) (b : List ℕ) (place : ℕ) → runOf t N D n b place ≡ runOf u N D n b place

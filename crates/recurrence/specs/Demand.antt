@@ -1,14 +1,17 @@
--- Demand 3's words on the run: one claim about all n steps of a run through a table that passes, together.
+-- Demand 3's words on the run: one claim about all n steps of a run through a table that passes, together. With it what document 02, Wish 8, says of the states and of the quotient.
 use mathlib.Core.Path.{_≡_}
+use mathlib.Core.Bool.{cond}
 use mathlib.Core.List.{List, _++_}
 use Prim.Native.Nat.{ℕ, suc, _+_, _-_, _*_, _^_, _≤_, _<_}
 use lib.IntN.{pos, _-ℤ_, _*ℤ_}
+use lib.Signed.{nonNeg}
 use lib.ListN.{length, getD, take, drop}
 use Rattle.selection.specs.Answer.{refusal}
 use Rattle.selection.specs.Word.{Within}
 use Rattle.selection.specs.Cell.{row, column, digit}
 use Rattle.recurrence.specs.Recurrence.{residue, after, digits, value, endRemainder, correctedQuotient, correctedRemainder}
 use Rattle.recurrence.specs.Run.{runOf, bufferOf}
+use Rattle.recurrence.specs.OnTheFly.{PairOf, Renews}
 use Rattle.recurrence.specs.declared.RunAnswer.{RunAnswer}
 
 -- the answer x is no refusal; quotient and remainder are formed from S and the end remainder, neither is negative, and they are those of N·4^(n−1) by D
@@ -16,6 +19,8 @@ pub record RunAnswered (t : List ℕ) (N D n : ℕ) (x : RunAnswer) : Type 0 whe
   pub done : x .refusal ≡ refusal 0 0
   pub count : x .digits ≡ n
   pub quotient : pos (x .quotient) ≡ correctedQuotient (value (digits t N D n)) (endRemainder t N D n)
+  -- it is one of the two numbers of the last state, chosen by the end remainder's sign
+  pub chosen : x .quotient ≡ cond (nonNeg (endRemainder t N D n)) (after t N D n .value) (after t N D n .decremented)
   pub remainder : pos (x .remainder) ≡ correctedRemainder (endRemainder t N D n) D
   pub divides : x .quotient * D + x .remainder ≡ N * 4 ^ (n - 1)
   pub below : x .remainder < D
@@ -31,6 +36,10 @@ pub record RunClaim (t : List ℕ) (N D n : ℕ) (b : List ℕ) (place : ℕ) : 
   -- before each step and after the last, the signed residue is the true remainder, and in range
   pub exact : (i : ℕ) → i ≤ n → residue (after t N D i) ≡ pos (N * 4 ^ i) -ℤ pos 4 *ℤ (value (digits t N D i) *ℤ pos D)
   pub range : (i : ℕ) → i ≤ n → Within 8 D (pos 3 *ℤ residue (after t N D i))
+  -- before each step and after the last, the state has the value of the digits so far and that value less one, both modulo 2^64
+  pub pair : (i : ℕ) → i ≤ n → PairOf (value (digits t N D i)) (after t N D i)
+  -- each step renews both by choosing one of the old two and appending two bits
+  pub renews : (i : ℕ) → i < n → Renews (after t N D i) (after t N D (suc i))
   -- 3·|N·4^(n−1) − S·D| ≤ 2D
   pub close : Within 2 D (pos 3 *ℤ endRemainder t N D n)
   pub answer : RunAnswered t N D n (runOf t N D n b place)

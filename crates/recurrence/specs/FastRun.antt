@@ -1,20 +1,22 @@
 -- Working definitions of private functions: no public contract cites this file. What the code holds besides a state: the column of
 -- its two words, the multiples of the divisor and their top bits, from which the next column is known ahead of the next words.
 use mathlib.Core.Path.{_≡_}
+use mathlib.Core.Bool.{cond}
 use mathlib.Core.List.{List, [], _∷_}
 use Prim.Native.Nat.{ℕ, _+_, _-_, _*_, _/_, _%_, _^_, _≤_, _<_}
+use lib.Dec.{ltb}
 use lib.ListN.{length, getD}
 use Rattle.selection.specs.Cell.{column}
-use Rattle.recurrence.specs.Recurrence.{State}
+use Rattle.recurrence.specs.Recurrence.{State, appended}
 use Rattle.recurrence.specs.declared.RunState.{RunState}
 use Rattle.recurrence.specs.declared.RunResult.{RunResult}
 
 -- a state with its column, and without it
 abbrev pub withColumn : State → RunState
-withColumn p = record { sum = p .sum; carry = p .carry; divisor = p .divisor; column = column (p .sum) (p .carry); digit = p .digit }
+withColumn p = record { sum = p .sum; carry = p .carry; divisor = p .divisor; column = column (p .sum) (p .carry); digit = p .digit; value = p .value; decremented = p .decremented }
 
 abbrev pub stateOf : RunState → State
-stateOf p = record { sum = p .sum; carry = p .carry; divisor = p .divisor; digit = p .digit }
+stateOf p = record { sum = p .sum; carry = p .carry; divisor = p .divisor; digit = p .digit; value = p .value; decremented = p .decremented }
 
 -- the multiple of the divisor for each digit byte
 abbrev pub multiplesOf : ℕ → List ℕ
@@ -41,11 +43,10 @@ pub record StepReady (bytes ms : List ℕ) (tops : ℕ) (p : RunState) : Type 0 
   pub top-bits : tops ≡ allTopBits ms
   pub current : p .column ≡ column (p .sum) (p .carry)
 
--- the answer from S, the divisor and the sum w of the last two words: a quarter of the remainder, and one divisor added where the sign is set
-abbrev pub resultFromWord : ℕ → ℕ → ℕ → ℕ → RunResult
-resultFromWord S D w n = record { quotient = S - w / 2 ^ 63; remainder = (w / 4 + w / 2 ^ 63 * (D + 3 * 2 ^ 62)) % 2 ^ 64; count = n }
+-- one of the pair v, u renewed, u the decremented one: with k = 4 + q the value, with k = 3 + q the decremented value. For k below 4 it is u with the bits k, else v with the bits k − 4
+abbrev pub renewed : ℕ → ℕ → ℕ → ℕ
+renewed k v u = appended (cond (ltb k 4) u v) (k % 4)
 
--- what the correction asks of them: with the sign set, S is not 0
-pub record CorrectionReady (S D w : ℕ) : Type 0 where
-  pub most : D < 2 ^ 61
-  pub less : w / 2 ^ 63 ≤ S
+-- the answer from the last state's pair v, u, the divisor and the sum w of its two words: one of the pair, chosen by the sign; a quarter of the remainder, and one divisor added where the sign is set
+abbrev pub resultFromWord : ℕ → ℕ → ℕ → ℕ → ℕ → RunResult
+resultFromWord v u D w n = record { quotient = cond (ltb w (2 ^ 63)) v u; remainder = (w / 4 + w / 2 ^ 63 * (D + 3 * 2 ^ 62)) % 2 ^ 64; count = n }

@@ -1,7 +1,8 @@
--- The digit recurrence: document 01, "The run". One step, the states, the digits, the number S that they make, the correction of the last digit.
+-- The digit recurrence: document 01, "The run", and document 02, Wish 8. One step, the states, the digits, the number S that they make, the correction of the last digit.
 use mathlib.Core.Bool.{cond}
 use mathlib.Core.List.{List, [], _∷_}
 use Prim.Native.Nat.{ℕ, zero, suc, _+_, _-_, _*_, _%_, _^_, _≤_, _<_}
+use lib.Dec.{ltb}
 use lib.ListN.{length, getD}
 use lib.IntN.{ℤ, pos, natAbs, _+ℤ_, _-ℤ_, _*ℤ_}
 use lib.Signed.{nonNeg}
@@ -11,12 +12,14 @@ use Rattle.selection.specs.Cell.{row, column, digit}
 use Rattle.recurrence.specs.CarrySave.{sum3, maj3, multiple, lowestCarry}
 use Rattle.recurrence.specs.declared.RunResult.{RunResult}
 
--- a state of the run: the sum word PS, the carry word PC, the divisor, and the digit byte of the last step
+-- a state of the run: the sum word PS, the carry word PC, the divisor, the digit byte of the last step, the value of the digits so far and that value less one (decremented), both modulo 2^64
 pub record State : Type 0 where
   pub sum : ℕ
   pub carry : ℕ
   pub divisor : ℕ
   pub digit : ℕ
+  pub value : ℕ
+  pub decremented : ℕ
 
 -- the spans of N and D
 pub record Operands (N D : ℕ) : Type 0 where
@@ -32,22 +35,30 @@ residue p = signed (p .sum + p .carry)
 abbrev pub cellAt : State → ℕ
 cellAt p = 128 * row (p .divisor) + column (p .sum) (p .carry)
 
--- the state after a step whose digit byte is d: both words moved up two bits, bits above 63 dropped
+-- two bits appended to x, bits above 63 dropped
+abbrev pub appended : ℕ → ℕ → ℕ
+appended x bits = (x * 4 + bits) % 2 ^ 64
+
+-- the state after a step whose digit byte is d = q + 2: both words moved up two bits, bits above 63 dropped. The pair by on-the-fly conversion (Ercegovac and Lang): one of the old two
+-- is chosen and two bits are appended. The next value is the decremented one with the bits 4 + q for q below 0, else the value with the bits q; the next decremented value is the
+-- decremented one with the bits 3 + q for q below 1, else the value with the bits q − 1
 abbrev pub stepBy : ℕ → State → State
 stepBy d p = record {
   sum = sum3 (p .sum) (p .carry) (multiple d (p .divisor)) * 4 % 2 ^ 64;
   carry = (maj3 (p .sum) (p .carry) (multiple d (p .divisor)) * 2 + lowestCarry d) * 4 % 2 ^ 64;
   divisor = p .divisor;
   digit = d;
+  value = cond (ltb d 2) (appended (p .decremented) (d + 2)) (appended (p .value) (d - 2));
+  decremented = cond (ltb d 3) (appended (p .decremented) (d + 1)) (appended (p .value) (d - 3));
 }
 
 -- one step: the digit is the table's at the cell
 unfoldable pub nextOf : List ℕ → State → State
 nextOf t p = stepBy (getD t (cellAt p) 0) p
 
--- PS = N, PC = 0; no step is done, so the digit byte is that of 0
+-- PS = N, PC = 0; no step is done, so the digit byte is that of 0, the value is 0, and one less modulo 2^64 is 2^64 − 1
 abbrev pub startOf : ℕ → ℕ → State
-startOf N D = record { sum = N; carry = 0; divisor = D; digit = 2 }
+startOf N D = record { sum = N; carry = 0; divisor = D; digit = 2; value = 0; decremented = 2 ^ 64 - 1 }
 
 -- the state after i steps
 unfoldable pub after : List ℕ → ℕ → ℕ → ℕ → State

@@ -4,6 +4,7 @@ use selection::Refusal;
 use selection::refused;
 use std::num::wrapping_add_u64;
 ghost use mathlib.Core.Path.{_≡_};
+ghost use mathlib.Core.Bool.{cond};
 ghost use mathlib.Core.List.{List};
 ghost use Prim.Native.Nat.{ℕ, _+_, _%_, _^_, _≤_, _<_};
 ghost use lib.ListN.{length, getD};
@@ -13,10 +14,10 @@ ghost use Rattle.selection.specs.Cell as Cell;
 ghost use Rattle.selection.specs.Table.{Passes, rowBytes};
 ghost use Rattle.selection.specs.Computed.{madeTable};
 ghost use Rattle.recurrence.specs.CarrySave.{lowestCarry};
-ghost use Rattle.recurrence.specs.Recurrence.{Operands, nextOf, startOf, digits, resultOf};
+ghost use Rattle.recurrence.specs.Recurrence.{Operands, appended, nextOf, startOf, digits, resultOf};
 ghost use Rattle.recurrence.specs.Row.{Row};
 ghost use Rattle.recurrence.specs.Run.{longest, runRungs, written, runZeros, runValues, runOf, bufferOf};
-ghost use Rattle.recurrence.specs.FastRun.{withColumn, stateOf, multiplesOf, topBitsOf, allTopBits, DigitBytes, StepReady, resultFromWord, CorrectionReady};
+ghost use Rattle.recurrence.specs.FastRun.{withColumn, stateOf, multiplesOf, topBitsOf, allTopBits, DigitBytes, StepReady, renewed, resultFromWord};
 
 // The next column needs the bits 61 to 53 of a word: what is left of it by 2^62, without the bits below 2^53.
 const TOP_END: u64 = 0x4000_0000_0000_0000;
@@ -28,19 +29,25 @@ const DIVISOR_LEAST: u64 = 0x1000_0000_0000_0000;
 
 const OPERAND_MOST: u64 = 0x1fff_ffff_ffff_ffff;
 
+// The sign bit of a word.
+const SIGN: u64 = 0x8000_0000_0000_0000;
+
 // The most digits that `run_row` gives: whole-number division needs so many, and has room for them.
 pub const LONGEST: usize = 31;
 
 // The most digits that a caller may ask for.
 const MOST_DIGITS: usize = 28;
 
-// The state of a run: the partial remainder in carry-save form, the divisor, the column of the two words, and the digit of the last step.
+// The state of a run: the partial remainder in carry-save form, the divisor, the column of the two words, the digit of the last step,
+// the value of the digits so far and that value less one (decremented), both modulo 2^64.
 struct RunState {
     sum: u64,
     carry: u64,
     divisor: u64,
     column: u64,
     digit: u8,
+    value: u64,
+    decremented: u64,
 }
 
 // The answer, as C sees it: the refusal (0: none) and its place, quotient, remainder and number of digits, zeros where the run is refused.
@@ -104,8 +111,31 @@ fn lowest_carry(digit: u8) -> u64
     (digit as u64 + 5) >> 3
 }
 
+// One of two numbers. The compiler makes a conditional move of it, and no branch.
+fn choose(first: bool, x: u64, y: u64) -> u64
+    ensures { λ r. ⌜ r ≡ cond first x y ⌝ }
+{
+    if first { x } else { y }
+}
+
+// Two bits appended to a number, the bits above 63 dropped.
+fn append(x: u64, bits: u64) -> u64
+    requires { ⌜ bits < 4 ⌝ }
+    ensures { λ r. ⌜ r ≡ appended x bits ⌝ }
+{
+    (x << 2) + bits
+}
+
+// One of the pair renewed: for k below 4 the decremented one with the bits k, else the value with the bits k - 4. It chooses first and
+// appends after: with the bits in the arms the compiler makes a branch on the digit.
+fn renew(k: u32, value: u64, decremented: u64) -> u64
+    ensures { λ r. ⌜ r ≡ renewed k value decremented ⌝ }
+{
+    append(choose(k < 4, decremented, value), (k % 4) as u64)
+}
+
 impl RunState {
-    // No step is done: the digit is 0.
+    // No step is done: the digit is 0, and so is the value; one less is 2^64 - 1.
     fn new(dividend: u64, divisor: u64) -> RunState
         ensures { λ r. ⌜ r ≡ withColumn (startOf dividend divisor) ⌝ }
     {
@@ -115,6 +145,8 @@ impl RunState {
             divisor,
             column: column_of(dividend, 0),
             digit: 2,
+            value: 0,
+            decremented: 0xffff_ffff_ffff_ffff,
         }
     }
 
@@ -141,20 +173,22 @@ impl RunState {
             divisor,
             column,
             digit,
+            value: renew(digit as u32 + 2, self.value, self.decremented),
+            decremented: renew(digit as u32 + 1, self.value, self.decremented),
         }
     }
 }
 
-// The answer that the last words and the digits' number give: the partial remainder is the words' wrapping sum. Its sign, the top bit,
-// takes one from the quotient and adds the divisor to a quarter of it, whose two top bits are then set: no branch on the sign.
-fn corrected(state: RunState, total: u64, count: usize) -> RunResult
-    requires { ⌜ CorrectionReady total (state .divisor) ((state .sum + state .carry) % 2 ^ 64) ⌝ }
-    ensures { λ r. ⌜ r ≡ resultFromWord total (state .divisor) ((state .sum + state .carry) % 2 ^ 64) count ⌝ }
+// The answer that the last state and the digits' number give: the partial remainder is the words' wrapping sum. Its sign, the top bit,
+// chooses the quotient, and adds the divisor to a quarter of the remainder, whose two top bits are then set: no branch on the sign.
+fn corrected(state: RunState, count: usize) -> RunResult
+    requires { ⌜ state .divisor < 2 ^ 61 ⌝ }
+    ensures { λ r. ⌜ r ≡ resultFromWord (state .value) (state .decremented) (state .divisor) ((state .sum + state .carry) % 2 ^ 64) count ⌝ }
 {
     let word = wrapping_add_u64(state.sum, state.carry);
     let sign = word >> 63;
     RunResult {
-        quotient: total - sign,
+        quotient: choose(word < SIGN, state.value, state.decremented),
         remainder: wrapping_add_u64(word >> 2, sign * (state.divisor + 0xc000_0000_0000_0000)),
         count,
     }
@@ -169,16 +203,13 @@ pub fn run_row(row: &[u8], dividend: u64, divisor: u64, out: &mut [u8]) -> RunRe
     let multiples = multiples_of(divisor);
     let tops = all_top_bits(&multiples);
     let mut state = RunState::new(dividend, divisor);
-    let mut total: u64 = 0;
     let mut i = 0;
     while i < out.len() {
         state = state.next(row, &multiples, tops);
-        let digit = state.digit;
-        total = 4 * total + (digit as u64) - 2;
-        out[i] = digit;
+        out[i] = state.digit;
         i += 1;
     }
-    corrected(state, total, i)
+    corrected(state, i)
 }
 
 // The same, n digits into the buffer from a place on.

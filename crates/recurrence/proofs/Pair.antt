@@ -1,0 +1,103 @@
+-- The value of the digits so far and that value less one: each step renews both by choosing one of the old pair and appending two bits.
+use Rattle.laws.proofs.Basics.{_≡_, refl, ap, _∙_, List, inl, inr, ℕ, zero, suc, _+_, _-_, _*_, _/_, _%_, _^_, _≤_, _<_, arith, ltb, ltb→lt, nltb→le, cond, getD, ℤ, pos, negsuc, _+ℤ_, _-ℤ_, _*ℤ_, nonNeg}
+use Rattle.laws.specs.Lists.{listFrom}
+use Rattle.laws.proofs.Diff.{diff, diffs, by-diff}
+use Rattle.laws.proofs.Lists.{list-snoc}
+use Rattle.laws.proofs.Tests.{by-cond, up-to-four}
+use Rattle.laws.proofs.Words.{same-mod}
+use Rattle.selection.specs.Cell.{digit}
+use Rattle.selection.proofs.BiasedPoints.{digit-diff}
+use Rattle.recurrence.specs.Recurrence.{State, cellAt, appended, stepBy, nextOf, after, digitOf, digits, value, correctedQuotient}
+use Rattle.recurrence.specs.OnTheFly.{WordOf, PairOf, Appends, Renews}
+use Rattle.recurrence.specs.FastRun.{renewed}
+use Rattle.recurrence.proofs.Digits.{value-append}
+
+-- ---- words modulo 2^64
+
+-- a number up to 2^64 times something is its remainder
+word-of : (z T : ℤ) (x : ℕ) → z ≡ pos x +ℤ T *ℤ pos (2 ^ 64) → WordOf z (x % 2 ^ 64)
+word-of z T x e = record { word = omega arith; times = T +ℤ pos (x / 2 ^ 64); is = e ∙ rest T x }
+  where
+    rest : (T : ℤ) (x : ℕ) → pos x +ℤ T *ℤ pos (2 ^ 64) ≡ pos (x % 2 ^ 64) +ℤ (T +ℤ pos (x / 2 ^ 64)) *ℤ pos (2 ^ 64)
+    rest T x = by-diff (λ T. pos x +ℤ T *ℤ pos (2 ^ 64) ≡ pos (x % 2 ^ 64) +ℤ (T +ℤ pos (x / 2 ^ 64)) *ℤ pos (2 ^ 64)) (λ a b. simp diffs (omega arith)) T
+
+-- a number below 2^64 is its word
+pub word-one : (n w : ℕ) → n < 2 ^ 64 → WordOf (pos n) w → n ≡ w
+word-one n w h m = by-diff (λ T. pos n ≡ pos w +ℤ T *ℤ pos (2 ^ 64) → n ≡ w) (λ a b e. omega (arith, m .word, simp diffs at e)) (m .times) (m .is)
+
+-- ---- one step
+
+-- the code's choices by k = d + 2 and k = d + 1 are those by the digit
+pub record ByDigit (v w d : ℕ) : Type 0 where
+  pub value : cond (ltb d 2) (appended w (d + 2)) (appended v (d - 2)) ≡ renewed (d + 2) v w
+  pub decremented : cond (ltb d 3) (appended w (d + 1)) (appended v (d - 3)) ≡ renewed (d + 1) v w
+
+pub by-digit : (v w d : ℕ) → d ≤ 4 → ByDigit v w d
+by-digit v w =
+    up-to-four (ByDigit v w) (record { value = refl; decremented = refl }) (record { value = refl; decremented = refl }) (record { value = refl; decremented = refl })
+    (record { value = refl; decremented = refl }) (record { value = refl; decremented = refl })
+
+-- whichever is chosen, it is one of the pair with two bits appended
+appends : (p : State) (k : ℕ) → Appends p (renewed k (p .value) (p .decremented))
+appends p k =
+    by-cond (λ (x : ℕ). Appends p ((x * 4 + k % 4) % 2 ^ 64)) (ltb k 4) (p .decremented) (p .value)
+    (λ t. record { old = p .decremented; bits = k % 4; chosen = inr refl; two-bits = omega arith; is = refl })
+    (λ t. record { old = p .value; bits = k % 4; chosen = inl refl; two-bits = omega arith; is = refl })
+
+-- so of every state, whatever its two numbers are
+step-renews : (d : ℕ) (p : State) → d ≤ 4 → Renews p (stepBy d p)
+step-renews d p h = let c = by-digit (p .value) (p .decremented) d h in record { value = rw (c .value) (appends p (d + 2)); decremented = rw (c .decremented) (appends p (d + 1)) }
+
+-- and it is four times the decremented number and k more
+renewed-is : (k v w : ℕ) → k < 8 → v ≡ (w + 1) % 2 ^ 64 → renewed k v w ≡ (w * 4 + k) % 2 ^ 64
+renewed-is k v w h e =
+    by-cond (λ (x : ℕ). (x * 4 + k % 4) % 2 ^ 64 ≡ (w * 4 + k) % 2 ^ 64) (ltb k 4) w v
+    (λ t. let s = ltb→lt k 4 t in ap (λ (r : ℕ). (w * 4 + r) % 2 ^ 64) (omega arith))
+    (λ t. let s = nltb→le k 4 t in same-mod _ _ (2 ^ 64) (4 * ((w + 1) / 2 ^ 64)) 0 (omega arith))
+
+-- 4S + q, and one less, from the decremented number
+record Raised (S T : ℤ) (w d : ℕ) : Type 0 where
+  value : pos 4 *ℤ S +ℤ digit d ≡ pos (w * 4 + (d + 2)) +ℤ (pos 4 *ℤ T) *ℤ pos (2 ^ 64)
+  decremented : (pos 4 *ℤ S +ℤ digit d) -ℤ pos 1 ≡ pos (w * 4 + (d + 1)) +ℤ (pos 4 *ℤ T) *ℤ pos (2 ^ 64)
+
+raised : (S T : ℤ) (w d : ℕ) → S -ℤ pos 1 ≡ pos w +ℤ T *ℤ pos (2 ^ 64) → Raised S T w d
+raised S T w d =
+    by-diff (λ S. S -ℤ pos 1 ≡ pos w +ℤ T *ℤ pos (2 ^ 64) → Raised S T w d)
+    (λ a b. by-diff (λ T. diff a b -ℤ pos 1 ≡ pos w +ℤ T *ℤ pos (2 ^ 64) → Raised (diff a b) T w d)
+    (λ u v e. record { value = rw (digit-diff d) (simp diffs (omega (arith, simp diffs at e))); decremented = rw (digit-diff d) (simp diffs (omega (arith, simp diffs at e))) }) T) S
+
+pair-next : (d : ℕ) (p : State) (S : ℤ) → d ≤ 4 → PairOf S p → PairOf (pos 4 *ℤ S +ℤ digit d) (stepBy d p)
+pair-next d p S h c =
+    let w = p .decremented in
+    let b = by-digit (p .value) w d h in
+    let r = raised S (c .decremented .times) w d (c .decremented .is) in
+    rw (b .value, b .decremented, renewed-is (d + 2) (p .value) w (omega arith) (c .one-apart), renewed-is (d + 1) (p .value) w (omega arith) (c .one-apart))
+    (record {
+      value = word-of _ (pos 4 *ℤ c .decremented .times) (w * 4 + (d + 2)) (r .value);
+      decremented = word-of _ (pos 4 *ℤ c .decremented .times) (w * 4 + (d + 1)) (r .decremented);
+      one-apart = same-mod _ _ (2 ^ 64) 0 ((w * 4 + (d + 1)) / 2 ^ 64) (omega arith);
+    })
+
+-- ---- every state reached, through every table of digit bytes
+
+pub renews-next : (t : List ℕ) → ((k : ℕ) → getD t k 0 ≤ 4) → (p : State) → Renews p (nextOf t p)
+unfolding nextOf
+renews-next t small p = step-renews (getD t (cellAt p) 0) p (small (cellAt p))
+
+module _ (t : List ℕ) (N D : ℕ) (small : (k : ℕ) → getD t k 0 ≤ 4) where
+  pub pair-after : (i : ℕ) → PairOf (value (digits t N D i)) (after t N D i)
+  unfolding after nextOf value listFrom
+  pair-after zero = record {
+    value = record { word = omega arith; times = pos 0; is = refl };
+    decremented = record { word = omega arith; times = pos 0 -ℤ pos 1; is = refl };
+    one-apart = refl;
+  }
+  pair-after (suc i) =
+      let p = after t N D i in
+      let d = getD t (cellAt p) 0 in
+      rw (ap value (list-snoc (digitOf t N D) i) ∙ value-append (digits t N D i) d) (pair-next d p (value (digits t N D i)) (small (cellAt p)) (pair-after i))
+
+-- the corrected quotient is one of the two numbers, chosen by the sign
+pub chosen : (Q : ℕ) (S R : ℤ) (p : State) → Q < 2 ^ 64 → pos Q ≡ correctedQuotient S R → PairOf S p → Q ≡ cond (nonNeg R) (p .value) (p .decremented)
+chosen Q S (pos R) p h e c = word-one Q (p .value) h (rw e (c .value))
+chosen Q S (negsuc R) p h e c = word-one Q (p .decremented) h (rw e (c .decremented))
