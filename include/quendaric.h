@@ -17,7 +17,8 @@
    any thread.
 
    The archive is for x86-64: the System V calling convention, a size_t of 64 bits. The calls use vector registers, and
-   of the stack at most QUENDARIC_STACK bytes below the caller's (504 measured on the archive, not proved). */
+   of the stack at most QUENDARIC_STACK bytes below the caller's. (Not proved: 512 were measured on the archive, the rest
+   is margin.) */
 
 #ifndef QUENDARIC_H
 #define QUENDARIC_H
@@ -51,15 +52,15 @@ extern "C" {
 #endif
 
 /* The version of these calls; CHANGELOG.md tells what changed. */
-#define QUENDARIC_VERSION "1.6.0"
+#define QUENDARIC_VERSION "1.6.1"
 #define QUENDARIC_VERSION_MAJOR 1
 #define QUENDARIC_VERSION_MINOR 6
-#define QUENDARIC_VERSION_PATCH 0
+#define QUENDARIC_VERSION_PATCH 1
 
 #define QUENDARIC_TABLE_LENGTH 2048
 #define QUENDARIC_MOST_DIGITS 28
 #define QUENDARIC_WIDEST_WINDOW 4096
-#define QUENDARIC_STACK 512
+#define QUENDARIC_STACK 1024
 
 /* Refusals. 8 to 10 are the table maker's to mend, the others the caller's. */
 #define QUENDARIC_REFUSED_CELL 1      /* row above 15 or column above 127 */

@@ -1,5 +1,6 @@
-/* The same division in C, to measure against: document 01's recurrence step by step, with document 02's finer estimate, the
-   same with the next column known ahead of the words, and binary64 division over each. And the same roots. */
+/* The same division in C, to measure against: document 01's recurrence step by step, with document 02's finer estimate and
+   the quotient by on-the-fly conversion, the same with the next column known ahead of the words, and binary64 division over
+   each. And the same roots. */
 #ifndef BASELINE_H
 #define BASELINE_H
 
