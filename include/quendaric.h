@@ -8,8 +8,8 @@
    Every call ends, and answers by value. The first two fields of an answer are the refusal (0: none) and its place.
    Where a call refuses, every other field is 0 (but see quendaric_check_table) and every lent buffer is unchanged.
    Look at the refusal first: zeros beside a refusal are no answer, and some of them look like one.
-   Where several refusals apply, the first of them in the order 1 to 6, 11 to 13, 7 to 10 is given. The place is 0 except
-   for 9, 10 and 13.
+   Where several refusals apply, the first of them in the order 1 to 3, 14, 4 to 6, 11 to 13, 7 to 10 is given. The place
+   is 0 except for 9, 10 and 13.
 
    A pointer must be valid for its length; with length 0 it is not read and may be NULL. Tables and buffers of bytes may
    be at any address, lists of uint64_t are aligned as such. What a call writes must overlap nothing else that is lent to
@@ -52,10 +52,10 @@ extern "C" {
 #endif
 
 /* The version of these calls; CHANGELOG.md tells what changed. */
-#define QUENDARIC_VERSION "1.6.1"
+#define QUENDARIC_VERSION "1.7.0"
 #define QUENDARIC_VERSION_MAJOR 1
-#define QUENDARIC_VERSION_MINOR 6
-#define QUENDARIC_VERSION_PATCH 1
+#define QUENDARIC_VERSION_MINOR 7
+#define QUENDARIC_VERSION_PATCH 0
 
 #define QUENDARIC_TABLE_LENGTH 2048
 #define QUENDARIC_MOST_DIGITS 28
@@ -76,6 +76,7 @@ extern "C" {
 #define QUENDARIC_REFUSED_LISTS 11    /* the two input lists differ in length */
 #define QUENDARIC_REFUSED_WIDTH 12    /* a window's width is 0, above 4,096 or above the number of readings */
 #define QUENDARIC_REFUSED_READING 13  /* a reading of 2^40 or more; the place is the first such index */
+#define QUENDARIC_REFUSED_RANGE 14    /* three times the remainder of a step is below -8 or above 8 divisors */
 
 /* Rounding directions of binary64. */
 #define QUENDARIC_NEAREST 0 /* to nearest, ties to even */
@@ -135,6 +136,15 @@ typedef struct {
   uint64_t remainder;
   uint64_t digits;
 } quendaric_ran;
+
+/* digit: from -2 to 2. sum and carry: the next two words. Beside a refusal the zeros are no digit and no words. */
+typedef struct {
+  uint64_t refusal;
+  uint64_t place;
+  int64_t digit;
+  uint64_t sum;
+  uint64_t carry;
+} quendaric_stepped;
 
 /* Beside a refusal the zeros are no quotient. */
 typedef struct {
@@ -209,6 +219,14 @@ quendaric_ran quendaric_run(const uint8_t *table, size_t table_length, uint64_t 
 QUENDARIC_ANSWER
 quendaric_ran quendaric_run_kept(uint64_t dividend, uint64_t divisor, size_t digits, uint8_t *buffer,
                                  size_t buffer_length, size_t place);
+
+/* One step of a run, from any two words: the remainder P is sum + carry modulo 2^64, read as signed, and the next words
+   make 4 * (P - digit * divisor). Who begins at sum = dividend, carry = 0 and feeds each returned pair back, with the same
+   divisor and table, gets the digits of the run. The divisor is from 2^60 to 2^61 - 1.
+   Checks the table on each call. Refuses 3, 14, 8, 9, 10. */
+QUENDARIC_ANSWER
+quendaric_stepped quendaric_step(uint64_t sum, uint64_t carry, uint64_t divisor, const uint8_t *table,
+                                 size_t table_length);
 
 /* Whole numbers below 2^60: a = quotient * b + remainder, with remainder < b, through the table.
    Checks the table on each call. Refuses 4, 5, 8, 9, 10. */

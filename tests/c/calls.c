@@ -93,6 +93,32 @@ static void runs(const uint8_t *table) {
   SAME(buffer[0], 3);
 }
 
+/* Steps, each pair fed back, give the digits of the run; what a step refuses, in its order. */
+static void steps(const uint8_t *table) {
+  const size_t length = QUENDARIC_TABLE_LENGTH;
+  const uint64_t divisor = one / 2 * 3;
+  uint8_t buffer[QUENDARIC_MOST_DIGITS];
+  SAME(quendaric_run(table, length, one, divisor, QUENDARIC_MOST_DIGITS, buffer, sizeof buffer, 0).refusal, 0);
+  quendaric_stepped step = {0, 0, 0, one, 0};
+  for (int i = 0; i < QUENDARIC_MOST_DIGITS; i++) {
+    step = quendaric_step(step.sum, step.carry, divisor, table, length);
+    SAME(step.refusal, 0);
+    SAME(step.place, 0);
+    SAME((uint64_t)(step.digit + 2), buffer[i]);
+  }
+  step = quendaric_step(8 * one / 3, 0, one, table, length);
+  SAME(step.refusal, 0);
+  step = quendaric_step(8 * one / 3, 1, one, table, length);
+  SAME(step.refusal, QUENDARIC_REFUSED_RANGE);
+  SAME((uint64_t)step.digit | step.sum | step.carry | step.place, 0);
+  SAME(quendaric_step(0, 0 - 8 * one / 3, one, table, length).refusal, 0);
+  SAME(quendaric_step(0, 0 - 8 * one / 3 - 1, one, table, length).refusal, QUENDARIC_REFUSED_RANGE);
+  SAME(quendaric_step((uint64_t)1 << 63, 0, one - 1, table, 5).refusal, QUENDARIC_REFUSED_SPAN);
+  SAME(quendaric_step((uint64_t)1 << 63, 0, 2 * one, table, 5).refusal, QUENDARIC_REFUSED_SPAN);
+  SAME(quendaric_step((uint64_t)1 << 63, 0, one, table, 5).refusal, QUENDARIC_REFUSED_RANGE);
+  SAME(quendaric_step(1, 0, one, table, 5).refusal, QUENDARIC_REFUSED_LENGTH);
+}
+
 /* Runs that are refused: the first in order, and every byte of the buffer as it was. */
 static void refused_runs(const uint8_t *table) {
   uint8_t buffer[40];
@@ -264,6 +290,7 @@ int main(void) {
   cells();
   tables(table);
   runs(table);
+  steps(table);
   refused_runs(table);
   nothing_lent(table);
   divisions(table);

@@ -11,6 +11,7 @@ void ignored(const uint8_t *table, uint8_t *buffer, uint64_t *words) {
   quendaric_make_table(buffer, 2048);
   quendaric_run(table, 2048, 1, (uint64_t)1 << 60, 28, buffer, 28, 0);
   quendaric_run_kept(1, (uint64_t)1 << 60, 28, buffer, 28, 0);
+  quendaric_step(1, 0, (uint64_t)1 << 60, table, 2048);
   quendaric_divide_whole(table, 2048, 1, 1);
   quendaric_divide_whole_kept(1, 1);
   quendaric_divide_binary64(table, 2048, 1, 1, QUENDARIC_NEAREST);

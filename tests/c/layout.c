@@ -46,6 +46,12 @@ FIELD(quendaric_ran, remainder, 24, 8);
 FIELD(quendaric_ran, digits, 32, 8);
 SIZE(quendaric_ran, 40);
 
+REFUSAL(quendaric_stepped);
+FIELD(quendaric_stepped, digit, 16, 8);
+FIELD(quendaric_stepped, sum, 24, 8);
+FIELD(quendaric_stepped, carry, 32, 8);
+SIZE(quendaric_stepped, 40);
+
 REFUSAL(quendaric_whole);
 FIELD(quendaric_whole, quotient, 16, 8);
 FIELD(quendaric_whole, remainder, 24, 8);

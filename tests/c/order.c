@@ -39,6 +39,10 @@ static void run(const uint64_t *x, reply *y) {
 static void run_kept(const uint64_t *x, reply *y) {
   REPLY(y, quendaric_run_kept(x[0], x[1], x[2], y->buffer, x[3], x[4]));
 }
+/* Sum and carry word may be exchanged: the step's answer is the same, so that no answer tells which is which. */
+static void step(const uint64_t *x, reply *y) {
+  REPLY(y, quendaric_step(x[0], 0x1FEDCBA987654321ull, x[1], table, x[2]));
+}
 static void divide_whole(const uint64_t *x, reply *y) {
   REPLY(y, quendaric_divide_whole(table, x[0], x[1], x[2]));
 }
@@ -90,6 +94,12 @@ static const struct {
      {2048, N, D, 5, 11, 4},
      {{0, 0, 145, 2208485150033111375ull, 5}, {0, 0, 0, 0, 3, 0, 3, 3, 0}}},
     {"run_kept", run_kept, 5, {N, D, 5, 11, 4}, {{0, 0, 145, 2208485150033111375ull, 5}, {0, 0, 0, 0, 3, 0, 3, 2, 4}}},
+    /* sum, divisor, table length */
+    {"step",
+     step,
+     3,
+     {0x0123456789ABCDEFull, N, 2048},
+     {{0, 0, 2, 0x15677703419BABBCull, 0xDD3A197C7D4A290Cull}, {0}}},
     {"divide_whole", divide_whole, 3, {2048, 1000000007, 7654321}, {{0, 0, 130, 4938277}, {0}}},
     {"divide_whole_kept", divide_whole_kept, 2, {1000000007, 7654321}, {{0, 0, 130, 4938277}, {0}}},
     /* .., a, b, direction: 1/3 upward */

@@ -6,7 +6,7 @@
 #include <stdio.h>
 #include <string.h>
 
-enum { CALLS = 14, TURNS = 1000, PAINT = 0xA5 };
+enum { CALLS = 15, TURNS = 1000, PAINT = 0xA5 };
 
 static uint8_t stack[8192] __attribute__((aligned(64)));
 static uint8_t table[QUENDARIC_TABLE_LENGTH], buffer[QUENDARIC_MOST_DIGITS];
@@ -44,6 +44,7 @@ static void call(void) {
   case 10: sink = quendaric_divide_samples(table, size, &a, 1, &b, 1, &concentration, 1, a % 4).flags; break;
   case 11: sink = quendaric_average_windows(readings, 8, 1 + a % 8, means, 8, remainders, 8).refusal; break;
   case 12: sink = quendaric_root_whole(x).root; break;
+  case 13: sink = quendaric_step(dividend, 0, divisor, table, size).sum; break;
   default: sink = quendaric_root_binary64(a >> 1, b % 4).pattern; break;
   }
 }

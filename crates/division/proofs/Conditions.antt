@@ -1,6 +1,8 @@
 -- The caller's conditions in numbers: each follows from its rung.
-use Rattle.laws.proofs.Basics.{_≡_, refl, ap, _∙_, List, [], _∷_, _++_, _⊎_, inl, inr, ⊎-elim, ℕ, _+_, _-_, _^_, _≤_, _<_, arith, length}
+use Rattle.laws.proofs.Basics.{_≡_, refl, ap, _∙_, List, [], _∷_, _++_, _⊎_, inl, inr, ⊎-elim, ℕ, _+_, _-_, _*_, _^_, _≤_, _<_, arith, length, pos, negℤ, _*ℤ_}
+use lib.Signed.{_<ℤ_}
 use Rattle.selection.specs.Answer.{refusal, answerBy}
+use Rattle.selection.specs.Word.{signed}
 use Rattle.selection.specs.Maker.{limitsZeros}
 use Rattle.selection.specs.Table.{tableRungs}
 use Rattle.selection.specs.Computed.{limitsOf}
@@ -8,8 +10,11 @@ use Rattle.selection.specs.Refusals.{Condition, Rung, below, atMost, same, diff
 use Rattle.selection.specs.declared.Admission.{Admission}
 use Rattle.selection.proofs.Ladders.{rung-holds, rung-past}
 use Rattle.selection.proofs.Verdicts.{cell-row-column, cell-byte}
-use Rattle.recurrence.specs.Recurrence.{Operands, resultOf}
+use Rattle.recurrence.specs.Recurrence.{Operands, stateFrom, nextOf, resultOf}
 use Rattle.recurrence.specs.Run.{mostDigits, runRungs, runZeros, runValues, runOf}
+use Rattle.recurrence.specs.Step.{stepZeros, stepValues, stepOf}
+use Rattle.recurrence.specs.declared.step.StepAnswer.{StepAnswer}
+use Rattle.recurrence.proofs.StepRange.{in-span, by-divisor, by-range}
 use Rattle.division.specs.Whole.{wholeRungs, wholeZeros, wholeValues, wholeOf}
 use Rattle.division.specs.WholeSteps.{wholeThrough}
 use Rattle.division.specs.Binary64.{binary64Rungs, binary64Zeros, binary64Values, binary64Of}
@@ -52,6 +57,18 @@ module _ (t : List ℕ) (N D n : ℕ) (b : List ℕ) (place : ℕ) where
       (counted h l
       ∙ rung-past 3 0 wrong-operands later (⊎-elim (λ x. omega (arith, o .least)) (⊎-elim (λ x. omega (arith, o .most)) (λ x. omega (arith, o .dividend))))
       ∙ rung-holds 7 0 (below (length b) (place + n)) (tableRungs t) w)
+
+module _ (s k D : ℕ) (t : List ℕ) where
+  step-answer : Admission → StepAnswer
+  step-answer = answerBy stepZeros (stepValues (nextOf t (stateFrom s k D)))
+
+  step-divisor : (D < 2 ^ 60) ⊎ (2 ^ 61 ≤ D) → stepOf s k D t ≡ stepZeros (refusal 3 0)
+  unfolding step-answer
+  step-divisor h = ap step-answer (by-divisor s k D (tableRungs t) (⊎-elim inl (λ x. inr (omega arith)) h))
+
+  step-range : 2 ^ 60 ≤ D → D < 2 ^ 61 → ((pos 3 *ℤ signed (s + k)) <ℤ (negℤ (pos (8 * D)))) ⊎ ((pos (8 * D)) <ℤ (pos 3 *ℤ signed (s + k))) → stepOf s k D t ≡ stepZeros (refusal 14 0)
+  unfolding step-answer
+  step-range l m h = ap step-answer (by-range s k D (tableRungs t) (in-span s k D l m) h)
 
 module _ (t : List ℕ) (a b : ℕ) where
   large : (2 ^ 60 ≤ a) ⊎ (2 ^ 60 ≤ b) → wholeOf t a b ≡ wholeZeros (refusal 4 0)
@@ -111,6 +128,8 @@ conditions = record {
   digits = digits;
   operands = operands;
   buffer = buffer;
+  step-divisor = step-divisor;
+  step-range = step-range;
   large = large;
   by-zero = by-zero;
   direction = λ t d a b. direction t a b d;

@@ -15,9 +15,11 @@ use Rattle.selection.proofs.Ladders.{Ladder, by-number, first-is, refused-by, r
 use Rattle.selection.proofs.MadeTables.{kept-passes, limits-told, make-answer}
 use Rattle.selection.proofs.Orders.{passed-last}
 use Rattle.selection.proofs.Reports.{report-checked, table-ladder, admission-ladder}
-use Rattle.recurrence.specs.Recurrence.{digits, resultOf}
+use Rattle.recurrence.specs.Recurrence.{stateFrom, nextOf, digits, resultOf}
 use Rattle.recurrence.specs.Run.{runRungs, written, runZeros, runValues}
+use Rattle.recurrence.specs.Step.{stepZeros, stepValues}
 use Rattle.recurrence.proofs.Refusals.{run-ladder, run-lent}
+use Rattle.recurrence.proofs.StepRange.{step-lent}
 use Rattle.division.specs.Whole.{wholeRungs, wholeZeros, wholeValues}
 use Rattle.division.specs.WholeSteps.{wholeThrough}
 use Rattle.division.specs.Binary64.{binary64Rungs, binary64Zeros, binary64Values}
@@ -75,11 +77,17 @@ rank-11 : (rank 6 < rank 11) × (rank 11 < rank 7)
 unfolding rank
 rank-11 = (lit< tt, lit< tt)
 
+rank-14 : (rank 3 < rank 14) × (rank 14 < rank 8)
+unfolding rank
+rank-14 = (lit< tt, lit< tt)
+
 pub demand-1 : Demand1
 demand-1 =
     record {
+      zeros = record { step = λ f. refl };
       order = by-number;
       order-11 = rank-11;
+      order-14 = rank-14;
       conditions = conditions;
       check-cell = cell-refuses;
       row-limits = λ r. limits-told r refl .1 .refuses;
@@ -88,6 +96,7 @@ demand-1 =
       check-table = check-refuses;
       admit = λ t. refused-by (table-ladder t);
       run = λ t N D n b place. run-refuses N D n b place t (run-lent N D n (length b) place t) refl;
+      step = λ s k D t. refuses (step-lent s k D t) (λ x. x .refusal) stepZeros (stepValues (nextOf t (stateFrom s k D))) refl (λ f. refl) refl;
       whole = λ t a b. refuses (whole-lent a b t) (λ x. x .refusal) wholeZeros (wholeValues (wholeThrough t a b)) refl (λ f. refl) refl;
       binary64 = λ t direction a b. refuses (binary64-lent direction t) (λ x. x .refusal) binary64Zeros (binary64Values (binary64Through t direction a b)) refl (λ f. refl) refl;
       samples = λ t direction currents sensitivities given.

@@ -4,7 +4,9 @@ use mathlib.Core.Path.{_≡_}
 use mathlib.Core.List.{List, _++_}
 use mathlib.Core.Logic.{_⊎_}
 use Prim.Native.Nat.{ℕ, _+_, _*_, _^_, _≤_, _<_}
+use lib.IntN.{pos, negℤ, _*ℤ_}
 use lib.ListN.{length, getD}
+use lib.Signed.{_<ℤ_}
 use Rattle.selection.specs.Answer.{refusal, refusalOf, cellNumbers, cellZeros, reportNumbers, reportZeros}
 use Rattle.selection.specs.declared.Refusal.{Refusal}
 use Rattle.selection.specs.declared.numbers.ReportNumbers.{ReportNumbers}
@@ -14,7 +16,9 @@ use Rattle.selection.specs.Maker.{limitsRungs, limitsZeros, makeRungs}
 use Rattle.selection.specs.Table.{BadAt, Tally, tableRungs}
 use Rattle.selection.specs.Computed.{cellOf, rowLimitsOf, makeOf, madeBuffer, madeTable, reportOf}
 use Rattle.recurrence.specs.Recurrence.{Operands}
+use Rattle.selection.specs.Word.{signed}
 use Rattle.recurrence.specs.Run.{runRungs, runZeros, runOf, bufferOf}
+use Rattle.recurrence.specs.Step.{stepRungs, stepZeros, stepOf}
 use Rattle.division.specs.Whole.{wholeRungs, wholeZeros, wholeOf}
 use Rattle.division.specs.Binary64.{binary64Rungs, binary64Zeros, binary64Of}
 use Rattle.division.specs.Samples.{samplesRungs, samplesZeros, samplesOf, concentrationsOf}
@@ -50,6 +54,9 @@ pub record Conditions : Type 0 where
   pub digits : (t : List ℕ) (N D n : ℕ) (b : List ℕ) (place : ℕ) → (n ≡ 0) ⊎ (28 < n) → runOf t N D n b place ≡ runZeros (refusal 2 0)
   pub operands : (t : List ℕ) (N D n : ℕ) (b : List ℕ) (place : ℕ) → 1 ≤ n → n ≤ 28 → (D < 2 ^ 60) ⊎ ((2 ^ 61 ≤ D) ⊎ (2 ^ 61 ≤ N)) → runOf t N D n b place ≡ runZeros (refusal 3 0)
   pub buffer : (t : List ℕ) (N D n : ℕ) (b : List ℕ) (place : ℕ) → Operands N D → 1 ≤ n → n ≤ 28 → length b < place + n → runOf t N D n b place ≡ runZeros (refusal 7 0)
+  pub step-divisor : (s k D : ℕ) (t : List ℕ) → (D < 2 ^ 60) ⊎ (2 ^ 61 ≤ D) → stepOf s k D t ≡ stepZeros (refusal 3 0)
+  pub step-range : (s k D : ℕ) (t : List ℕ) → 2 ^ 60 ≤ D → D < 2 ^ 61
+      → ((pos 3 *ℤ signed (s + k)) <ℤ (negℤ (pos (8 * D)))) ⊎ ((pos (8 * D)) <ℤ (pos 3 *ℤ signed (s + k))) → stepOf s k D t ≡ stepZeros (refusal 14 0)
   pub large : (t : List ℕ) (a b : ℕ) → (2 ^ 60 ≤ a) ⊎ (2 ^ 60 ≤ b) → wholeOf t a b ≡ wholeZeros (refusal 4 0)
   pub by-zero : (t : List ℕ) (a : ℕ) → a < 2 ^ 60 → wholeOf t a 0 ≡ wholeZeros (refusal 5 0)
   pub direction : (t : List ℕ) (d a b : ℕ) → 3 < d → binary64Of t d a b ≡ binary64Zeros (refusal 6 0)
@@ -59,10 +66,16 @@ pub record Conditions : Type 0 where
   pub root-large : (a : ℕ) → 2 ^ 60 ≤ a → rootWholeOf a ≡ rootZeros (refusal 4 0)
   pub root-direction : (d p : ℕ) → 3 < d → rootBinary64Of d p ≡ binary64Zeros (refusal 6 0)
 
+-- the zeros beside a refusal, in numbers
+pub record ZerosBesides : Type 0 where
+  pub step : (f : Refusal) → stepZeros f ≡ record { refusal = f; digit = pos 0; sum = 0; carry = 0 }
+
 pub record Demand1 : Type 0 where
-  -- the order is that of the numbers, from 1 to 10; 11 comes after 6 and before 7
+  pub zeros : ZerosBesides
+  -- the order is that of the numbers, from 1 to 10; 11 comes after 6 and before 7, 14 after 3 and before 8
   pub order : (m n : ℕ) → m < n → n < 10 → rank (m + 1) < rank (n + 1)
   pub order-11 : (rank 6 < rank 11) × (rank 11 < rank 7)
+  pub order-14 : (rank 3 < rank 14) × (rank 14 < rank 8)
   pub conditions : Conditions
   pub check-cell : (r c b : ℕ) → Refuses (Wrongs (cellRungs r c b)) (λ x. x .refusal) cellZeros (cellNumbers (cellOf r c b))
   pub row-limits : (r : ℕ) → Refuses (Wrongs (limitsRungs r)) (λ x. x .refusal) limitsZeros (rowLimitsOf r)
@@ -72,6 +85,7 @@ pub record Demand1 : Type 0 where
   -- what the calls below make of a table that they are lent
   pub admit : (t : List ℕ) → RefusedBy (Wrongs (tableRungs t)) (refusalOf (ladder (tableRungs t)))
   pub run : (t : List ℕ) (N D n : ℕ) (b : List ℕ) (place : ℕ) → RunRefuses (Wrongs (runRungs N D n (length b) place ++ tableRungs t)) t N D n b place
+  pub step : (s k D : ℕ) (t : List ℕ) → Refuses (Wrongs (stepRungs s k D ++ tableRungs t)) (λ x. x .refusal) stepZeros (stepOf s k D t)
   pub whole : (t : List ℕ) (a b : ℕ) → Refuses (Wrongs (wholeRungs a b ++ tableRungs t)) (λ x. x .refusal) wholeZeros (wholeOf t a b)
   pub binary64 : (t : List ℕ) (direction a b : ℕ) → Refuses (Wrongs (binary64Rungs direction ++ tableRungs t)) (λ x. x .refusal) binary64Zeros (binary64Of t direction a b)
   pub samples : (t : List ℕ) (direction : ℕ) (currents sensitivities given : List ℕ)

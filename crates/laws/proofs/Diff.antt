@@ -1,7 +1,9 @@
 -- ℤ as differences of naturals: `diff a b` is a − b. Each law turns a statement on ℤ into one on ℕ, which
 -- `omega` reads: `simp diffs (omega arith)` proves an equation or an order of sums and products of such differences, and
 -- `simp diffs at h` reads one.
-use Rattle.laws.proofs.Basics.{_≡_, refl, sym, ap, subst, _↔_, ℕ, zero, suc, _+_, _-_, _*_, _≤_, arith, ltb, ltb→lt, nltb→le, leb→le, le→leb, ℤ, pos, negsuc, negℤ, subℕ, _+ℤ_, _*ℤ_, _≤ℤ_}
+use Rattle.laws.proofs.Basics.{_≡_, refl, sym, ap, subst, _↔_, ℕ, zero, suc, _+_, _-_, _*_, _≤_, _<_, arith, ltb, ltb→lt, nltb→le, leb→le, le→leb, ℤ, pos, negsuc, negℤ, subℕ, _+ℤ_, _*ℤ_, _≤ℤ_, ltZ, Bool, true, false, not, T, ⊎-elim}
+use lib.Signed.{_<ℤ_, ltZ-yes, ltZ-no, clashℤ}
+use Rattle.laws.proofs.Division.{le-or-lt}
 use Rattle.laws.proofs.Tests.{by-cond}
 
 unfoldable pub diff : ℕ → ℕ → ℤ
@@ -100,7 +102,15 @@ module _ (a b c d : ℕ) where
   pub diff-le : ((diff a b) ≤ℤ (diff c d)) ↔ (a + d ≤ c + b)
   diff-le = (le-to (diff a b) (diff c d) a b c d (is a b) (is c d), le-from (diff a b) (diff c d) a b c d (is a b) (is c d))
 
-pub ruleset diffs = (diff-pos, diff-negsuc, diff-neg, diff-add, diff-mul, diff-eq, diff-le)
+module _ (a b c d : ℕ) where
+  pub diff-lt : ((diff a b) <ℤ (diff c d)) ↔ (a + d < c + b)
+  diff-lt = (λ h. ⊎-elim (λ l. clashℤ h (diff-le c d a b .1 l)) (λ l. l) (le-or-lt (c + b) (a + d)), λ l. go l (ltZ (diff a b) (diff c d)) refl)
+    where
+      go : a + d < c + b → (x : Bool) → ltZ (diff a b) (diff c d) ≡ x → (diff a b) <ℤ (diff c d)
+      go l true e = ltZ-yes (subst T (sym e) tt)
+      go l false e = absurd (omega (arith, diff-le c d a b .0 (ltZ-no (subst (λ (y : Bool). T (not y)) (sym e) tt))))
+
+pub ruleset diffs = (diff-pos, diff-negsuc, diff-neg, diff-add, diff-mul, diff-eq, diff-le, diff-lt)
 
 -- what holds of every difference holds of every integer
 pub by-diff : (P : ℤ → Type 0) → ((a b : ℕ) → P (diff a b)) → (z : ℤ) → P z

@@ -41,7 +41,7 @@ fn line_of(table: &[u8], k: usize) -> Line
         CellVerdict::Disallowed(witness) => Line::Cell(
             row,
             column,
-            printing::digit_of(byte),
+            selection::digit_of(byte),
             witness,
         ),
         // No cell of a table gets here, and the proof says so.

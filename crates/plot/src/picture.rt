@@ -4,9 +4,9 @@ ghost use Prim.Native.Nat.{_≤_, _<_};
 use crate::cells::Cell;
 use crate::print::print_number;
 use crate::print::print_text;
-use printing::digit_of;
 use printing::magnitude;
 use selection::Refusal;
+use selection::digit_of;
 
 // The edge of the columns from `from` to before `end` of a row.
 fn print_edge(row: u64, from: u64, end: u64) -> bool

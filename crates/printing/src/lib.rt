@@ -4,7 +4,6 @@ pub mod text;
 
 ghost use mathlib.Core.Path.{_≡_};
 ghost use lib.IntN.{natAbs};
-ghost use Rattle.selection.specs.Cell.{digit};
 
 // How far a number is from zero. The least one has no opposite, so one is added before its sign is changed.
 pub fn magnitude(number: i64) -> u64
@@ -14,11 +13,4 @@ pub fn magnitude(number: i64) -> u64
         return (-(number + 1)) as u64 + 1;
     }
     number as u64
-}
-
-// The digit q that a byte holds as q + 2.
-pub fn digit_of(byte: u8) -> i64
-    ensures { λ r. ⌜ r ≡ digit byte ⌝ }
-{
-    byte as i64 - 2
 }

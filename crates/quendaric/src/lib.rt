@@ -3,6 +3,7 @@ ghost use mathlib.Core.Path.{_≡_};
 ghost use Rattle.selection.specs.Answer.{cellNumbers, reportNumbers};
 ghost use Rattle.selection.specs.Computed.{cellOf, reportOf, rowLimitsOf, makeOf, madeBuffer, madeTable};
 ghost use Rattle.recurrence.specs.Run.{runOf, bufferOf};
+ghost use Rattle.recurrence.specs.Step.{stepOf};
 ghost use Rattle.division.specs.Whole.{wholeOf};
 ghost use Rattle.division.specs.Binary64.{binary64Of};
 ghost use Rattle.division.specs.Samples.{samplesOf, concentrationsOf};
@@ -13,6 +14,7 @@ use division::root::RootAnswer;
 use division::samples::SamplesAnswer;
 use division::whole::WholeAnswer;
 use recurrence::RunAnswer;
+use recurrence::step::StepAnswer;
 use selection::Refusal;
 use selection::maker::RowLimits;
 use selection::numbers::CellNumbers;
@@ -77,6 +79,14 @@ pub extern "C" fn quendaric_run_kept(
     ensures { λ r. ⌜ (r ≡ runOf madeTable dividend divisor digits (now (buffer .entry)) place) × (now (buffer .exit) ≡ bufferOf madeTable dividend divisor digits (now (buffer .entry)) place) ⌝ }
 {
     recurrence::run_kept(dividend, divisor, digits, buffer, place)
+}
+
+// One step from any two words, through a lent table.
+#[no_mangle]
+pub extern "C" fn quendaric_step(sum: u64, carry: u64, divisor: u64, table: &[u8]) -> StepAnswer
+    ensures { λ r. ⌜ r ≡ stepOf sum carry divisor (now (table .entry)) ⌝ }
+{
+    recurrence::step::step(sum, carry, divisor, table)
 }
 
 // Whole numbers through a lent table.

@@ -9,3 +9,5 @@ pub mod Rows
 pub mod Loop
 pub mod Refusals
 pub mod RunDemand
+pub mod StepRange
+pub mod StepDemand

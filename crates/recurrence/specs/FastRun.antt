@@ -47,6 +47,10 @@ pub record StepReady (bytes ms : List ℕ) (tops : ℕ) (p : RunState) : Type 0 
 abbrev pub renewed : ℕ → ℕ → ℕ → ℕ
 renewed k v u = appended (cond (ltb k 4) u v) (k % 4)
 
+-- how far the word w, read as signed, is from zero
+abbrev pub distanceOf : ℕ → ℕ
+distanceOf w = cond (ltb w (2 ^ 63)) w (2 ^ 64 - w)
+
 -- the answer from the last state's pair v, u, the divisor and the sum w of its two words: one of the pair, chosen by the sign; a quarter of the remainder, and one divisor added where the sign is set
 abbrev pub resultFromWord : ℕ → ℕ → ℕ → ℕ → ℕ → RunResult
 resultFromWord v u D w n = record { quotient = cond (ltb w (2 ^ 63)) v u; remainder = (w / 4 + w / 2 ^ 63 * (D + 3 * 2 ^ 62)) % 2 ^ 64; count = n }

@@ -3,5 +3,7 @@ pub mod Recurrence
 pub mod Run
 pub mod OnTheFly
 pub mod Demand
+pub mod Step
+pub mod StepDemand
 pub mod Row
 pub mod FastRun

@@ -56,9 +56,13 @@ stepBy d p = record {
 unfoldable pub nextOf : List ℕ → State → State
 nextOf t p = stepBy (getD t (cellAt p) 0) p
 
--- PS = N, PC = 0; no step is done, so the digit byte is that of 0, the value is 0, and one less modulo 2^64 is 2^64 − 1
+-- PS = s, PC = k; no step is done, so the digit byte is that of 0, the value is 0, and one less modulo 2^64 is 2^64 − 1
+abbrev pub stateFrom : ℕ → ℕ → ℕ → State
+stateFrom s k D = record { sum = s; carry = k; divisor = D; digit = 2; value = 0; decremented = 2 ^ 64 - 1 }
+
+-- the run starts with PS = N, PC = 0
 abbrev pub startOf : ℕ → ℕ → State
-startOf N D = record { sum = N; carry = 0; divisor = D; digit = 2; value = 0; decremented = 2 ^ 64 - 1 }
+startOf N D = stateFrom N 0 D
 
 -- the state after i steps
 unfoldable pub after : List ℕ → ℕ → ℕ → ℕ → State

@@ -1,4 +1,6 @@
 // The digit recurrence, the middle layer: a quotient digit a step, read from a table by the truncated estimate of a carry-save partial remainder.
+pub mod step;
+
 use selection::Admission;
 use selection::Refusal;
 use selection::refused;
@@ -14,7 +16,7 @@ ghost use Rattle.selection.specs.Cell as Cell;
 ghost use Rattle.selection.specs.Table.{Passes, rowBytes};
 ghost use Rattle.selection.specs.Computed.{madeTable};
 ghost use Rattle.recurrence.specs.CarrySave.{lowestCarry};
-ghost use Rattle.recurrence.specs.Recurrence.{Operands, appended, nextOf, startOf, digits, resultOf};
+ghost use Rattle.recurrence.specs.Recurrence.{Operands, appended, nextOf, stateFrom, digits, resultOf};
 ghost use Rattle.recurrence.specs.Row.{Row};
 ghost use Rattle.recurrence.specs.Run.{longest, runRungs, written, runZeros, runValues, runOf, bufferOf};
 ghost use Rattle.recurrence.specs.FastRun.{withColumn, stateOf, multiplesOf, topBitsOf, allTopBits, DigitBytes, StepReady, renewed, resultFromWord};
@@ -136,14 +138,14 @@ fn renew(k: u32, value: u64, decremented: u64) -> u64
 
 impl RunState {
     // No step is done: the digit is 0, and so is the value; one less is 2^64 - 1.
-    fn new(dividend: u64, divisor: u64) -> RunState
-        ensures { λ r. ⌜ r ≡ withColumn (startOf dividend divisor) ⌝ }
+    fn new(sum: u64, carry: u64, divisor: u64) -> RunState
+        ensures { λ r. ⌜ r ≡ withColumn (stateFrom sum carry divisor) ⌝ }
     {
         RunState {
-            sum: dividend,
-            carry: 0,
+            sum,
+            carry,
             divisor,
-            column: column_of(dividend, 0),
+            column: column_of(sum, carry),
             digit: 2,
             value: 0,
             decremented: 0xffff_ffff_ffff_ffff,
@@ -202,7 +204,7 @@ pub fn run_row(row: &[u8], dividend: u64, divisor: u64, out: &mut [u8]) -> RunRe
 {
     let multiples = multiples_of(divisor);
     let tops = all_top_bits(&multiples);
-    let mut state = RunState::new(dividend, divisor);
+    let mut state = RunState::new(dividend, 0, divisor);
     let mut i = 0;
     while i < out.len() {
         state = state.next(row, &multiples, tops);

@@ -1,5 +1,7 @@
 -- Document 01's points over the integers, and those over natural numbers, are the same: P is W - 2^63.
-use Rattle.laws.proofs.Basics.{_≡_, refl, sym, subst, ap, _∙_, _⊎_, inl, inr, ⊎-elim, ℕ, _+_, _*_, _-_, _%_, _^_, _≤_, arith, ltb, ltb→lt, nltb→le, ℤ, pos, _-ℤ_, _*ℤ_, le-ltb}
+use Rattle.laws.proofs.Basics.{_≡_, refl, sym, subst, ap, _∙_, _⊎_, inl, inr, ⊎-elim, ℕ, _+_, _*_, _-_, _%_, _^_, _≤_, _<_, arith, ltb, ltb→lt, nltb→le, ℤ, pos, _-ℤ_, _*ℤ_, le-ltb}
+use mir.Syntax.{w64}
+use mir.Val.{SFits}
 use Rattle.laws.proofs.Tests.{by-cond}
 use Rattle.laws.proofs.Diff.{diff, diffs, diff-sub, diff-eq}
 use Rattle.laws.proofs.Division.{le-or-lt}
@@ -28,6 +30,11 @@ signed-diff n =
 pub digit-diff : (b : ℕ) → digit b ≡ diff b 2
 unfolding digit
 digit-diff b = diff-sub b 2
+
+-- a byte's digit fits a signed word
+pub digit-fits : (b : ℕ) → b < 256 → SFits w64 (digit b)
+unfolding digit
+digit-fits b h = by-cond (SFits w64) (ltb b 2) _ _ (λ t. omega (arith, ltb→lt)) (λ t. omega (arith, nltb→le))
 
 -- -kD ≤ a - b ≤ kD
 pub of-within : (k D a b : ℕ) → Within k D (diff a b) → (b ≤ a + k * D) × (a ≤ b + k * D)

@@ -1,10 +1,10 @@
 -- What a ladder of rungs gives is the first refusal, by rank, of those whose condition holds.
-use Rattle.laws.proofs.Basics.{_≡_, refl, sym, ap, ap₂, subst, _∙_, Bool, true, false, not, cond, _||_, List, [], _∷_, _++_, _⊎_, inl, inr, ⊎-elim, ℕ, zero, suc, _+_, _≤_, _<_, arith, T, ltb, eqb, ltb→lt, lt-ltb, ltb-true, ltb-false, le-leb, leb-true, eq-eqb, eqb-true, eqb-false, ne-eqb}
+use Rattle.laws.proofs.Basics.{_≡_, refl, sym, ap, ap₂, subst, _∙_, Bool, true, false, not, cond, _||_, List, [], _∷_, _++_, _⊎_, inl, inr, ⊎-elim, ℕ, zero, suc, _+_, _≤_, _<_, arith, T, ltb, eqb, ltb→lt, lt-ltb, ltb-true, ltb-false, le-leb, leb-true, eq-eqb, eqb-true, eqb-false, ne-eqb, ltZ}
 use Rattle.laws.proofs.Division.{le-or-lt}
-use Rattle.laws.proofs.Tests.{both, both-left, both-right, upto, upto-at}
+use Rattle.laws.proofs.Tests.{is-true, both, both-left, both-right, upto, upto-at}
 use Rattle.selection.proofs.Counts.{Decides, first-below}
 use Rattle.selection.specs.Answer.{refusal, refusalOf, firstOf, answerBy}
-use Rattle.selection.specs.Refusals.{Condition, below, atMost, same, differ, eitherOf, Holds, holds, First, firstFrom, Rung, numberAt, numberFirst, numberOf, Wrong, given, Wrongs, ladder, rank, FirstRefusal, RefusedBy, Refuses}
+use Rattle.selection.specs.Refusals.{Condition, below, belowℤ, atMost, same, differ, eitherOf, Holds, holds, First, firstFrom, Rung, numberAt, numberFirst, numberOf, Wrong, given, Wrongs, ladder, rank, FirstRefusal, RefusedBy, Refuses}
 use Rattle.selection.specs.declared.Refusal.{Refusal}
 use Rattle.selection.specs.declared.Admission.{Admission}
 use Rattle.selection.specs.declared.Admission.the-variants.{Admitted, Refused}
@@ -13,6 +13,7 @@ use Rattle.selection.specs.declared.Admission.the-variants.{Admitted, Re
 
 pub test-true : (c : Condition) → holds c ≡ true → Holds c
 test-true (below a b) e = ltb-true a b e
+test-true (belowℤ a b) e = record { lt = subst T (sym e) tt }
 test-true (atMost a b) e = leb-true a b e
 test-true (same a b) e = eqb-true a b e
 test-true (differ a b) e = eqb-false a b (other (eqb a b) e)
@@ -28,6 +29,7 @@ test-true (eitherOf c d) e = go (holds c) (test-true c) (test-true d) e
 
 pub holds-test : (c : Condition) → Holds c → holds c ≡ true
 holds-test (below a b) h = lt-ltb a b h
+holds-test (belowℤ a b) h = is-true (ltZ a b) (h .lt)
 holds-test (atMost a b) h = le-leb a b h
 holds-test (same a b) h = eq-eqb a b h
 holds-test (differ a b) h = rw (ne-eqb a b h) refl

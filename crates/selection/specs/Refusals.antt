@@ -5,6 +5,8 @@ use mathlib.Core.List.{List, [], _∷_}
 use mathlib.Core.Logic.{_⊎_, _↔_}
 use Prim.Native.Nat.{ℕ, zero, suc, _+_, _≤_, _<_}
 use lib.Dec.{leb, ltb, eqb}
+use lib.IntN.{ℤ}
+use lib.Signed.{ltZ, _<ℤ_}
 use Rattle.selection.specs.Answer.{refusal, firstOf}
 use Rattle.selection.specs.declared.Refusal.{Refusal}
 use Rattle.selection.specs.declared.Admission.{Admission}
@@ -14,6 +16,7 @@ use Rattle.selection.specs.declared.Admission.the-variants.{Admitted, Re
 
 pub data Condition : Type 0 where
   below : ℕ → ℕ → Condition
+  belowℤ : ℤ → ℤ → Condition
   atMost : ℕ → ℕ → Condition
   same : ℕ → ℕ → Condition
   differ : ℕ → ℕ → Condition
@@ -22,6 +25,7 @@ pub data Condition : Type 0 where
 -- what a condition says
 abbrev pub Holds : Condition → Type 0
 Holds (below a b) = a < b
+Holds (belowℤ a b) = a <ℤ b
 Holds (atMost a b) = a ≤ b
 Holds (same a b) = a ≡ b
 Holds (differ a b) = a ≡ b → ⊥
@@ -30,6 +34,7 @@ Holds (eitherOf c d) = Holds c ⊎ Holds d
 -- its test
 abbrev pub holds : Condition → Bool
 holds (below a b) = ltb a b
+holds (belowℤ a b) = ltZ a b
 holds (atMost a b) = leb a b
 holds (same a b) = eqb a b
 holds (differ a b) = not (eqb a b)

@@ -9,7 +9,7 @@ pub mod table;
 ghost use mathlib.Core.Path.{_≡_};
 ghost use Rattle.selection.specs.Answer.{refusal};
 ghost use Rattle.selection.specs.declared.Admission.the-variants as Told;
-ghost use Rattle.selection.specs.Cell.{CellChecked};
+ghost use Rattle.selection.specs.Cell.{CellChecked, digit};
 ghost use Rattle.selection.specs.Computed.{cellOf};
 use crate::multiples::row_multiples;
 use crate::multiples::test_cell;
@@ -44,6 +44,13 @@ pub fn refused(number: u64) -> Admission
     ensures { λ r. ⌜ r ≡ Told.Refused (refusal number 0) ⌝ }
 {
     Admission::Refused(Refusal { number, place: 0 })
+}
+
+// The digit q that a byte holds as q + 2.
+pub fn digit_of(byte: u8) -> i64
+    ensures { λ r. ⌜ r ≡ digit byte ⌝ }
+{
+    byte as i64 - 2
 }
 
 // Row, column and byte of a single cell: allowed, or the least witness against the digit.

@@ -1,0 +1,69 @@
+-- The refusals of one step's arguments: 8D/3 and the remainder's distance from zero tell whether 3P is out of range.
+use Rattle.laws.proofs.Basics.{_≡_, refl, _∙_, List, _∷_, _++_, inl, inr, ⊎-elim, ℕ, _+_, _-_, _*_, _/_, _%_, _^_, _≤_, _<_, arith, ltb, ltb→lt, nltb→le, pos, negℤ, _*ℤ_}
+use lib.Signed.{clashℤ}
+use Rattle.laws.proofs.Diff.{diffs}
+use Rattle.laws.proofs.Tests.{by-cond}
+use Rattle.selection.specs.Answer.{refusal}
+use Rattle.selection.specs.Table.{tableRungs}
+use Rattle.selection.specs.Word.{signed, Within}
+use Rattle.selection.specs.Refusals.{Condition, Rung, Holds, below, belowℤ, eitherOf, number, rank, ladder}
+use Rattle.selection.specs.declared.Admission.the-variants as A
+use Rattle.selection.proofs.BiasedPoints.{signed-diff}
+use Rattle.selection.proofs.Ladders.{Ladder, rung-holds, rung-past, clear, not-below}
+use Rattle.selection.proofs.Orders.{lent}
+use Rattle.recurrence.specs.FastRun.{distanceOf}
+use Rattle.recurrence.specs.Step.{stepRungs}
+
+module _ (s k D : ℕ) where
+  -- the two conditions
+  abbrev pub wrong-divisor : Condition
+  wrong-divisor = eitherOf (below D (2 ^ 60)) (below (2 ^ 61 - 1) D)
+
+  abbrev pub out-of-range : Condition
+  out-of-range = eitherOf (belowℤ (pos 3 *ℤ signed (s + k)) (negℤ (pos (8 * D)))) (belowℤ (pos (8 * D)) (pos 3 *ℤ signed (s + k)))
+
+  pub step-ladder : Ladder (stepRungs s k D)
+  unfolding stepRungs rank
+  step-ladder = record { sound = (tt, λ _. (tt, λ _. tt)); in-order = tt }
+
+  pub step-lent : (t : List ℕ) → Ladder (stepRungs s k D ++ tableRungs t)
+  unfolding stepRungs tableRungs rank
+  step-lent t = lent (stepRungs s k D) t step-ladder tt
+
+  -- the code's test
+  pub outside : 8 * D / 3 < distanceOf ((s + k) % 2 ^ 64) → Holds out-of-range
+  outside =
+      by-cond (λ (x : ℕ). 8 * D / 3 < x → Holds out-of-range) (ltb ((s + k) % 2 ^ 64) (2 ^ 63)) ((s + k) % 2 ^ 64) (2 ^ 64 - (s + k) % 2 ^ 64)
+      (λ c h. inr (rw (signed-diff (s + k)) (simp diffs (omega (arith, ltb→lt))))) (λ c h. inl (rw (signed-diff (s + k)) (simp diffs (omega (arith, nltb→le)))))
+
+  pub inside : distanceOf ((s + k) % 2 ^ 64) ≤ 8 * D / 3 → Holds out-of-range → ⊥
+  inside =
+      by-cond (λ (x : ℕ). x ≤ 8 * D / 3 → Holds out-of-range → ⊥) (ltb ((s + k) % 2 ^ 64) (2 ^ 63)) ((s + k) % 2 ^ 64) (2 ^ 64 - (s + k) % 2 ^ 64)
+      (λ c h. ⊎-elim (λ x. omega (arith, ltb→lt, simp diffs at (rw (signed-diff (s + k)) at x))) (λ x. omega (arith, ltb→lt, simp diffs at (rw (signed-diff (s + k)) at x))))
+      (λ c h. ⊎-elim (λ x. omega (arith, nltb→le, simp diffs at (rw (signed-diff (s + k)) at x))) (λ x. omega (arith, nltb→le, simp diffs at (rw (signed-diff (s + k)) at x))))
+
+  -- a remainder in range
+  pub within : Within 8 D (pos 3 *ℤ signed (s + k)) → Holds out-of-range → ⊥
+  within w = ⊎-elim (λ x. clashℤ x (w .low)) (λ x. clashℤ x (w .high))
+
+  pub in-span : 2 ^ 60 ≤ D → D < 2 ^ 61 → Holds wrong-divisor → ⊥
+  in-span l m = ⊎-elim (λ x. omega arith) (λ x. omega arith)
+
+  -- what the two rungs give, whatever comes after them
+  module _ (rest : List Rung) where
+    pub by-divisor : Holds wrong-divisor → ladder (stepRungs s k D ++ rest) ≡ A.Refused (refusal 3 0)
+    unfolding stepRungs
+    by-divisor h = rung-holds 3 0 wrong-divisor (number 14 out-of-range ∷ rest) h
+
+    pub by-range : (Holds wrong-divisor → ⊥) → Holds out-of-range → ladder (stepRungs s k D ++ rest) ≡ A.Refused (refusal 14 0)
+    unfolding stepRungs
+    by-range n h = rung-past 3 0 wrong-divisor (number 14 out-of-range ∷ rest) n ∙ rung-holds 14 0 out-of-range rest h
+
+    pub by-neither : (Holds wrong-divisor → ⊥) → (Holds out-of-range → ⊥) → ladder (stepRungs s k D ++ rest) ≡ ladder rest
+    unfolding stepRungs
+    by-neither n m = rung-past 3 0 wrong-divisor (number 14 out-of-range ∷ rest) n ∙ rung-past 14 0 out-of-range rest m
+
+  -- words and divisor without a refusal of their own
+  pub step-span : ladder (stepRungs s k D) ≡ A.Admitted → D < 2 ^ 61
+  unfolding stepRungs
+  step-span e = let a = clear step-ladder e in let m : D ≤ 2 ^ 61 - 1 = not-below (λ h. a 3 0 (inl (refl, (refl, inr h)))) in omega arith

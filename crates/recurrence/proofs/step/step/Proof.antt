@@ -1,0 +1,36 @@
+-- `step::step` meets its contract: the arguments' refusal, then the table's, else the run's step.
+use Rattle.laws.proofs.Basics.{needs, sym, ap, _∙_, now}
+use Rattle.selection.proofs.Orders.{admitted-both, answered, first-lent}
+use Rattle.recurrence.specs.Recurrence.{stateFrom, nextOf}
+use Rattle.recurrence.specs.FastRun.{stateOf}
+use Rattle.recurrence.specs.declared.RunState.{RunState}
+use Rattle.recurrence.specs.Step.{stepRungs, stepZeros, stepValues}
+use Rattle.recurrence.proofs.StepRange.{step-span}
+use Rattle.recurrence.proofs.step.step.Statement.{statement}
+use Rattle.recurrence.proofs.step.step.Tie as tie
+
+admitted-requires : tie.Need-admitted-requires
+admitted-requires c κs =
+    let a = c .before .before .before .before .before .args in
+    let k = admitted-both _ (c .before .before .admit-after .ensures) (c .enum-told .given .1) in
+    (k .1, step-span (a .sum) (a .carry) (a .divisor) (sym (c .before .before .before .refusal-of .ensures) ∙ k .0))
+
+returns : tie.Need-returns
+returns c =
+    let a = c .before .before .before .before .before .before .before .args in
+    answered stepZeros (stepValues (nextOf (now (a .table)) (stateFrom (a .sum) (a .carry) (a .divisor))))
+    (first-lent (stepRungs (a .sum) (a .carry) (a .divisor)) _ (c .before .before .before .before .admit-after .ensures) (c .before .before .before .before .before .refusal-of .ensures) (c .before .before .admission .given .1))
+    (c .zeros .ensures)
+
+returns-2 : tie.Need-returns-2
+returns-2 c =
+    let a = c .before .before .before .before .before .before .before .args in
+    answered stepZeros (stepValues (nextOf (now (a .table)) (stateFrom (a .sum) (a .carry) (a .divisor))))
+    (first-lent (stepRungs (a .sum) (a .carry) (a .divisor)) _ (c .before .before .before .before .admit-after .ensures) (c .before .before .before .before .before .refusal-of .ensures) (c .before .before .enum-told .given .1))
+    (c .values .ensures ∙ ap (λ (p : RunState). stepValues (stateOf p)) (c .before .admitted .ensures))
+
+pub step-spec : {M : Type 1} → statement M
+step-spec =
+    tie.close (tie.spec (λ c κs. search needs) (λ c κs. search needs) (λ c. search needs)
+    (λ c κs. search needs) (λ c. search needs) admitted-requires (λ c κs. search needs) returns
+    returns-2)
