@@ -49,6 +49,16 @@ pub struct Run {
 
 #[repr(C)]
 #[derive(Clone, Copy, Debug, Default, PartialEq, Eq)]
+pub struct Stepped {
+    pub refusal: u64,
+    pub place: u64,
+    pub digit: i64,
+    pub sum: u64,
+    pub carry: u64,
+}
+
+#[repr(C)]
+#[derive(Clone, Copy, Debug, Default, PartialEq, Eq)]
 pub struct Whole {
     pub refusal: u64,
     pub place: u64,
@@ -113,6 +123,7 @@ extern "C" {
         buffer_length: usize,
         place: usize,
     ) -> Run;
+    fn quendaric_step(sum: u64, carry: u64, divisor: u64, table: *const u8, table_length: usize) -> Stepped;
     fn quendaric_divide_whole(table: *const u8, table_length: usize, a: u64, b: u64) -> Whole;
     fn quendaric_divide_whole_kept(a: u64, b: u64) -> Whole;
     fn quendaric_divide_binary64(table: *const u8, table_length: usize, a: u64, b: u64, direction: u64) -> Binary64;
@@ -174,6 +185,10 @@ pub fn run(table: Option<&[u8]>, dividend: u64, divisor: u64, digits: usize, buf
         }
         None => unsafe { quendaric_run_kept(dividend, divisor, digits, start, room, place) },
     }
+}
+
+pub fn step(sum: u64, carry: u64, divisor: u64, table: &[u8]) -> Stepped {
+    lend(table, |t, length| unsafe { quendaric_step(sum, carry, divisor, t, length) })
 }
 
 pub fn divide_whole(table: Option<&[u8]>, a: u64, b: u64) -> Whole {

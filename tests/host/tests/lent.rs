@@ -52,6 +52,11 @@ fn tables_at_any_address() {
         with_table(&table, whole, |t| calls::divide_whole(Some(t), 4195835, 3145727));
         let third = Binary64 { refusal, place, pattern: kept(0x3FD5_5555_5555_5555), flags: kept(1) };
         with_table(&table, third, |t| calls::divide_binary64(Some(t), 0x3FF0 << 48, 0x4008 << 48, 0));
+        // 2^60 over 3 * 2^59: the digit is 1, and the words make 4 * (2^60 - 3 * 2^59)
+        with_table(&table, (refusal, place, kept(1), kept(0u64.wrapping_sub(1 << 61))), |t| {
+            let got = calls::step(1 << 60, 0, 3 << 59, t);
+            (got.refusal, got.place, got.digit as u64, got.sum.wrapping_add(got.carry))
+        });
         let samples = Samples { refusal, place, flags: kept(1), count: kept(2) };
         with_table(&table, samples, |t| {
             let mut list = [7; 4];

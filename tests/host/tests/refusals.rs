@@ -1,6 +1,6 @@
 //! Would catch a refusal that is missing, raised without its condition, out of order, with a wrong place or with values
 //! that are not zeros, and a call that touches a lent buffer when it refuses or writes past its end.
-use host::calls::{self, Binary64, Cell, Limits, Make, Root, Run, Samples, Table, Whole};
+use host::calls::{self, Binary64, Cell, Limits, Make, Root, Run, Samples, Stepped, Table, Whole};
 use host::document::{rule, run, CELLS};
 
 const CANARY: u8 = 0xA5;
@@ -159,6 +159,32 @@ fn runs() {
         }
     }
     assert_eq!(seen.keys().copied().collect::<Vec<u64>>(), [0, 2, 3, 7, 8, 9, 10]);
+}
+
+#[test]
+fn steps() {
+    let (low, high) = (1u64 << 60, (1u64 << 61) - 1);
+    let mut seen = std::collections::BTreeMap::new();
+    for (table, refusal, place) in tables() {
+        for divisor in [0, low - 1, low, high, high + 1, u64::MAX] {
+            let end = (8 * u128::from(divisor) / 3) as u64;
+            for (sum, carry) in [(0, 0), (end, 0), (end, 1), (1, !end), (1 << 63, 0), (u64::MAX, 1 << 63)] {
+                let p = i128::from(sum.wrapping_add(carry) as i64);
+                let conditions = [
+                    (3, !(low..=high).contains(&divisor)),
+                    (14, 3 * p < -8 * i128::from(divisor) || 3 * p > 8 * i128::from(divisor)),
+                ];
+                let (refusal, place) = first(&conditions, (refusal, place));
+                *seen.entry(refusal).or_insert(0) += 1;
+                let got = calls::step(sum, carry, divisor, &table);
+                match refusal {
+                    0 => assert_eq!((got.refusal, got.place), (0, 0)),
+                    _ => assert_eq!(got, Stepped { refusal, place, ..Default::default() }),
+                }
+            }
+        }
+    }
+    assert_eq!(seen.keys().copied().collect::<Vec<u64>>(), [0, 3, 8, 9, 10, 14]);
 }
 
 #[test]
