@@ -8,8 +8,8 @@
    Every call ends, and answers by value. The first two fields of an answer are the refusal (0: none) and its place.
    Where a call refuses, every other field is 0 (but see quendaric_check_table) and every lent buffer is unchanged.
    Look at the refusal first: zeros beside a refusal are no answer, and some of them look like one.
-   Where several refusals apply, the first of them in the order 1 to 3, 14, 4 to 6, 11 to 13, 7 to 10 is given. The place
-   is 0 except for 9, 10 and 13.
+   Where several refusals apply, the first of them in the order 1 to 3, 14, 15, 4 to 6, 11 to 13, 7 to 10 is given. The
+   place is 0 except for 9, 10, 13 and 15.
 
    A pointer must be valid for its length; with length 0 it is not read and may be NULL. Tables and buffers of bytes may
    be at any address, lists of uint64_t are aligned as such. What a call writes must overlap nothing else that is lent to
@@ -52,9 +52,9 @@ extern "C" {
 #endif
 
 /* The version of these calls; CHANGELOG.md tells what changed. */
-#define QUENDARIC_VERSION "1.7.0"
+#define QUENDARIC_VERSION "1.8.0"
 #define QUENDARIC_VERSION_MAJOR 1
-#define QUENDARIC_VERSION_MINOR 7
+#define QUENDARIC_VERSION_MINOR 8
 #define QUENDARIC_VERSION_PATCH 0
 
 #define QUENDARIC_TABLE_LENGTH 2048
@@ -67,7 +67,7 @@ extern "C" {
 #define QUENDARIC_REFUSED_DIGITS 2    /* number of digits 0 or above 28 */
 #define QUENDARIC_REFUSED_SPAN 3      /* dividend or divisor outside its span */
 #define QUENDARIC_REFUSED_TOO_LARGE 4 /* a or b is 2^60 or more */
-#define QUENDARIC_REFUSED_BY_ZERO 5   /* b is 0 */
+#define QUENDARIC_REFUSED_BY_ZERO 5   /* b, or a packed divisor, is 0 */
 #define QUENDARIC_REFUSED_DIRECTION 6 /* direction above 3 */
 #define QUENDARIC_REFUSED_ROOM 7      /* a lent buffer or list ends before the last place to write */
 #define QUENDARIC_REFUSED_LENGTH 8    /* the table's length is not 2,048 */
@@ -77,6 +77,7 @@ extern "C" {
 #define QUENDARIC_REFUSED_WIDTH 12    /* a window's width is 0, above 4,096 or above the number of readings */
 #define QUENDARIC_REFUSED_READING 13  /* a reading of 2^40 or more; the place is the first such index */
 #define QUENDARIC_REFUSED_RANGE 14    /* three times the remainder of a step is below -8 or above 8 divisors */
+#define QUENDARIC_REFUSED_DECIMAL 15  /* a half byte above 9; the place is the first such byte */
 
 /* Rounding directions of binary64. */
 #define QUENDARIC_NEAREST 0 /* to nearest, ties to even */
@@ -153,6 +154,14 @@ typedef struct {
   uint64_t quotient;
   uint64_t remainder;
 } quendaric_whole;
+
+/* Sixteen digits each, two a byte. Beside a refusal the zeros are no quotient. */
+typedef struct {
+  uint64_t refusal;
+  uint64_t place;
+  uint8_t quotient[8];
+  uint8_t remainder[8];
+} quendaric_packed;
 
 /* remainder: a - root * root. Beside a refusal the zeros are no root. */
 typedef struct {
@@ -268,6 +277,13 @@ QUENDARIC_ANSWER
 quendaric_averages quendaric_average_windows(const uint64_t *readings, size_t readings_length, size_t width,
                                              uint64_t *means, size_t means_length, uint64_t *remainders,
                                              size_t remainders_length);
+
+/* Packed decimal: sixteen digits in eight bytes, two a byte, the higher in the high four bits, the first byte highest.
+   Each operand is exactly eight bytes: both pointers are valid for eight bytes, at any address, and never NULL; they may
+   be the same. dividend = quotient * divisor + remainder, with remainder < divisor, through the kept table. Refuses 15,
+   with the place counted through the dividend (0 to 7) and then the divisor (8 to 15); then 5. */
+QUENDARIC_ANSWER
+quendaric_packed quendaric_divide_packed(const uint8_t dividend[8], const uint8_t divisor[8]);
 
 /* The whole root of a below 2^60: root * root <= a < (root + 1) * (root + 1). Uses no table. Refuses 4. */
 QUENDARIC_ANSWER

@@ -284,6 +284,36 @@ static void roots(void) {
   SAME(quendaric_root_binary64(0x7FF0000000000001ull, QUENDARIC_NEAREST).flags, QUENDARIC_INVALID);
 }
 
+static void packed(void) {
+  static const uint8_t dividend[8] = {0x99, 0x99, 0x99, 0x99, 0x99, 0x99, 0x99, 0x99}, divisor[8] = {0, 0, 0, 0, 0, 0x12, 0x34, 0x56},
+                       zero[8] = {0}, wrong[8] = {0, 0, 0x0A, 0, 0xF0, 0, 0, 0};
+  /* 9999999999999999 = 81000518403 * 123456 + 39231 */
+  static const uint8_t quotient[8] = {0, 0, 0x08, 0x10, 0x00, 0x51, 0x84, 0x03}, remainder[8] = {0, 0, 0, 0, 0, 0x03, 0x92, 0x31};
+  quendaric_packed answer = quendaric_divide_packed(dividend, divisor);
+  SAME(answer.refusal, 0);
+  SAME(answer.place, 0);
+  SAME(memcmp(answer.quotient, quotient, 8), 0);
+  SAME(memcmp(answer.remainder, remainder, 8), 0);
+  answer = quendaric_divide_packed(dividend, dividend);
+  SAME(answer.refusal, 0);
+  SAME(answer.quotient[7], 1);
+  SAME(memcmp(answer.quotient, zero, 7) | memcmp(answer.remainder, zero, 8), 0);
+  answer = quendaric_divide_packed(dividend, zero);
+  SAME(answer.refusal, QUENDARIC_REFUSED_BY_ZERO);
+  SAME(answer.place, 0);
+  SAME(memcmp(answer.quotient, zero, 8) | memcmp(answer.remainder, zero, 8), 0);
+  /* 15 before 5 */
+  answer = quendaric_divide_packed(wrong, zero);
+  SAME(answer.refusal, QUENDARIC_REFUSED_DECIMAL);
+  SAME(answer.place, 2);
+  SAME(memcmp(answer.quotient, zero, 8) | memcmp(answer.remainder, zero, 8), 0);
+  answer = quendaric_divide_packed(dividend, wrong);
+  SAME(answer.refusal, QUENDARIC_REFUSED_DECIMAL);
+  SAME(answer.place, 10);
+  SAME(memcmp(answer.quotient, zero, 8) | memcmp(answer.remainder, zero, 8), 0);
+  SAME(quendaric_divide_packed(wrong, wrong).place, 2);
+}
+
 int main(void) {
   uint8_t table[QUENDARIC_TABLE_LENGTH];
   memset(table, untouched, sizeof table);
@@ -296,6 +326,7 @@ int main(void) {
   divisions(table);
   samples(table);
   averages();
+  packed();
   roots();
   return differences != 0;
 }

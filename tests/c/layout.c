@@ -57,6 +57,11 @@ FIELD(quendaric_whole, quotient, 16, 8);
 FIELD(quendaric_whole, remainder, 24, 8);
 SIZE(quendaric_whole, 32);
 
+REFUSAL(quendaric_packed);
+FIELD(quendaric_packed, quotient, 16, 8);
+FIELD(quendaric_packed, remainder, 24, 8);
+SIZE(quendaric_packed, 32);
+
 REFUSAL(quendaric_root);
 FIELD(quendaric_root, root, 16, 8);
 FIELD(quendaric_root, remainder, 24, 8);

@@ -66,6 +66,11 @@ static void divide_samples(const uint64_t *x, reply *y) {
 static void average_windows(const uint64_t *x, reply *y) {
   REPLY(y, quendaric_average_windows(readings, x[0], x[1], y->word + 2, x[2], y->word + 7, x[2]));
 }
+/* The last byte of each operand is given, all others are 0. */
+static void divide_packed(const uint64_t *x, reply *y) {
+  const uint8_t dividend[8] = {0, 0, 0, 0, 0, 0, 0, (uint8_t)x[0]}, divisor[8] = {0, 0, 0, 0, 0, 0, 0, (uint8_t)x[1]};
+  REPLY(y, quendaric_divide_packed(dividend, divisor));
+}
 static void root_whole(const uint64_t *x, reply *y) { REPLY(y, quendaric_root_whole(x[0])); }
 static void root_binary64(const uint64_t *x, reply *y) { REPLY(y, quendaric_root_binary64(x[0], x[1])); }
 
@@ -113,6 +118,8 @@ static const struct {
      {{0, 0, 1, 1}, {0x55, 0x55, 0x55, 0x55, 0x55, 0x55, 0xD5, 0x3F}}},
     /* number of readings, width, length of the lists: 101 and 142 by 4 */
     {"average_windows", average_windows, 3, {5, 4, 3}, {{0, 0, 25, 35, 0, 0, 0, 1, 2}, {0}}},
+    /* 98 by 15: the last bytes of the two are the highest of their words here */
+    {"divide_packed", divide_packed, 2, {0x98, 0x15}, {{0, 0, 0x06ull << 56, 0x08ull << 56}, {0}}},
     {"root_whole", root_whole, 1, {4195835}, {{0, 0, 2048, 1531}, {0}}},
     /* a, direction: the root of 3 upward */
     {"root_binary64", root_binary64, 2, {THREE, 2}, {{0, 0, 0x3FFBB67AE8584CABull, 1}, {0}}},

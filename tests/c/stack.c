@@ -6,11 +6,12 @@
 #include <stdio.h>
 #include <string.h>
 
-enum { CALLS = 15, TURNS = 1000, PAINT = 0xA5 };
+enum { CALLS = 16, TURNS = 1000, PAINT = 0xA5 };
 
 static uint8_t stack[8192] __attribute__((aligned(64)));
 static uint8_t table[QUENDARIC_TABLE_LENGTH], buffer[QUENDARIC_MOST_DIGITS];
 static uint64_t readings[8], means[8], remainders[8];
+static uint8_t digit[16]; /* two decimals of two numbers each */
 static uint8_t *pointer; /* the caller's stack pointer */
 static uint64_t a, b, concentration;
 static int which;
@@ -45,6 +46,7 @@ static void call(void) {
   case 11: sink = quendaric_average_windows(readings, 8, 1 + a % 8, means, 8, remainders, 8).refusal; break;
   case 12: sink = quendaric_root_whole(x).root; break;
   case 13: sink = quendaric_step(dividend, 0, divisor, table, size).sum; break;
+  case 14: sink = quendaric_divide_packed(digit, digit + 8).quotient[0]; break;
   default: sink = quendaric_root_binary64(a >> 1, b % 4).pattern; break;
   }
 }
@@ -72,6 +74,7 @@ int main(void) {
     for (int turn = 0; turn < TURNS; turn++) {
       a = bits(), b = bits();
       readings[turn % 8] = a >> 24;
+      digit[turn % 16] = (uint8_t)(a % 10 * 16 + b % 10);
       long now = used();
       most = now > most ? now : most;
     }

@@ -24,6 +24,7 @@ use Rattle.division.specs.declared.samples.SamplesAnswer.{SamplesAnswer}
 use Rattle.division.specs.RootSteps.{wholeRoot, rootOf}
 use Rattle.division.specs.RootCalls.{rootRungs, rootZeros, rootValues, rootWholeOf, rootBinary64Of}
 use Rattle.division.specs.Demand1.{Conditions}
+use Rattle.division.proofs.PackedCalls.{packed-dividend, packed-divisor, packed-by-zero}
 
 module _ (t : List ℕ) (N D n : ℕ) (b : List ℕ) (place : ℕ) where
   wrong-count : Condition
@@ -136,6 +137,9 @@ conditions = record {
   samples-direction = samples-direction;
   samples-lengths = samples-lengths;
   samples-room = samples-room;
+  packed-dividend = packed-dividend;
+  packed-divisor = packed-divisor;
+  packed-by-zero = packed-by-zero;
   root-large = root-large;
   root-direction = root-direction;
 }

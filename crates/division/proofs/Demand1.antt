@@ -31,6 +31,7 @@ use Rattle.division.specs.Demand1.{Carries, CheckRefuses, RefusesLent, R
 use Rattle.division.proofs.Conditions.{conditions}
 use Rattle.division.proofs.Calls.{whole-ladder, whole-lent, binary64-ladder, binary64-lent}
 use Rattle.division.proofs.SampleRuns.{samples-lent}
+use Rattle.division.proofs.PackedCalls.{packed-refuses}
 use Rattle.division.proofs.RootCalls.{root-ladder}
 
 -- the check, from its report
@@ -81,13 +82,18 @@ rank-14 : (rank 3 < rank 14) × (rank 14 < rank 8)
 unfolding rank
 rank-14 = (lit< tt, lit< tt)
 
+rank-15 : rank 15 < rank 5
+unfolding rank
+rank-15 = lit< tt
+
 pub demand-1 : Demand1
 demand-1 =
     record {
-      zeros = record { step = λ f. refl };
+      zeros = record { step = λ f. refl; packed = λ f. refl };
       order = by-number;
       order-11 = rank-11;
       order-14 = rank-14;
+      order-15 = rank-15;
       conditions = conditions;
       check-cell = cell-refuses;
       row-limits = λ r. limits-told r refl .1 .refuses;
@@ -105,6 +111,7 @@ demand-1 =
       run-kept = λ N D n b place. run-refuses N D n b place madeTable (run-ladder N D n (length b) place) (passed-last kept-passes (runRungs N D n (length b) place));
       whole-kept = λ a b. refuses (whole-ladder a b) (λ x. x .refusal) wholeZeros (wholeValues (wholeThrough madeTable a b)) refl (λ f. refl) (passed-last kept-passes (wholeRungs a b));
       binary64-kept = λ direction a b. refuses (binary64-ladder direction) (λ x. x .refusal) binary64Zeros (binary64Values (binary64Through madeTable direction a b)) refl (λ f. refl) (passed-last kept-passes (binary64Rungs direction));
+      packed = packed-refuses;
       root-whole = λ a. refuses (root-ladder a) (λ x. x .refusal) rootZeros (rootValues a (wholeRoot a)) refl (λ f. refl) refl;
       root-binary64 = λ direction p. refuses (binary64-ladder direction) (λ x. x .refusal) binary64Zeros (binary64Values (rootOf direction p)) refl (λ f. refl) refl;
     }

@@ -13,6 +13,8 @@ pub mod WholeThrough
 pub mod Binary64Through
 pub mod Calls
 pub mod SampleRuns
+pub mod PackedBytes
+pub mod PackedCalls
 pub mod RootCalls
 pub mod Conditions
 pub mod Demand1
@@ -23,5 +25,6 @@ pub mod IeeeOne
 pub mod IeeeRoots
 pub mod RootDemand
 pub mod Demand2
+pub mod PackedDemand
 pub mod QuotientReading
 pub mod RootReading

@@ -1,9 +1,9 @@
 -- Demand 1: each call refuses exactly under the conditions of document 01's "Who sends bad input" and of document 02's requests, in their order; a refused answer is its
 -- number, its place and zeros, and a lent buffer keeps its contents. (That every call finishes is the language's own promise.)
 use mathlib.Core.Path.{_≡_}
-use mathlib.Core.List.{List, _++_}
+use mathlib.Core.List.{List, [], _∷_, _++_}
 use mathlib.Core.Logic.{_⊎_}
-use Prim.Native.Nat.{ℕ, _+_, _*_, _^_, _≤_, _<_}
+use Prim.Native.Nat.{ℕ, _+_, _*_, _/_, _%_, _^_, _≤_, _<_}
 use lib.IntN.{pos, negℤ, _*ℤ_}
 use lib.ListN.{length, getD}
 use lib.Signed.{_<ℤ_}
@@ -22,6 +22,7 @@ use Rattle.recurrence.specs.Step.{stepRungs, stepZeros, stepOf}
 use Rattle.division.specs.Whole.{wholeRungs, wholeZeros, wholeOf}
 use Rattle.division.specs.Binary64.{binary64Rungs, binary64Zeros, binary64Of}
 use Rattle.division.specs.Samples.{samplesRungs, samplesZeros, samplesOf, concentrationsOf}
+use Rattle.division.specs.Packed.{packedNumber, Decimal, packedRungs, packedZeros, packedOf}
 use Rattle.division.specs.RootCalls.{rootRungs, rootZeros, rootWholeOf, rootBinary64Of}
 
 -- what the check's refusal 10 at the place p carries: the number of bad cells, the first of them, its witness
@@ -63,19 +64,26 @@ pub record Conditions : Type 0 where
   pub samples-direction : (t : List ℕ) (d : ℕ) (currents sensitivities given : List ℕ) → 3 < d → samplesOf t d currents sensitivities given ≡ samplesZeros (refusal 6 0)
   pub samples-lengths : (t : List ℕ) (d : ℕ) (currents sensitivities given : List ℕ) → d ≤ 3 → (length currents ≡ length sensitivities → ⊥) → samplesOf t d currents sensitivities given ≡ samplesZeros (refusal 11 0)
   pub samples-room : (t : List ℕ) (d : ℕ) (currents sensitivities given : List ℕ) → d ≤ 3 → length currents ≡ length sensitivities → length given < length currents → samplesOf t d currents sensitivities given ≡ samplesZeros (refusal 7 0)
+  pub packed-dividend : (xs ys : List ℕ) (p : ℕ) → p < 8 → (9 < getD xs p 0 / 16) ⊎ (9 < getD xs p 0 % 16) → ((i : ℕ) → i < p → (9 < getD xs i 0 / 16) ⊎ (9 < getD xs i 0 % 16) → ⊥)
+      → packedOf xs ys ≡ packedZeros (refusal 15 p)
+  pub packed-divisor : (xs ys : List ℕ) (p : ℕ) → Decimal xs → p < 8 → (9 < getD ys p 0 / 16) ⊎ (9 < getD ys p 0 % 16) → ((i : ℕ) → i < p → (9 < getD ys i 0 / 16) ⊎ (9 < getD ys i 0 % 16) → ⊥)
+      → packedOf xs ys ≡ packedZeros (refusal 15 (p + 8))
+  pub packed-by-zero : (xs ys : List ℕ) → Decimal xs → Decimal ys → packedNumber ys ≡ 0 → packedOf xs ys ≡ packedZeros (refusal 5 0)
   pub root-large : (a : ℕ) → 2 ^ 60 ≤ a → rootWholeOf a ≡ rootZeros (refusal 4 0)
   pub root-direction : (d p : ℕ) → 3 < d → rootBinary64Of d p ≡ binary64Zeros (refusal 6 0)
 
 -- the zeros beside a refusal, in numbers
 pub record ZerosBesides : Type 0 where
   pub step : (f : Refusal) → stepZeros f ≡ record { refusal = f; digit = pos 0; sum = 0; carry = 0 }
+  pub packed : (f : Refusal) → packedZeros f ≡ record { refusal = f; quotient = 0 ∷ 0 ∷ 0 ∷ 0 ∷ 0 ∷ 0 ∷ 0 ∷ 0 ∷ []; remainder = 0 ∷ 0 ∷ 0 ∷ 0 ∷ 0 ∷ 0 ∷ 0 ∷ 0 ∷ [] }
 
 pub record Demand1 : Type 0 where
   pub zeros : ZerosBesides
-  -- the order is that of the numbers, from 1 to 10; 11 comes after 6 and before 7, 14 after 3 and before 8
+  -- the order is that of the numbers, from 1 to 10; 11 comes after 6 and before 7, 14 after 3 and before 8, 15 before 5
   pub order : (m n : ℕ) → m < n → n < 10 → rank (m + 1) < rank (n + 1)
   pub order-11 : (rank 6 < rank 11) × (rank 11 < rank 7)
   pub order-14 : (rank 3 < rank 14) × (rank 14 < rank 8)
+  pub order-15 : rank 15 < rank 5
   pub conditions : Conditions
   pub check-cell : (r c b : ℕ) → Refuses (Wrongs (cellRungs r c b)) (λ x. x .refusal) cellZeros (cellNumbers (cellOf r c b))
   pub row-limits : (r : ℕ) → Refuses (Wrongs (limitsRungs r)) (λ x. x .refusal) limitsZeros (rowLimitsOf r)
@@ -94,6 +102,8 @@ pub record Demand1 : Type 0 where
   pub run-kept : (N D n : ℕ) (b : List ℕ) (place : ℕ) → RunRefuses (Wrongs (runRungs N D n (length b) place)) madeTable N D n b place
   pub whole-kept : (a b : ℕ) → Refuses (Wrongs (wholeRungs a b)) (λ x. x .refusal) wholeZeros (wholeOf madeTable a b)
   pub binary64-kept : (direction a b : ℕ) → Refuses (Wrongs (binary64Rungs direction)) (λ x. x .refusal) binary64Zeros (binary64Of madeTable direction a b)
+  -- packed numbers are divided over the kept table
+  pub packed : (xs ys : List ℕ) → Refuses (Wrongs (packedRungs xs ys)) (λ x. x .refusal) packedZeros (packedOf xs ys)
   -- roots use no table
   pub root-whole : (a : ℕ) → Refuses (Wrongs (rootRungs a)) (λ x. x .refusal) rootZeros (rootWholeOf a)
   pub root-binary64 : (direction p : ℕ) → Refuses (Wrongs (binary64Rungs direction)) (λ x. x .refusal) binary64Zeros (rootBinary64Of direction p)

@@ -9,6 +9,7 @@ pub mod Significands
 pub mod Binary64Steps
 pub mod Binary64
 pub mod Samples
+pub mod Packed
 pub mod Roots
 pub mod RootSteps
 pub mod RootCalls
@@ -16,4 +17,5 @@ pub mod Demand1
 pub mod Demand2
 pub mod Demand3
 pub mod RootDemand
+pub mod PackedDemand
 pub mod BenchCases

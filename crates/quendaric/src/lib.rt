@@ -7,9 +7,11 @@ ghost use Rattle.recurrence.specs.Step.{stepOf};
 ghost use Rattle.division.specs.Whole.{wholeOf};
 ghost use Rattle.division.specs.Binary64.{binary64Of};
 ghost use Rattle.division.specs.Samples.{samplesOf, concentrationsOf};
+ghost use Rattle.division.specs.Packed.{packedOf};
 ghost use Rattle.division.specs.RootCalls.{rootWholeOf, rootBinary64Of};
 ghost use Rattle.exposure.specs.Computed.{averagesOf, meansOf, remaindersOf};
 use division::binary64::Binary64Answer;
+use division::packed::PackedAnswer;
 use division::root::RootAnswer;
 use division::samples::SamplesAnswer;
 use division::whole::WholeAnswer;
@@ -151,6 +153,14 @@ pub extern "C" fn quendaric_average_windows(
     ensures { λ r. ⌜ (r ≡ averagesOf (now (readings .entry)) width (now (means .entry)) (now (remainders .entry))) × (now (means .exit) ≡ meansOf (now (readings .entry)) width (now (means .entry)) (now (remainders .entry))) × (now (remainders .exit) ≡ remaindersOf (now (readings .entry)) width (now (means .entry)) (now (remainders .entry))) ⌝ }
 {
     exposure::average_windows(readings, width, means, remainders)
+}
+
+// Packed decimal numbers, eight bytes each, over the kept table.
+#[no_mangle]
+pub extern "C" fn quendaric_divide_packed(dividend: &[u8; 8], divisor: &[u8; 8]) -> PackedAnswer
+    ensures { λ r. ⌜ r ≡ packedOf (now (dividend .entry)) (now (divisor .entry)) ⌝ }
+{
+    division::packed::divide_packed(*dividend, *divisor)
 }
 
 // The whole root.
