@@ -20,6 +20,8 @@ static uint8_t table[QUENDARIC_TABLE_LENGTH], all_bad[QUENDARIC_TABLE_LENGTH], o
 static uint64_t dividend[PAIRS], divisor[PAIRS], a[PAIRS], b[PAIRS];
 static struct { uint64_t row, column; uint8_t byte; } bad_cell[PAIRS], any_cell[PAIRS];
 static uint8_t out[40];
+static uint64_t number_a[PAIRS], number_b[PAIRS];
+static uint8_t packed_a[PAIRS][8], packed_b[PAIRS][8]; /* the same numbers, packed */
 static uint64_t readings[READINGS], means[READINGS], remainders[READINGS];
 static int digits = 28;
 
@@ -39,6 +41,17 @@ static uint64_t b64_ahead(int i, uint64_t x) { return ahead_binary64(table, a[i]
 static uint64_t b64_kept(int i, uint64_t x) { return quendaric_divide_binary64_kept(a[i] ^ (x & 255), b[i], 0).pattern; }
 static uint64_t b64_processor(int i, uint64_t x) { return processor_binary64(a[i] ^ (x & 255), b[i]); }
 static uint64_t whole_kept(int i, uint64_t x) { return quendaric_divide_whole_kept((a[i] ^ x) >> 4, divisor[i] >> (2 + i % 56)).quotient; }
+static uint64_t whole_sixteen(int i, uint64_t x) { return quendaric_divide_whole_kept(number_a[i] ^ (x & 1), number_b[i]).quotient; }
+/* The lowest bit of a number is that of its last digit. */
+static uint64_t packed(int i, uint64_t x) {
+  uint8_t given[8];
+  uint64_t quotient;
+  memcpy(given, packed_a[i], 8);
+  given[7] ^= x & 1;
+  quendaric_packed answer = quendaric_divide_packed(given, packed_b[i]);
+  memcpy(&quotient, answer.quotient, 8);
+  return quotient;
+}
 /* An operand above 0. */
 static uint64_t above(int i, uint64_t x) { return (a[i] ^ (x & 255)) & ~(1ull << 63); }
 static uint64_t root_digit(int i, uint64_t x) { return digit_root_binary64(above(i, x), 0).pattern; }
@@ -85,6 +98,8 @@ static measure measures[] = {
     {"b64-softfloat", "SoftFloat f64_div", b64_softfloat, PAIRS, 0, 0},
 #endif
     {"whole-kept", "unit, kept whole numbers, mixed sizes", whole_kept, PAIRS, 0, 0},
+    {"whole-sixteen", "unit, kept whole numbers of up to sixteen decimal digits", whole_sixteen, PAIRS, 0, 0},
+    {"packed", "unit, the same numbers packed", packed, PAIRS, 0, 0},
     {"root-digit", "C, binary64 root, the same algorithm", root_digit, PAIRS, 0, 0},
     {"root-pair", "C, binary64 root, two digits a step", root_pair, PAIRS, 0, 0},
     {"root", "unit, binary64 root", root_unit, PAIRS, 0, 0},
@@ -123,6 +138,14 @@ static int spoil(uint8_t *t, int k) {
   return 0;
 }
 
+/* Sixteen digits as text, two of them a byte. */
+static void pack(uint64_t number, uint8_t bytes[8]) {
+  char text[17];
+  snprintf(text, sizeof text, "%016llu", (unsigned long long)number);
+  for (int i = 0; i < 8; i++)
+    bytes[i] = (uint8_t)((text[2 * i] - '0') * 16 + text[2 * i + 1] - '0');
+}
+
 static void prepare(void) {
   if (quendaric_make_table(table, sizeof table).refusal != 0)
     exit(2);
@@ -149,6 +172,14 @@ static void prepare(void) {
   }
   for (int i = 0; i < READINGS; i++)
     readings[i] = bits() >> (24 + bits() % 32);
+  uint64_t end = 1;
+  for (int i = 0; i < PAIRS; i++) {
+    end = i % 16 ? end * 10 : 10;
+    number_a[i] = bits() % 10000000000000000ull;
+    number_b[i] = 1 + bits() % (end - 1);
+    pack(number_a[i], packed_a[i]);
+    pack(number_b[i], packed_b[i]);
+  }
 }
 
 static void averages(size_t length, size_t width) {
@@ -176,6 +207,11 @@ static int agree(void) {
       quendaric_binary64 w = quendaric_root_binary64(u, d);
       differ += s.pattern != w.pattern || s.flags != w.flags || t.pattern != w.pattern || t.flags != w.flags;
     }
+    uint8_t quotient[8], remainder[8];
+    quendaric_whole whole = quendaric_divide_whole_kept(number_a[i], number_b[i]);
+    quendaric_packed same = quendaric_divide_packed(packed_a[i], packed_b[i]);
+    pack(whole.quotient, quotient), pack(whole.remainder, remainder);
+    differ += whole.refusal != 0 || same.refusal != 0 || memcmp(same.quotient, quotient, 8) || memcmp(same.remainder, remainder, 8);
     differ += root_processor(i, 0) != root_unit(i, 0) || root_whole(i, 0) != root_whole_digit(i, 0);
 #ifdef SOFTFLOAT
     differ += root_softfloat(i, 0) != root_unit(i, 0);
@@ -405,6 +441,7 @@ int main(int argc, char **argv) {
   ratio("check, every cell with a point bad / passing", "check-bad", "check", 1.5);
   ratio("check, one bad cell, the last / passing", "check-one", "check", 2.5);
   ratio("the made table / kept run", "make", "run-kept", 0);
+  ratio("packed / the same whole numbers", "packed", "whole-sixteen", 0);
   ratio("binary64 root / the same algorithm in C", "root", "root-digit", 1.0);
   ratio("binary64 root / two digits a step in C", "root", "root-pair", 0);
   ratio("binary64 root / kept binary64", "root", "b64-kept", 1.1);

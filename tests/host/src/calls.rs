@@ -100,6 +100,15 @@ pub struct Averages {
     pub place: u64,
 }
 
+#[repr(C)]
+#[derive(Clone, Copy, Debug, Default, PartialEq, Eq)]
+pub struct Packed {
+    pub refusal: u64,
+    pub place: u64,
+    pub quotient: [u8; 8],
+    pub remainder: [u8; 8],
+}
+
 extern "C" {
     fn quendaric_check_cell(row: u64, column: u64, byte: u8) -> Cell;
     fn quendaric_check_table(table: *const u8, length: usize) -> Table;
@@ -148,6 +157,7 @@ extern "C" {
         remainders: *mut u64,
         remainders_length: usize,
     ) -> Averages;
+    fn quendaric_divide_packed(dividend: *const u8, divisor: *const u8) -> Packed;
     fn quendaric_root_whole(a: u64) -> Root;
     fn quendaric_root_binary64(a: u64, direction: u64) -> Binary64;
 }
@@ -226,6 +236,10 @@ pub fn average_windows(readings: &[u64], width: usize, means: &mut [u64], remain
     let (m, m_length) = (means.as_mut_ptr(), means.len());
     let (r, r_length) = (remainders.as_mut_ptr(), remainders.len());
     lend(readings, |list, length| unsafe { quendaric_average_windows(list, length, width, m, m_length, r, r_length) })
+}
+
+pub fn divide_packed(dividend: &[u8; 8], divisor: &[u8; 8]) -> Packed {
+    lend(dividend, |a, _| lend(divisor, |b, _| unsafe { quendaric_divide_packed(a, b) }))
 }
 
 pub fn root_whole(a: u64) -> Root {
