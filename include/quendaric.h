@@ -52,9 +52,9 @@ extern "C" {
 #endif
 
 /* The version of these calls; CHANGELOG.md tells what changed. */
-#define QUENDARIC_VERSION "1.8.0"
+#define QUENDARIC_VERSION "1.9.0"
 #define QUENDARIC_VERSION_MAJOR 1
-#define QUENDARIC_VERSION_MINOR 8
+#define QUENDARIC_VERSION_MINOR 9
 #define QUENDARIC_VERSION_PATCH 0
 
 #define QUENDARIC_TABLE_LENGTH 2048
@@ -195,6 +195,13 @@ typedef struct {
   uint64_t place;
 } quendaric_averages;
 
+/* Beside a refusal nothing was written, and the count is 0: it is no repair without a change. */
+typedef struct {
+  uint64_t refusal;
+  uint64_t place;
+  uint64_t count;
+} quendaric_repaired;
+
 /* Examines a single cell: is the digit byte - 2 allowed in it? A digit that is not allowed is an ordinary answer, not
    a refusal. Refuses 1; 9 with place 128 * row + column. */
 QUENDARIC_ANSWER
@@ -214,6 +221,15 @@ quendaric_limits quendaric_row_limits(uint64_t row);
    Refuses 7. */
 QUENDARIC_ANSWER
 quendaric_made quendaric_make_table(uint8_t *buffer, size_t length);
+
+/* Repairs a table that was read back. A bad cell, or a byte above 4, takes the made digit, any other byte is copied: to the
+   first 2,048 bytes of repaired. Those of changed get 1 for each changed cell and 0 elsewhere, and count is the number of
+   changes. The repaired table passes the check, and no table that passes differs from this one in fewer cells. Later bytes
+   of both buffers keep their contents. The two are buffers of their own: neither may be the table itself or overlap it, so
+   a table is not repaired in its place. Refuses 7, 8; whatever 2,048 bytes the table has, 9 and 10 are never given. */
+QUENDARIC_ANSWER
+quendaric_repaired quendaric_repair_table(const uint8_t *table, size_t table_length, uint8_t *repaired,
+                                          size_t repaired_length, uint8_t *changed, size_t changed_length);
 
 /* A run: n = digits quotient digits of dividend / divisor through the table, 1 to 28 of them.
    The dividend is from 0 to 2^61 - 1, the divisor from 2^60 to 2^61 - 1. The digits, each as q + 2, are written one a

@@ -1,4 +1,4 @@
-# What tests/listing.sh, tests/plot.sh and tests/vectors.sh share, to be read in by them: comparing whole outputs, and counting.
+# What tests/listing.sh, tests/repair.sh, tests/plot.sh and tests/vectors.sh share, to be read in by them: comparing whole outputs, and counting.
 # shellcheck shell=sh
 set -u
 root=$(cd "$(dirname "$0")/.." && pwd)

@@ -261,6 +261,42 @@ static void averages(void) {
   SAME(remainders[WINDOWS], untouched);
 }
 
+/* A repair that is refused: number, place and zero beside them. */
+static void refused_repair(quendaric_repaired answer, uint64_t refusal) {
+  SAME(answer.refusal, refusal);
+  SAME(answer.place, 0);
+  SAME(answer.count, 0);
+}
+
+static void repairs(const uint8_t *kept) {
+  static uint8_t read_back[QUENDARIC_TABLE_LENGTH], repaired[QUENDARIC_TABLE_LENGTH + 1],
+      changed[QUENDARIC_TABLE_LENGTH + 1], marks[QUENDARIC_TABLE_LENGTH];
+  const size_t size = QUENDARIC_TABLE_LENGTH;
+  memcpy(read_back, kept, size);
+  read_back[0] = 9, read_back[215] = 2; /* a byte above 4 in a cell without a point, and a bad cell */
+  marks[0] = 1, marks[215] = 1;
+  memset(repaired, untouched, sizeof repaired);
+  memset(changed, untouched, sizeof changed);
+  refused_repair(quendaric_repair_table(read_back, size, repaired, size - 1, changed, size), QUENDARIC_REFUSED_ROOM);
+  refused_repair(quendaric_repair_table(read_back, size, repaired, size, changed, size - 1), QUENDARIC_REFUSED_ROOM);
+  refused_repair(quendaric_repair_table(read_back, 5, repaired, size, changed, size - 1), QUENDARIC_REFUSED_ROOM);
+  refused_repair(quendaric_repair_table(read_back, size - 1, repaired, size, changed, size), QUENDARIC_REFUSED_LENGTH);
+  refused_repair(quendaric_repair_table(NULL, 0, repaired, size, changed, size), QUENDARIC_REFUSED_LENGTH);
+  refused_repair(quendaric_repair_table(NULL, 0, NULL, 0, NULL, 0), QUENDARIC_REFUSED_ROOM);
+  SAME(all_untouched(repaired, sizeof repaired) && all_untouched(changed, sizeof changed), 1);
+  for (size_t longer = 0; longer < 2; longer++) {
+    quendaric_repaired answer = quendaric_repair_table(read_back, size, repaired, size + longer, changed, size + longer);
+    SAME(answer.refusal, 0);
+    SAME(answer.place, 0);
+    SAME(answer.count, 2);
+    SAME(memcmp(repaired, kept, size), 0);
+    SAME(memcmp(changed, marks, size), 0);
+    SAME(repaired[size] == untouched && changed[size] == untouched, 1);
+  }
+  SAME(quendaric_repair_table(kept, size, repaired, size, changed, size).count, 0);
+  SAME(memcmp(repaired, kept, size), 0);
+}
+
 static void roots(void) {
   quendaric_root whole = quendaric_root_whole(one - 1);
   SAME(whole.refusal, 0);
@@ -321,6 +357,7 @@ int main(void) {
   tables(table);
   runs(table);
   steps(table);
+  repairs(table);
   refused_runs(table);
   nothing_lent(table);
   divisions(table);

@@ -37,6 +37,10 @@ SIZE(quendaric_limits, 24);
 REFUSAL(quendaric_made);
 SIZE(quendaric_made, 16);
 
+REFUSAL(quendaric_repaired);
+FIELD(quendaric_repaired, count, 16, 8);
+SIZE(quendaric_repaired, 24);
+
 REFUSAL(quendaric_averages);
 SIZE(quendaric_averages, 16);
 

@@ -71,6 +71,19 @@ static void divide_packed(const uint64_t *x, reply *y) {
   const uint8_t dividend[8] = {0, 0, 0, 0, 0, 0, 0, (uint8_t)x[0]}, divisor[8] = {0, 0, 0, 0, 0, 0, 0, (uint8_t)x[1]};
   REPLY(y, quendaric_divide_packed(dividend, divisor));
 }
+/* Both buffers have one length, as the lists above. Four bytes of the repaired table and then four marks, from 214 on, of a table with one
+   bad cell, 215. */
+static void repair_table(const uint64_t *x, reply *y) {
+  static uint8_t read_back[QUENDARIC_TABLE_LENGTH], repaired[QUENDARIC_TABLE_LENGTH + 2],
+      changed[QUENDARIC_TABLE_LENGTH + 2];
+  memcpy(read_back, table, sizeof read_back);
+  read_back[215] = 2;
+  memset(repaired, 0, sizeof repaired);
+  memset(changed, 0, sizeof changed);
+  REPLY(y, quendaric_repair_table(read_back, x[0], repaired, x[1], changed, x[1]));
+  memcpy(y->buffer, repaired + 214, 4);
+  memcpy(y->buffer + 4, changed + 214, 4);
+}
 static void root_whole(const uint64_t *x, reply *y) { REPLY(y, quendaric_root_whole(x[0])); }
 static void root_binary64(const uint64_t *x, reply *y) { REPLY(y, quendaric_root_binary64(x[0], x[1])); }
 
@@ -120,6 +133,8 @@ static const struct {
     {"average_windows", average_windows, 3, {5, 4, 3}, {{0, 0, 25, 35, 0, 0, 0, 1, 2}, {0}}},
     /* 98 by 15: the last bytes of the two are the highest of their words here */
     {"divide_packed", divide_packed, 2, {0x98, 0x15}, {{0, 0, 0x06ull << 56, 0x08ull << 56}, {0}}},
+    /* length of the table, length of the buffers */
+    {"repair_table", repair_table, 2, {2048, 2050}, {{0, 0, 1}, {4, 4, 2, 2, 0, 1, 0, 0}}},
     {"root_whole", root_whole, 1, {4195835}, {{0, 0, 2048, 1531}, {0}}},
     /* a, direction: the root of 3 upward */
     {"root_binary64", root_binary64, 2, {THREE, 2}, {{0, 0, 0x3FFBB67AE8584CABull, 1}, {0}}},

@@ -6,10 +6,11 @@
 #include <stdio.h>
 #include <string.h>
 
-enum { CALLS = 16, TURNS = 1000, PAINT = 0xA5 };
+enum { CALLS = 17, TURNS = 1000, PAINT = 0xA5 };
 
 static uint8_t stack[8192] __attribute__((aligned(64)));
 static uint8_t table[QUENDARIC_TABLE_LENGTH], buffer[QUENDARIC_MOST_DIGITS];
+static uint8_t read_back[QUENDARIC_TABLE_LENGTH], repaired[QUENDARIC_TABLE_LENGTH], changed[QUENDARIC_TABLE_LENGTH];
 static uint64_t readings[8], means[8], remainders[8];
 static uint8_t digit[16]; /* two decimals of two numbers each */
 static uint8_t *pointer; /* the caller's stack pointer */
@@ -47,6 +48,7 @@ static void call(void) {
   case 12: sink = quendaric_root_whole(x).root; break;
   case 13: sink = quendaric_step(dividend, 0, divisor, table, size).sum; break;
   case 14: sink = quendaric_divide_packed(digit, digit + 8).quotient[0]; break;
+  case 15: sink = quendaric_repair_table(read_back, size, repaired, size, changed, size).count; break;
   default: sink = quendaric_root_binary64(a >> 1, b % 4).pattern; break;
   }
 }
@@ -75,6 +77,7 @@ int main(void) {
       a = bits(), b = bits();
       readings[turn % 8] = a >> 24;
       digit[turn % 16] = (uint8_t)(a % 10 * 16 + b % 10);
+      read_back[a % sizeof read_back] = (uint8_t)(b % 8);
       long now = used();
       most = now > most ? now : most;
     }

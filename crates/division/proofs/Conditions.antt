@@ -10,6 +10,7 @@ use Rattle.selection.specs.Refusals.{Condition, Rung, below, atMost, same, diff
 use Rattle.selection.specs.declared.Admission.{Admission}
 use Rattle.selection.proofs.Ladders.{rung-holds, rung-past}
 use Rattle.selection.proofs.Verdicts.{cell-row-column, cell-byte}
+use Rattle.selection.proofs.RepairAnswers.{short-refused, length-refused, repair-told}
 use Rattle.recurrence.specs.Recurrence.{Operands, stateFrom, nextOf, resultOf}
 use Rattle.recurrence.specs.Run.{mostDigits, runRungs, runZeros, runValues, runOf}
 use Rattle.recurrence.specs.Step.{stepZeros, stepValues, stepOf}
@@ -126,6 +127,9 @@ conditions = record {
   byte = cell-byte;
   row = λ r h. ap (answerBy limitsZeros (record { refusal = refusal 0 0; limits = limitsOf r })) (rung-holds 1 0 (below 15 r) [] h);
   room = λ s h. ap (answerBy (λ f. f) (refusal 0 0)) (rung-holds 7 0 (below (length s) 2048) [] h);
+  repair-room = short-refused;
+  repair-length = length-refused;
+  repair-told = repair-told;
   digits = digits;
   operands = operands;
   buffer = buffer;

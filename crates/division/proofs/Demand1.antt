@@ -14,6 +14,7 @@ use Rattle.selection.proofs.Verdicts.{cell-refuses}
 use Rattle.selection.proofs.Ladders.{Ladder, by-number, first-is, refused-by, refuses}
 use Rattle.selection.proofs.MadeTables.{kept-passes, limits-told, make-answer}
 use Rattle.selection.proofs.Orders.{passed-last}
+use Rattle.selection.proofs.RepairAnswers.{repairs-right}
 use Rattle.selection.proofs.Reports.{report-checked, table-ladder, admission-ladder}
 use Rattle.recurrence.specs.Recurrence.{stateFrom, nextOf, digits, resultOf}
 use Rattle.recurrence.specs.Run.{runRungs, written, runZeros, runValues}
@@ -89,7 +90,7 @@ rank-15 = lit< tt
 pub demand-1 : Demand1
 demand-1 =
     record {
-      zeros = record { step = λ f. refl; packed = λ f. refl };
+      zeros = record { step = λ f. refl; packed = λ f. refl; repair = λ f. refl };
       order = by-number;
       order-11 = rank-11;
       order-14 = rank-14;
@@ -99,6 +100,8 @@ demand-1 =
       row-limits = λ r. limits-told r refl .1 .refuses;
       make-table = λ s. make-answer s _ _ refl refl .2 .refuses;
       make-buffer = λ s. make-answer s _ _ refl refl .2 .keeps;
+      repair = λ t rs cs. repairs-right t rs cs .refuses;
+      repair-buffers = λ t rs cs. repairs-right t rs cs .keeps;
       check-table = check-refuses;
       admit = λ t. refused-by (table-ladder t);
       run = λ t N D n b place. run-refuses N D n b place t (run-lent N D n (length b) place t) refl;

@@ -14,7 +14,8 @@ use Rattle.selection.specs.Refusals.{Wrongs, ladder, rank, FirstRefusal, Refuse
 use Rattle.selection.specs.Cell.{LeastWitness, cellRungs, digit}
 use Rattle.selection.specs.Maker.{limitsRungs, limitsZeros, makeRungs}
 use Rattle.selection.specs.Table.{BadAt, Tally, tableRungs}
-use Rattle.selection.specs.Computed.{cellOf, rowLimitsOf, makeOf, madeBuffer, madeTable, reportOf}
+use Rattle.selection.specs.Computed.{cellOf, rowLimitsOf, makeOf, madeBuffer, madeTable, reportOf, repairOf, repairedOf, changedOf}
+use Rattle.selection.specs.Repair.{repairRungs, repairZeros}
 use Rattle.recurrence.specs.Recurrence.{Operands}
 use Rattle.selection.specs.Word.{signed}
 use Rattle.recurrence.specs.Run.{runRungs, runZeros, runOf, bufferOf}
@@ -52,6 +53,9 @@ pub record Conditions : Type 0 where
   pub byte : (r c b : ℕ) → r ≤ 15 → c ≤ 127 → 4 < b → cellNumbers (cellOf r c b) ≡ cellZeros (refusal 9 (128 * r + c))
   pub row : (r : ℕ) → 15 < r → rowLimitsOf r ≡ limitsZeros (refusal 1 0)
   pub room : (s : List ℕ) → length s < 2048 → makeOf s ≡ refusal 7 0
+  pub repair-room : (t rs cs : List ℕ) → (length rs < 2048) ⊎ (length cs < 2048) → repairOf t rs cs ≡ repairZeros (refusal 7 0)
+  pub repair-length : (t rs cs : List ℕ) → 2048 ≤ length rs → 2048 ≤ length cs → (length t ≡ 2048 → ⊥) → repairOf t rs cs ≡ repairZeros (refusal 8 0)
+  pub repair-told : (t rs cs : List ℕ) → length t ≡ 2048 → 2048 ≤ length rs → 2048 ≤ length cs → repairOf t rs cs .refusal ≡ refusal 0 0
   pub digits : (t : List ℕ) (N D n : ℕ) (b : List ℕ) (place : ℕ) → (n ≡ 0) ⊎ (28 < n) → runOf t N D n b place ≡ runZeros (refusal 2 0)
   pub operands : (t : List ℕ) (N D n : ℕ) (b : List ℕ) (place : ℕ) → 1 ≤ n → n ≤ 28 → (D < 2 ^ 60) ⊎ ((2 ^ 61 ≤ D) ⊎ (2 ^ 61 ≤ N)) → runOf t N D n b place ≡ runZeros (refusal 3 0)
   pub buffer : (t : List ℕ) (N D n : ℕ) (b : List ℕ) (place : ℕ) → Operands N D → 1 ≤ n → n ≤ 28 → length b < place + n → runOf t N D n b place ≡ runZeros (refusal 7 0)
@@ -76,6 +80,7 @@ pub record Conditions : Type 0 where
 pub record ZerosBesides : Type 0 where
   pub step : (f : Refusal) → stepZeros f ≡ record { refusal = f; digit = pos 0; sum = 0; carry = 0 }
   pub packed : (f : Refusal) → packedZeros f ≡ record { refusal = f; quotient = 0 ∷ 0 ∷ 0 ∷ 0 ∷ 0 ∷ 0 ∷ 0 ∷ 0 ∷ []; remainder = 0 ∷ 0 ∷ 0 ∷ 0 ∷ 0 ∷ 0 ∷ 0 ∷ 0 ∷ [] }
+  pub repair : (f : Refusal) → repairZeros f ≡ record { refusal = f; count = 0 }
 
 pub record Demand1 : Type 0 where
   pub zeros : ZerosBesides
@@ -89,6 +94,8 @@ pub record Demand1 : Type 0 where
   pub row-limits : (r : ℕ) → Refuses (Wrongs (limitsRungs r)) (λ x. x .refusal) limitsZeros (rowLimitsOf r)
   pub make-table : (s : List ℕ) → RefusedBy (Wrongs (makeRungs (length s))) (makeOf s)
   pub make-buffer : (s : List ℕ) (n p : ℕ) → FirstRefusal (Wrongs (makeRungs (length s))) n p → madeBuffer s ≡ s
+  pub repair : (t rs cs : List ℕ) → Refuses (Wrongs (repairRungs (length t) (length rs) (length cs))) (λ x. x .refusal) repairZeros (repairOf t rs cs)
+  pub repair-buffers : (t rs cs : List ℕ) (n p : ℕ) → FirstRefusal (Wrongs (repairRungs (length t) (length rs) (length cs))) n p → (repairedOf t rs cs ≡ rs) × (changedOf t rs cs ≡ cs)
   pub check-table : (t : List ℕ) → CheckRefuses t (reportNumbers (reportOf t))
   -- what the calls below make of a table that they are lent
   pub admit : (t : List ℕ) → RefusedBy (Wrongs (tableRungs t)) (refusalOf (ladder (tableRungs t)))

@@ -1,7 +1,7 @@
 // The C interface: thin exports of the three layers and of the averages. A slice is a pointer and a length; an answer comes back as the layer's own struct.
 ghost use mathlib.Core.Path.{_≡_};
 ghost use Rattle.selection.specs.Answer.{cellNumbers, reportNumbers};
-ghost use Rattle.selection.specs.Computed.{cellOf, reportOf, rowLimitsOf, makeOf, madeBuffer, madeTable};
+ghost use Rattle.selection.specs.Computed.{cellOf, reportOf, rowLimitsOf, makeOf, madeBuffer, madeTable, repairOf, repairedOf, changedOf};
 ghost use Rattle.recurrence.specs.Run.{runOf, bufferOf};
 ghost use Rattle.recurrence.specs.Step.{stepOf};
 ghost use Rattle.division.specs.Whole.{wholeOf};
@@ -21,6 +21,7 @@ use selection::Refusal;
 use selection::maker::RowLimits;
 use selection::numbers::CellNumbers;
 use selection::numbers::ReportNumbers;
+use selection::repair::RepairAnswer;
 
 // A single cell: is the digit of this byte allowed?
 #[no_mangle]
@@ -140,6 +141,18 @@ pub extern "C" fn quendaric_divide_samples(
     ensures { λ r. ⌜ (r ≡ samplesOf (now (table .entry)) direction (now (currents .entry)) (now (sensitivities .entry)) (now (concentrations .entry))) × (now (concentrations .exit) ≡ concentrationsOf (now (table .entry)) direction (now (currents .entry)) (now (sensitivities .entry)) (now (concentrations .entry))) ⌝ }
 {
     division::samples::divide_samples(table, currents, sensitivities, concentrations, direction)
+}
+
+// A repaired table, and its marks.
+#[no_mangle]
+pub extern "C" fn quendaric_repair_table(
+    table: &[u8],
+    repaired: &mut [u8],
+    changed: &mut [u8],
+) -> RepairAnswer
+    ensures { λ r. ⌜ (r ≡ repairOf (now (table .entry)) (now (repaired .entry)) (now (changed .entry))) × (now (repaired .exit) ≡ repairedOf (now (table .entry)) (now (repaired .entry)) (now (changed .entry))) × (now (changed .exit) ≡ changedOf (now (table .entry)) (now (repaired .entry)) (now (changed .entry))) ⌝ }
+{
+    selection::repair::repair_table(table, repaired, changed)
 }
 
 // Mean and remainder of every full window of so many readings, into two lists.

@@ -31,13 +31,16 @@ allows-decides {r} {c} {b} k = rw (allows-test r c b) (go (testOf (multiplesOf r
     go NoWitness j = decides-yes (j .means .1)
     go (LeastAt d w) j = decides-no (not-allowed (j .means .1 .against))
 
--- which cells of a table are bad
-pub bad-decides : {t : List ℕ} → Table t → (k : ℕ) → k < 2048 → Decides (BadAt t k) (isBad t k)
-bad-decides {t} a k h = rw (allows-test (k / 128) (k % 128) (getD t k 0)) (go (testOf (multiplesOf (k / 128)) (k % 128) (getD t k 0)) (verdict-checked (cell-at a k h) refl .1))
+-- which cells are bad
+pub cell-decides : (t : List ℕ) (k : ℕ) → IsCell (k / 128) (k % 128) (getD t k 0) → Decides (BadAt t k) (isBad t k)
+cell-decides t k i = rw (allows-test (k / 128) (k % 128) (getD t k 0)) (go (testOf (multiplesOf (k / 128)) (k % 128) (getD t k 0)) (verdict-checked i refl .1))
   where
     go : (x : Finding) → CellChecked (k / 128) (k % 128) (getD t k 0) (cellVerdictOf x) → Decides (BadAt t k) (not (clear x))
     go NoWitness j = decides-no (λ b. not-allowed (b .against) (j .means .1))
     go (LeastAt d w) j = decides-yes (record { divisor = d; remainder = _; against = j .means .1 .against })
+
+pub bad-decides : {t : List ℕ} → Table t → (k : ℕ) → k < 2048 → Decides (BadAt t k) (isBad t k)
+bad-decides {t} a k h = cell-decides t k (cell-at a k h)
 
 -- by the multiples of a row
 pub bad-in-row : (t : List ℕ) {m : RowMultiples} (c : ℕ) → RowOf m → c ≤ 127 → not (allowsBy m c (getD t (128 * m .row + c) 0)) ≡ isBadIn t (m .row) c

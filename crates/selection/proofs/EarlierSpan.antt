@@ -1,16 +1,16 @@
 -- For a user with a burned table: what passed under document 01's span passes under this one, and the check says so. The converse is false, by the made table.
-use Rattle.laws.proofs.Basics.{_≡_, refl, sym, ap₂, _∙_, List, ℕ, _*_, _-_, _^_, _≤_, arith, lit<, lit≤, ℤ, pos}
+use Rattle.laws.proofs.Basics.{_≡_, refl, sym, _∙_, List, ℕ, _*_, _-_, _^_, _≤_, arith, lit<, lit≤, ℤ, pos}
 use native.Mathlib.Nat.{le-trans}
 use Rattle.laws.specs.Lists.{listFrom}
 use Rattle.selection.specs.Word.{signed}
 use Rattle.selection.specs.Cell.{earlierSpan, PointUnder, digit}
 use Rattle.selection.specs.Table.{tableRungs, Passes, PassesUnder}
 use Rattle.selection.specs.Allowed.{allowsOf}
-use Rattle.selection.specs.Answer.{refusal, outcomeNumbers, reportNumbers, reportZeros}
+use Rattle.selection.specs.Answer.{refusal, reportNumbers, reportZeros}
 use Rattle.selection.specs.Computed.{madeOf, madeTable, reportOf}
 use Rattle.selection.specs.Refusals.{ladder}
 use Rattle.selection.specs.declared.Admission.the-variants.{Admitted}
-use Rattle.selection.proofs.Reports.{report-checked, passes-told, passes-admitted, admission-ladder}
+use Rattle.selection.proofs.Reports.{report-passed, passes-admitted, admission-ladder}
 
 module _ {m n : ℕ} (h : n ≤ m) where
   -- a smaller greatest e leaves fewer points, and allows what was allowed
@@ -25,7 +25,7 @@ pub burned-passes : {t : List ℕ} → PassesUnder earlierSpan t → Passes t
 burned-passes p = passes-narrower (omega arith) p
 
 pub burned-told : {t : List ℕ} → PassesUnder earlierSpan t → reportNumbers (reportOf t) ≡ reportZeros (refusal 0 0)
-burned-told {t} p = let k = passes-told (report-checked t) (burned-passes p) in ap₂ outcomeNumbers (k .0) (k .1)
+burned-told p = report-passed (burned-passes p)
 
 pub burned-admitted : {t : List ℕ} → PassesUnder earlierSpan t → ladder (tableRungs t) ≡ Admitted
 burned-admitted {t} p = sym (admission-ladder t) ∙ passes-admitted (burned-passes p)

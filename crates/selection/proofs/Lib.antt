@@ -26,3 +26,7 @@ pub mod CellCases
 pub mod Verdicts
 pub mod Ladders
 pub mod Orders
+pub mod RepairCells
+pub mod RepairRows
+pub mod RepairAnswers
+pub mod RepairDemand

@@ -1,5 +1,5 @@
 -- The computed report is the check's answer in document 01's words, and a table is admitted exactly if it passes.
-use Rattle.laws.proofs.Basics.{_≡_, refl, sym, subst, ap, _∙_, List, [], _∷_, _⊎_, inl, inr, ⊎-elim, ℕ, _+_, _*_, _/_, _%_, _≤_, _<_, arith, ltb, ltb→lt, nltb→le, length, getD}
+use Rattle.laws.proofs.Basics.{_≡_, refl, sym, subst, ap, ap₂, _∙_, List, [], _∷_, _⊎_, inl, inr, ⊎-elim, ℕ, _+_, _*_, _/_, _%_, _≤_, _<_, arith, ltb, ltb→lt, nltb→le, length, getD}
 use native.Mathlib.Nat.{not-le-of-lt}
 use Rattle.laws.proofs.Tests.{by-cond}
 use Rattle.selection.specs.Refusals.{First, Wrongs, firstFrom, numberFirst, ladder, rank}
@@ -7,7 +7,7 @@ use Rattle.selection.specs.Cell.{Allows, CellChecked, digit}
 use Rattle.selection.specs.Table.{Table, BadAt, Passes, formRungs, Checked, ReportMeaning, tableRungs}
 use Rattle.selection.specs.Allowed.{aboveFour, isBad}
 use Rattle.selection.specs.Computed.{cellOf, countBelow, badReport, passedReport, refusedReport, tableReport, reportOf}
-use Rattle.selection.specs.Answer.{admission, admissionOf, firstOf, answerBy}
+use Rattle.selection.specs.Answer.{refusal, outcomeNumbers, reportNumbers, reportZeros, admission, admissionOf, firstOf, answerBy}
 use Rattle.selection.specs.declared.Admission.{Admission}
 use Rattle.selection.specs.declared.Admission.the-variants as A
 use Rattle.selection.specs.declared.CellVerdict.{CellVerdict}
@@ -80,6 +80,10 @@ passes-told {t} {a} c h = go (a .outcome) (c .means)
     go O.Passed w = (w .1, refl)
     go (O.Bad b) w = let f = w .2 in let hr = f .row in let hc = f .column in let x = f .first .here in absurd (x .against .broken (h .allowed _ (omega arith) _ _ (x .against .point)))
     go (O.Refused f) w = no-table (h .table) (w .0)
+
+-- in numbers: no refusal, no cell and no witness
+pub report-passed : {t : List ℕ} → Passes t → reportNumbers (reportOf t) ≡ reportZeros (refusal 0 0)
+report-passed {t} p = let k = passes-told (report-checked t) p in ap₂ outcomeNumbers (k .0) (k .1)
 
 -- a table passes exactly if it is admitted
 pub passes-admitted : {t : List ℕ} → Passes t → admission (reportOf t) ≡ A.Admitted

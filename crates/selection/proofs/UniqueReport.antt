@@ -13,7 +13,7 @@ use Rattle.selection.proofs.Tables.{no-table}
 use Rattle.selection.proofs.Reports.{form-ladder}
 use Rattle.selection.proofs.UniqueCell.{one-witness}
 
-tally-one : {P : ℕ → Type 0} {m i j : ℕ} → Tally P m i → Tally P m j → i ≡ j
+pub tally-one : {P : ℕ → Type 0} {m i j : ℕ} → Tally P m i → Tally P m j → i ≡ j
 tally-one none none = refl
 tally-one (one p x) (one q y) = ap suc (tally-one x y)
 tally-one (one p x) (other q y) = absurd (q p)

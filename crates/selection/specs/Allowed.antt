@@ -1,5 +1,5 @@
 -- Whether a digit is allowed, by the test of its cell. A reader need not believe it: `allows-decides` shows that it says what `Allows` says.
-use mathlib.Core.Bool.{Bool, not}
+use mathlib.Core.Bool.{Bool, not, _||_}
 use mathlib.Core.List.{List}
 use Prim.Native.Nat.{ℕ, _+_, _*_, _/_, _%_}
 use lib.Dec.{ltb}
@@ -19,3 +19,7 @@ isBad t k = not (allowsOf (k / 128) (k % 128) (getD t k 0))
 -- the column c of the row r
 abbrev pub isBadIn : List ℕ → ℕ → ℕ → Bool
 isBadIn t r c = isBad t (128 * r + c)
+
+-- it is above 4, or a bad cell
+abbrev pub isReplaced : List ℕ → ℕ → Bool
+isReplaced t k = aboveFour t k || isBad t k

@@ -1,17 +1,19 @@
--- The answers, computed: `cellOf`, `rowLimitsOf`, `madeTable`, `makeOf`, `reportOf`. A reader need not believe them: `cell-checked`, `allows-decides`, `limits-right`,
--- `made-table-is`, `report-checked` and the contracts of `row_limits` and `make_table` show that each is the answer in document 01's words, and `cell-checked-one`,
--- `limited-one`, `made-one`, `makes-one`, `checked-one` that there is no other.
+-- The answers, computed: `cellOf`, `rowLimitsOf`, `madeTable`, `makeOf`, `reportOf`, `repairOf`. A reader need not believe them: `cell-checked`, `allows-decides`, `limits-right`,
+-- `made-table-is`, `report-checked` and the contracts of `row_limits`, `make_table` and `repair_table` show that each is the answer in the documents' words, and
+-- `cell-checked-one`, `limited-one`, `made-one`, `makes-one`, `checked-one`, `repairs-one` that there is no other.
+use mathlib.Core.Path.{_≡_}
 use mathlib.Core.Bool.{Bool, cond}
 use mathlib.Core.List.{List, [], _∷_, _++_}
-use Prim.Native.Nat.{ℕ, zero, suc, _+_, _/_, _%_}
+use Prim.Native.Nat.{ℕ, zero, suc, _+_, _*_, _/_, _%_}
 use lib.Dec.{ltb}
 use lib.ListN.{length, getD, drop}
-use Rattle.laws.specs.Lists.{listFrom}
+use Rattle.laws.specs.Lists.{listFrom, filled}
 use Rattle.selection.specs.Answer.{refusal, answerBy}
 use Rattle.selection.specs.Cell.{cellRungs}
-use Rattle.selection.specs.Allowed.{allowsOf, isBad}
+use Rattle.selection.specs.Allowed.{allowsOf, isBad, isReplaced}
 use Rattle.selection.specs.Table.{formRungs}
 use Rattle.selection.specs.Maker.{limitsRungs, limitsZeros, makeRungs}
+use Rattle.selection.specs.Repair.{repairRungs, repairZeros}
 use Rattle.selection.specs.Refusals.{firstFrom, ladder}
 use Rattle.selection.specs.Multiples.{multiplesOf, testOf, cellVerdictOf}
 use Rattle.selection.specs.declared.Refusal.{Refusal}
@@ -21,6 +23,7 @@ use Rattle.selection.specs.declared.table.Outcome.the-variants as O
 use Rattle.selection.specs.declared.table.Report.{Report}
 use Rattle.selection.specs.declared.maker.RowLimits.{RowLimits}
 use Rattle.selection.specs.declared.multiples.RowMultiples.{RowMultiples}
+use Rattle.selection.specs.declared.repair.RepairAnswer.{RepairAnswer}
 
 abbrev pub cellOf : ℕ → ℕ → ℕ → CellVerdict
 cellOf r c b = answerBy Refused (cellVerdictOf (testOf (multiplesOf r) c b)) (ladder (cellRungs r c b))
@@ -83,3 +86,24 @@ tableReport t =
 -- the check's answer
 unfoldable pub reportOf : List ℕ → Report
 reportOf t = answerBy refusedReport (tableReport t) (ladder (formRungs t))
+
+-- the repair of cell k: the made digit for a byte that is above 4 or in a bad cell, and any other byte as it is; and the mark of a changed cell
+unfoldable pub repairedByte : List ℕ → ℕ → ℕ
+repairedByte t k = cond (isReplaced t k) (madeAt k) (getD t k 0)
+
+unfoldable pub changeMark : List ℕ → ℕ → ℕ
+changeMark t k = cond (isReplaced t k) 1 0
+
+-- what the code asks of a row r: where the list a has the values of f before that row, the list b has them up to its end as well
+abbrev pub FillsRow : (ℕ → ℕ) → ℕ → List ℕ → List ℕ → Type 0
+FillsRow f r a b = (o : List ℕ) → a ≡ filled f (128 * r) o → b ≡ filled f (128 * r + 128) o
+
+-- the answer to the table t, and what is left in the two buffers that held rs and cs
+abbrev pub repairOf : List ℕ → List ℕ → List ℕ → RepairAnswer
+repairOf t rs cs = answerBy repairZeros (record { refusal = refusal 0 0; count = countBelow (isReplaced t) 2048 }) (ladder (repairRungs (length t) (length rs) (length cs)))
+
+abbrev pub repairedOf : List ℕ → List ℕ → List ℕ → List ℕ
+repairedOf t rs cs = answerBy (λ f. rs) (filled (repairedByte t) 2048 rs) (ladder (repairRungs (length t) (length rs) (length cs)))
+
+abbrev pub changedOf : List ℕ → List ℕ → List ℕ → List ℕ
+changedOf t rs cs = answerBy (λ f. cs) (filled (changeMark t) 2048 cs) (ladder (repairRungs (length t) (length rs) (length cs)))

@@ -7,6 +7,8 @@ pub mod Maker
 pub mod EarlierKept
 pub mod Answer
 pub mod Refusals
+pub mod Repair
 pub mod Computed
+pub mod RepairDemand
 pub mod WordBytes
 pub mod Demand

@@ -4,6 +4,7 @@ mod kept_words;
 pub mod maker;
 mod multiples;
 pub mod numbers;
+pub mod repair;
 pub mod table;
 
 ghost use mathlib.Core.Path.{_≡_};

@@ -9,7 +9,7 @@ use crate::Refusal;
 use crate::multiples::row_multiples;
 
 // The six columns at which the made digits of a row change.
-fn limits_of(row: u64) -> [u8; 6]
+pub(crate) fn limits_of(row: u64) -> [u8; 6]
     requires { ⌜ row ≤ 15 ⌝ }
     ensures { λ r. ⌜ (r ≡ limitsOf row) × Limits row r ⌝ }
 {
@@ -56,7 +56,7 @@ pub fn row_limits(row: u64) -> RowLimits
 }
 
 // The byte at a column of a row with the limits l.
-fn digit_at(l: [u8; 6], c: u8) -> u8
+pub(crate) fn digit_at(l: [u8; 6], c: u8) -> u8
     ensures { λ r. ⌜ r ≡ stepAt l c ⌝ }
 {
     if c < l[0] {

@@ -1,0 +1,150 @@
+-- The repair, cell by cell: the computed one is document 02's; and what is claimed of every repair.
+use Rattle.laws.proofs.Basics.{_≡_, refl, sym, _∙_, Bool, true, false, cond, _||_, List, _⊎_, inl, inr, ⊎-elim, ℕ, zero, suc, _/_, _%_, _≤_, _<_, arith, ltb, eqb, ltb-true, ltb-false, eqb-true, eqb-false, length, getD, take, length-take}
+use native.Mathlib.Nat.{not-le-of-lt, eq-or-lt-of-le}
+use lib.Seq.{getD-take, ext-getD}
+use Rattle.selection.specs.Cell.{Allows, digit}
+use Rattle.selection.specs.Table.{Passes, Tally}
+use Rattle.selection.specs.Table.Tally.{none, one, other}
+use Rattle.selection.specs.Maker.{Made}
+use Rattle.selection.specs.Allowed.{isBad, isReplaced}
+use Rattle.selection.specs.Computed.{madeAt, repairedByte, changeMark}
+use Rattle.selection.specs.Repair.{ReplacedAt, DifferAt, RepairedAt, Repaired, RepairClaim}
+use Rattle.selection.proofs.BiasedPoints.{not-allowed, allows-unless}
+use Rattle.selection.proofs.Counts.{Decides, decides-yes, decides-no, count-tally}
+use Rattle.selection.proofs.Allowed.{cell-decides}
+use Rattle.selection.proofs.Ladders.{not-below, equal}
+use Rattle.selection.proofs.Making.{made-right}
+use Rattle.selection.proofs.Tables.{table-of}
+use Rattle.selection.proofs.UniqueMade.{byte-one}
+
+-- ---- a cell
+
+module _ (t : List ℕ) (k : ℕ) (h : k < 2048) where
+  -- the test tells whether the byte is to be changed
+  pub replaced-decides : Decides (ReplacedAt t k) (isReplaced t k)
+  replaced-decides = go (ltb 4 (getD t k 0)) refl
+    where
+      go : (x : Bool) → ltb 4 (getD t k 0) ≡ x → Decides (ReplacedAt t k) (x || isBad t k)
+      go true e = decides-yes (inl (ltb-true 4 (getD t k 0) e))
+      go false e =
+          let l : getD t k 0 ≤ 4 = ltb-false 4 (getD t k 0) e in
+          let d = cell-decides t k (record { row = omega arith; column = omega arith; byte = l }) in
+          record { yes = λ f. inr (d .yes f); no = λ f. ⊎-elim (λ m. not-le-of-lt m l) (d .no f) }
+
+  -- it is not where it holds an allowed digit, and only there
+  pub not-replaced : {b : ℕ} → b ≤ 4 → Allows (k / 128) (k % 128) (digit b) → getD t k 0 ≡ b → ReplacedAt t k → ⊥
+  not-replaced l a e = ⊎-elim (λ m. omega arith) (λ x. not-allowed (x .against) (rw e a))
+
+  pub copied-byte : (ReplacedAt t k → ⊥) → (getD t k 0 ≤ 4) × Allows (k / 128) (k % 128) (digit (getD t k 0))
+  copied-byte n =
+      let l : getD t k 0 ≤ 4 = not-below (λ m. n (inl m)) in
+      (l, allows-unless (record { row = omega arith; column = omega arith; byte = l }) (λ D P x. n (inr (record { divisor = D; remainder = P; against = x }))))
+
+  -- the computed repair is the one
+  pub cell-repaired : RepairedAt t k (repairedByte t k) (changeMark t k)
+  unfolding repairedByte changeMark
+  cell-repaired = go (isReplaced t k) replaced-decides
+    where
+      m : Made (k / 128) (k % 128) (madeAt k)
+      m = made-right (k / 128) (k % 128) (omega arith) (omega arith)
+
+      go : (x : Bool) → Decides (ReplacedAt t k) x → RepairedAt t k (cond x (madeAt k) (getD t k 0)) (cond x 1 0)
+      go true d = record { made = λ w. m; copied = λ n. absurd (n (d .yes refl)); marked = λ n. refl; unmarked = λ e. absurd (not-replaced (m .byte) (m .allowed) e (d .yes refl)) }
+      go false d = record { made = λ w. absurd (d .no refl w); copied = λ n. refl; marked = λ n. absurd (n refl); unmarked = λ e. refl }
+
+  module _ {b m : ℕ} (r : RepairedAt t k b m) where
+    -- what stands there is an allowed digit
+    pub allowed-byte : (b ≤ 4) × Allows (k / 128) (k % 128) (digit b)
+    allowed-byte = go (isReplaced t k) replaced-decides
+      where
+        go : (x : Bool) → Decides (ReplacedAt t k) x → (b ≤ 4) × Allows (k / 128) (k % 128) (digit b)
+        go true d = let y = r .made (d .yes refl) in (y .byte, y .allowed)
+        go false d = rw (r .copied (d .no refl)) (copied-byte (d .no refl))
+
+    -- only a byte that must be is changed
+    pub changed-replaced : (getD t k 0 ≡ b → ⊥) → ReplacedAt t k
+    changed-replaced n = go (isReplaced t k) replaced-decides
+      where
+        go : (x : Bool) → Decides (ReplacedAt t k) x → ReplacedAt t k
+        go true d = d .yes refl
+        go false d = absurd (n (sym (r .copied (d .no refl))))
+
+    pub replaced-changed : ReplacedAt t k → getD t k 0 ≡ b → ⊥
+    replaced-changed w e = not-replaced (allowed-byte .0) (allowed-byte .1) e w
+
+  -- and there is one repair of a cell
+  pub repaired-one : {b c m n : ℕ} → RepairedAt t k b m → RepairedAt t k c n → (b ≡ c) × (m ≡ n)
+  repaired-one {b} {c} {m} {n} x y = go (isReplaced t k) replaced-decides
+    where
+      go : (z : Bool) → Decides (ReplacedAt t k) z → (b ≡ c) × (m ≡ n)
+      go true d = let w = d .yes refl in (byte-one (x .made w) (y .made w), x .marked (replaced-changed x w) ∙ sym (y .marked (replaced-changed y w)))
+      go false d = let w = d .no refl in (x .copied w ∙ sym (y .copied w), x .unmarked (sym (x .copied w)) ∙ sym (y .unmarked (sym (y .copied w))))
+
+-- ---- tallies
+
+-- where every number that has P has Q, no fewer have Q
+tally-most : {P Q : ℕ → Type 0} {m i j : ℕ} → ((k : ℕ) → k < m → P k → Q k) → Tally P m i → Tally Q m j → i ≤ j
+tally-most f none none = omega arith
+tally-most f (one p x) (one q y) = omega (arith, tally-most (λ k h. f k (omega arith)) x y)
+tally-most f (one p x) (other q y) = absurd (q (f _ (omega arith) p))
+tally-most f (other p x) (one q y) = omega (arith, tally-most (λ k h. f k (omega arith)) x y)
+tally-most f (other p x) (other q y) = tally-most (λ k h. f k (omega arith)) x y
+
+tally-nothing : {P : ℕ → Type 0} (m : ℕ) → ((k : ℕ) → k < m → P k → ⊥) → Tally P m 0
+tally-nothing zero f = none
+tally-nothing (suc m) f = other (f m (omega arith)) (tally-nothing m (λ k h. f k (omega arith)))
+
+-- the tally of the cells in which two tables differ
+pub differ-tally : (t u : List ℕ) → (n : ℕ) × Tally (DifferAt t u) 2048 n
+differ-tally t u = (_, count-tally (λ k. differ k) 2048 (λ k h. decides k))
+  where
+    differ : ℕ → Bool
+    differ k = cond (eqb (getD t k 0) (getD u k 0)) false true
+
+    decides : (k : ℕ) → Decides (DifferAt t u k) (differ k)
+    decides k = go (eqb (getD t k 0) (getD u k 0)) refl
+      where
+        go : (x : Bool) → eqb (getD t k 0) (getD u k 0) ≡ x → Decides (DifferAt t u k) (cond x false true)
+        go true e = decides-no (λ n. n (eqb-true (getD t k 0) (getD u k 0) e))
+        go false e = decides-yes (eqb-false (getD t k 0) (getD u k 0) e)
+
+-- ---- the table
+
+module _ {t rs cs a b : List ℕ} {n : ℕ} (room : 2048 ≤ length rs) (size : length t ≡ 2048) (r : Repaired t rs cs a b n) where
+  first-size : length (take 2048 a) ≡ 2048
+  first-size = rw length-take (omega (arith, r .repaired-kept .size))
+
+  first-at : (k : ℕ) → k < 2048 → getD (take 2048 a) k 0 ≡ getD a k 0
+  first-at k h = rw getD-take
+
+  pub repaired-passes : Passes (take 2048 a)
+  repaired-passes = record {
+    table = table-of (take 2048 a) first-size (λ k h w. omega (arith, first-at k h, allowed-byte t k h (r .cell k h) .0));
+    allowed = λ k h. rw (first-at k h) (allowed-byte t k h (r .cell k h) .1);
+  }
+
+  pub repaired-least : (u : List ℕ) → Passes u → (m : ℕ) → Tally (DifferAt t u) 2048 m → n ≤ m
+  repaired-least u p m y = tally-most (λ k h d e. not-replaced t k h (p .table .digits k) (p .allowed k h) e (changed-replaced t k h (r .cell k h) d)) (r .count) y
+
+  -- a table that passes is left as it is
+  passes-unchanged : Passes t → n ≡ 0
+  passes-unchanged p = let l = repaired-least t p 0 (tally-nothing 2048 (λ k h d. d refl)) in omega arith
+
+  unchanged-same : n ≡ 0 → take 2048 a ≡ t
+  unchanged-same z = ext-getD 0 (take 2048 a) t (first-size ∙ sym size) (λ k l. let h : k < 2048 = omega (arith, first-size) in first-at k h ∙ sym (equal (getD t k 0) (getD a k 0) (λ d. here k h d)))
+    where
+      here : (k : ℕ) → k < 2048 → DifferAt t a k → ⊥
+      here k h d = omega (arith, some (r .count) k h d)
+        where
+          some : {m i : ℕ} → Tally (DifferAt t a) m i → (k : ℕ) → k < m → DifferAt t a k → 0 < i
+          some none k h d = absurd (omega arith)
+          some (one p x) k h d = omega arith
+          some (other p x) k h d = ⊎-elim (λ e. absurd (p (rw (← e) d))) (λ l. some x k l d) (eq-or-lt-of-le (omega arith))
+
+  pub repaired-claim : RepairClaim t a n
+  repaired-claim = record {
+    passes = repaired-passes;
+    least = repaired-least;
+    none = (λ z. rw (unchanged-same z) at repaired-passes, passes-unchanged);
+    same = λ p. unchanged-same (passes-unchanged p);
+  }

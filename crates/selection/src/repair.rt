@@ -1,0 +1,140 @@
+// The repair of a table that was read back from a monitor.
+ghost use mathlib.Core.Path.{_≡_};
+ghost use mathlib.Core.Bool.{cond, not, _||_};
+ghost use Prim.Native.Nat.{ℕ, _+_, _*_, _≤_, _<_};
+ghost use lib.Dec.{ltb, eqb};
+ghost use lib.ListN.{length, getD};
+ghost use Rattle.laws.specs.Lists.{filled};
+ghost use Rattle.selection.specs.Refusals.{ladder};
+ghost use Rattle.selection.specs.Allowed.{isReplaced};
+ghost use Rattle.selection.specs.Maker.{Limits, stepAt};
+ghost use Rattle.selection.specs.Multiples.{RowOf, allowsBy};
+ghost use Rattle.selection.specs.Computed.{countBelow, repairedByte, changeMark, FillsRow, repairOf, repairedOf, changedOf};
+ghost use Rattle.selection.specs.Repair.{repairRungs, Repairs};
+use crate::Admission;
+use crate::Refusal;
+use crate::maker::digit_at;
+use crate::maker::limits_of;
+use crate::multiples::RowMultiples;
+use crate::multiples::allows;
+use crate::multiples::row_multiples;
+use crate::refused;
+
+// The answer, as C sees it: the refusal (0: none) and its place, and the number of changes.
+#[repr(C)]
+pub struct RepairAnswer {
+    pub refusal: Refusal,
+    pub count: u64,
+}
+
+// 1 for a byte that is to be changed: it is above 4, or its digit is not allowed. Else 0.
+fn mark_of(m: RowMultiples, c: u8, byte: u8) -> u8
+    requires { ⌜ RowOf m × (c ≤ 127) ⌝ }
+    ensures { λ r. ⌜ (r ≡ cond (ltb 4 byte || not (allowsBy m c byte)) 1 0) × (r ≤ 1) ⌝ }
+{
+    if 4 < byte {
+        return 1;
+    }
+    if allows(m, c, byte) {
+        return 0;
+    }
+    1
+}
+
+// The byte itself, or where it is marked the made digit of a row with the limits l.
+fn byte_of(l: [u8; 6], c: u8, byte: u8, mark: u8) -> u8
+    ensures { λ r. ⌜ r ≡ cond (eqb mark 0) byte (stepAt l c) ⌝ }
+{
+    if mark == 0 {
+        return byte;
+    }
+    digit_at(l, c)
+}
+
+// A row's marks, in a list that has those of the rows before it, and how many of them are 1. Marks and bytes have a loop each: one for both is compiled into
+// vectors that do not fit the registers and go to the stack.
+fn mark_row(table: &[u8], m: RowMultiples, changed: &mut [u8]) -> u8
+    requires { ⌜ (length (now table) ≡ 2048) × RowOf m × (2048 ≤ length (now changed)) ⌝ }
+    ensures { λ r. ⌜ FillsRow (changeMark (now (table .entry))) (m .row) (now (changed .entry)) (now (changed .exit)) × (r ≡ countBelow (λ c. isReplaced (now (table .entry)) (128 * m .row + c)) 128) ⌝ }
+{
+    let start = 128 * (m.row as usize);
+    let mut count: u8 = 0;
+    let mut c: usize = 0;
+    while c < 128 {
+        let mark = mark_of(m, c as u8, table[start + c]);
+        changed[start + c] = mark;
+        count += mark;
+        c += 1;
+    }
+    count
+}
+
+// A row's bytes by its marks, in a list that has those of the rows before it.
+fn byte_row(table: &[u8], row: usize, l: [u8; 6], changed: &[u8], repaired: &mut [u8])
+    requires { ⌜ (length (now table) ≡ 2048) × (row ≤ 15) × Limits row l × (2048 ≤ length (now changed)) × (2048 ≤ length (now repaired)) × ((c : ℕ) → c < 128 → getD (now changed) (128 * row + c) 0 ≡ changeMark (now table) (128 * row + c)) ⌝ }
+    ensures { λ r. ⌜ FillsRow (repairedByte (now (table .entry))) row (now (repaired .entry)) (now (repaired .exit)) ⌝ }
+{
+    let start = 128 * row;
+    let mut c: usize = 0;
+    while c < 128 {
+        repaired[start + c] = byte_of(l, c as u8, table[start + c], changed[start + c]);
+        c += 1;
+    }
+}
+
+// All rows, and the number of changes. A row's multiples and limits are worked out before its columns start.
+fn repair_rows(table: &[u8], repaired: &mut [u8], changed: &mut [u8]) -> u64
+    requires { ⌜ (length (now table) ≡ 2048) × (2048 ≤ length (now repaired)) × (2048 ≤ length (now changed)) ⌝ }
+    ensures { λ r. ⌜ (now (repaired .exit) ≡ filled (repairedByte (now (table .entry))) 2048 (now (repaired .entry))) × (now (changed .exit) ≡ filled (changeMark (now (table .entry))) 2048 (now (changed .entry))) × (r ≡ countBelow (isReplaced (now (table .entry))) 2048) ⌝ }
+{
+    let mut count: u64 = 0;
+    let mut row: usize = 0;
+    while row < 16 {
+        let m = row_multiples(row as u64);
+        let n = mark_row(table, m, changed);
+        let l = limits_of(row as u64);
+        byte_row(table, row, l, changed, repaired);
+        count += n as u64;
+        row += 1;
+    }
+    count
+}
+
+// The first refusal, by the lengths of the table and of the two lists.
+fn refusal_of(table: usize, repaired: usize, changed: usize) -> Admission
+    ensures { λ r. ⌜ r ≡ ladder (repairRungs table repaired changed) ⌝ }
+{
+    if repaired < 2048 {
+        return refused(7);
+    }
+    if changed < 2048 {
+        return refused(7);
+    }
+    if table != 2048 {
+        return refused(8);
+    }
+    Admission::Admitted
+}
+
+// A repaired table in the first 2,048 bytes of the one buffer, and in those of the other 1 for each changed cell and 0 elsewhere.
+pub fn repair_table(table: &[u8], repaired: &mut [u8], changed: &mut [u8]) -> RepairAnswer
+    ensures { λ r. ⌜ (r ≡ repairOf (now (table .entry)) (now (repaired .entry)) (now (changed .entry))) × (now (repaired .exit) ≡ repairedOf (now (table .entry)) (now (repaired .entry)) (now (changed .entry))) × (now (changed .exit) ≡ changedOf (now (table .entry)) (now (repaired .entry)) (now (changed .entry))) × (Repairs (now (table .entry)) (now (repaired .entry)) (now (changed .entry)) (now (repaired .exit)) (now (changed .exit)) r) ⌝ }
+{
+    let admission = refusal_of(table.len(), repaired.len(), changed.len());
+    match admission {
+        Admission::Refused(f) => RepairAnswer {
+            refusal: f,
+            count: 0,
+        },
+        Admission::Admitted => {
+            let count = repair_rows(table, repaired, changed);
+            RepairAnswer {
+                refusal: Refusal {
+                    number: 0,
+                    place: 0,
+                },
+                count,
+            }
+        }
+    }
+}
