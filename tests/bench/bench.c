@@ -17,6 +17,7 @@
 enum { PAIRS = 1024, ROUNDS = 600, DIFFERENCES = 4001, READINGS = 100000, WIDTH = 900 };
 
 static uint8_t table[QUENDARIC_TABLE_LENGTH], all_bad[QUENDARIC_TABLE_LENGTH], one_bad[QUENDARIC_TABLE_LENGTH], made[QUENDARIC_TABLE_LENGTH];
+static uint8_t repaired[QUENDARIC_TABLE_LENGTH], changed[QUENDARIC_TABLE_LENGTH];
 static uint64_t dividend[PAIRS], divisor[PAIRS], a[PAIRS], b[PAIRS];
 static struct { uint64_t row, column; uint8_t byte; } bad_cell[PAIRS], any_cell[PAIRS];
 static uint8_t out[40];
@@ -35,6 +36,8 @@ static uint64_t check_one(int i, uint64_t x) { (void)i; return quendaric_check_t
 static uint64_t cell_bad(int i, uint64_t x) { return quendaric_check_cell(bad_cell[i].row, bad_cell[i].column, bad_cell[i].byte).divisor ^ x; }
 static uint64_t cell_any(int i, uint64_t x) { return quendaric_check_cell(any_cell[i].row, any_cell[i].column, any_cell[i].byte).divisor ^ x; }
 static uint64_t make(int i, uint64_t x) { (void)i; return quendaric_make_table(made, sizeof made).refusal ^ x; }
+static uint64_t repair(int i, uint64_t x) { (void)i; return quendaric_repair_table(table, sizeof table, repaired, sizeof repaired, changed, sizeof changed).count ^ x; }
+static uint64_t repair_bad(int i, uint64_t x) { (void)i; return quendaric_repair_table(all_bad, sizeof all_bad, repaired, sizeof repaired, changed, sizeof changed).count ^ x; }
 static uint64_t check_plain(int i, uint64_t x) { (void)i; return (uint64_t)plain_check(table) ^ x; }
 static uint64_t b64_plain(int i, uint64_t x) { return plain_binary64(table, a[i] ^ (x & 255), b[i], 0).pattern; }
 static uint64_t b64_ahead(int i, uint64_t x) { return ahead_binary64(table, a[i] ^ (x & 255), b[i], 0).pattern; }
@@ -89,6 +92,8 @@ static measure measures[] = {
     {"cell-bad", "unit, single cells that are bad", cell_bad, PAIRS, 0, 0},
     {"cell-any", "unit, single cells", cell_any, PAIRS, 0, 0},
     {"make", "unit, the made table", make, 32, 0, 0},
+    {"repair", "unit, repair of a passing table", repair, 32, 0, 0},
+    {"repair-bad", "unit, repair of a table whose cells with points are all bad", repair_bad, 32, 0, 0},
     {"check-plain", "C, count of bad cells, 128-bit numbers", check_plain, 8, 0, 0},
     {"b64-plain", "C, binary64 over the documents' recurrence", b64_plain, PAIRS, 0, 0},
     {"b64-ahead", "C, binary64 over the fast algorithm", b64_ahead, PAIRS, 0, 0},
@@ -230,6 +235,7 @@ static int agree(void) {
   differ += run.refusal != 0 || run.count != PAIRS;
   for (int i = 0; i < PAIRS; i++)
     differ += list[i] != quendaric_divide_binary64_kept(a[i], b[i], 0).pattern;
+  differ += quendaric_repair_table(all_bad, sizeof all_bad, repaired, sizeof repaired, changed, sizeof changed).refusal != 0 || memcmp(repaired, table, sizeof table) != 0;
   differ += plain_check(table) != 0 || quendaric_check_table(table, sizeof table).refusal != 0;
   return differ;
 }
@@ -248,8 +254,8 @@ static double timed(measure *m, int chained) {
   return t;
 }
 
-/* A check, a cell and the maker have no operand that could come from the last answer. */
-static int chains(const measure *m) { return strncmp(m->name, "check", 5) && strncmp(m->name, "cell", 4) && strcmp(m->name, "make"); }
+/* A check, a cell, the maker and a repair have no operand that could come from the last answer. */
+static int chains(const measure *m) { return strncmp(m->name, "check", 5) && strncmp(m->name, "cell", 4) && strcmp(m->name, "make") && strncmp(m->name, "repair", 6); }
 
 static void keep(double *best, double t) {
   if (*best == 0 || t < *best)
@@ -442,6 +448,8 @@ int main(int argc, char **argv) {
   ratio("check, one bad cell, the last / passing", "check-one", "check", 2.5);
   ratio("the made table / kept run", "make", "run-kept", 0);
   ratio("packed / the same whole numbers", "packed", "whole-sixteen", 0);
+  ratio("repair of a passing table / its check", "repair", "check", 0);
+  ratio("repair, every cell with a point bad / its check", "repair-bad", "check-bad", 0);
   ratio("binary64 root / the same algorithm in C", "root", "root-digit", 1.0);
   ratio("binary64 root / two digits a step in C", "root", "root-pair", 0);
   ratio("binary64 root / kept binary64", "root", "b64-kept", 1.1);

@@ -102,6 +102,14 @@ pub struct Averages {
 
 #[repr(C)]
 #[derive(Clone, Copy, Debug, Default, PartialEq, Eq)]
+pub struct Repair {
+    pub refusal: u64,
+    pub place: u64,
+    pub count: u64,
+}
+
+#[repr(C)]
+#[derive(Clone, Copy, Debug, Default, PartialEq, Eq)]
 pub struct Packed {
     pub refusal: u64,
     pub place: u64,
@@ -157,6 +165,14 @@ extern "C" {
         remainders: *mut u64,
         remainders_length: usize,
     ) -> Averages;
+    fn quendaric_repair_table(
+        table: *const u8,
+        table_length: usize,
+        repaired: *mut u8,
+        repaired_length: usize,
+        changed: *mut u8,
+        changed_length: usize,
+    ) -> Repair;
     fn quendaric_divide_packed(dividend: *const u8, divisor: *const u8) -> Packed;
     fn quendaric_root_whole(a: u64) -> Root;
     fn quendaric_root_binary64(a: u64, direction: u64) -> Binary64;
@@ -184,6 +200,12 @@ pub fn row_limits(row: u64) -> Limits {
 
 pub fn make_table(buffer: &mut [u8]) -> Make {
     unsafe { quendaric_make_table(buffer.as_mut_ptr(), buffer.len()) }
+}
+
+pub fn repair_table(table: &[u8], repaired: &mut [u8], changed: &mut [u8]) -> Repair {
+    let (r, r_length) = (repaired.as_mut_ptr(), repaired.len());
+    let (c, c_length) = (changed.as_mut_ptr(), changed.len());
+    lend(table, |t, length| unsafe { quendaric_repair_table(t, length, r, r_length, c, c_length) })
 }
 
 /// Through a lent table, or through the kept one.
