@@ -27,6 +27,9 @@
 #error "libquendaric.a is for x86-64 with System V calls and a 64-bit size_t, and for no other target"
 #endif
 
+#ifndef __cplusplus
+#include <stdbool.h>
+#endif
 #include <stddef.h>
 #include <stdint.h>
 #if __STDC_HOSTED__
@@ -52,9 +55,9 @@ extern "C" {
 #endif
 
 /* The version of these calls; CHANGELOG.md tells what changed. */
-#define QUENDARIC_VERSION "1.9.0"
-#define QUENDARIC_VERSION_MAJOR 1
-#define QUENDARIC_VERSION_MINOR 9
+#define QUENDARIC_VERSION "2.0.0"
+#define QUENDARIC_VERSION_MAJOR 2
+#define QUENDARIC_VERSION_MINOR 0
 #define QUENDARIC_VERSION_PATCH 0
 
 #define QUENDARIC_TABLE_LENGTH 2048
@@ -284,15 +287,19 @@ quendaric_samples quendaric_divide_samples(const uint8_t *table, size_t table_le
                                            size_t concentrations_length, uint64_t direction);
 
 /* The averages of a sliding window over readings in parts per billion, each below 2^40: for every full window of width
-   readings the mean, rounded down, and what is left over. For the window that begins at readings[j],
-   means[j] * width + remainders[j] = readings[j] + .. + readings[j + width - 1], with remainders[j] < width.
+   readings the mean, rounded down, and what is left over: means[j] * width + remainders[j] is the sum of its readings,
+   with remainders[j] < width. newest_first tells the order of the readings, and the oldest window always comes first:
+   where it is false, window j begins at readings[j]; where it is true, it ends at readings[readings_length - 1 - j].
    j runs from 0 to readings_length - width; what a longer list holds beyond that is kept. With a reading a second, the
-   fifteen-minute averages have the width 900. Divides through the kept table. Refuses 12, 13, 7, in
-   this order. */
+   fifteen-minute averages have the width 900. Divides through the kept table. Refuses 12, 13, 7, in this order and in
+   either direction; the place of 13 is counted in the list as handed in.
+   Pass true or false for newest_first, no other value. C and C++ make one of the two of any number given for a bool; a
+   byte other than 0 and 1 comes in only from another language or through memory. No proof speaks of such a byte. This
+   archive reads it by its lowest bit: an even one as false, an odd one as true. */
 QUENDARIC_ANSWER
 quendaric_averages quendaric_average_windows(const uint64_t *readings, size_t readings_length, size_t width,
-                                             uint64_t *means, size_t means_length, uint64_t *remainders,
-                                             size_t remainders_length);
+                                             bool newest_first, uint64_t *means, size_t means_length,
+                                             uint64_t *remainders, size_t remainders_length);
 
 /* Packed decimal: sixteen digits in eight bytes, two a byte, the higher in the high four bits, the first byte highest.
    Each operand is exactly eight bytes: both pointers are valid for eight bytes, at any address, and never NULL; they may

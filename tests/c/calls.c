@@ -226,8 +226,11 @@ static void samples(uint8_t *table) {
 enum { SECONDS = 1800, QUARTER = 900, WINDOWS = SECONDS - QUARTER + 1 };
 static uint64_t readings[SECONDS], means[WINDOWS + 1], remainders[WINDOWS + 1];
 
+static quendaric_averages averaged_in(bool newest_first, size_t width, size_t room, size_t other) {
+  return quendaric_average_windows(readings, SECONDS, width, newest_first, means, room, remainders, other);
+}
 static quendaric_averages averaged(size_t width, size_t room, size_t other) {
-  return quendaric_average_windows(readings, SECONDS, width, means, room, remainders, other);
+  return averaged_in(false, width, room, other);
 }
 
 static void averages(void) {
@@ -243,7 +246,7 @@ static void averages(void) {
   SAME(averaged(0, 0, 0).refusal, QUENDARIC_REFUSED_WIDTH);
   SAME(averaged(SECONDS + 1, WINDOWS, WINDOWS).refusal, QUENDARIC_REFUSED_WIDTH);
   SAME(averaged(QUENDARIC_WIDEST_WINDOW + 1, WINDOWS, WINDOWS).refusal, QUENDARIC_REFUSED_WIDTH);
-  SAME(quendaric_average_windows(NULL, 0, 1, NULL, 0, NULL, 0).refusal, QUENDARIC_REFUSED_WIDTH);
+  SAME(quendaric_average_windows(NULL, 0, 1, true, NULL, 0, NULL, 0).refusal, QUENDARIC_REFUSED_WIDTH);
   SAME(means[0] == untouched && remainders[0] == untouched, 1);
   readings[1790] = 1000;
   quendaric_averages answer = averaged(QUARTER, WINDOWS + 1, WINDOWS + 1);
@@ -259,6 +262,23 @@ static void averages(void) {
   SAME(remainders[900], 0);
   SAME(means[WINDOWS], untouched);
   SAME(remainders[WINDOWS], untouched);
+  /* with the newest reading first the oldest window is the list's last; the lists just fit */
+  SAME(averaged_in(true, QUARTER, WINDOWS, WINDOWS).refusal, 0);
+  SAME(means[0], 1000);
+  SAME(remainders[0], 0);
+  SAME(means[299], 7312);
+  SAME(remainders[299], 499);
+  SAME(means[300], 7333);
+  SAME(means[900], 7333);
+  SAME(remainders[900], 600);
+  /* the refusals are the same, and the place is that in the list as handed in */
+  SAME(averaged_in(true, QUARTER, WINDOWS - 1, WINDOWS).refusal, QUENDARIC_REFUSED_ROOM);
+  SAME(averaged_in(true, QUARTER, WINDOWS, WINDOWS - 1).refusal, QUENDARIC_REFUSED_ROOM);
+  SAME(averaged_in(true, SECONDS + 1, 0, 0).refusal, QUENDARIC_REFUSED_WIDTH);
+  readings[1] = readings[1797] = (uint64_t)1 << 40;
+  SAME(averaged_in(true, QUARTER, 0, 0).refusal, QUENDARIC_REFUSED_READING);
+  SAME(averaged_in(true, QUARTER, 0, 0).place, 1);
+  SAME(means[0] == 1000 && remainders[299] == 499, 1);
 }
 
 /* A repair that is refused: number, place and zero beside them. */

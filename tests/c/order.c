@@ -64,7 +64,7 @@ static void divide_samples(const uint64_t *x, reply *y) {
 }
 /* Both lists have one length: of two, no answer tells which is whose. */
 static void average_windows(const uint64_t *x, reply *y) {
-  REPLY(y, quendaric_average_windows(readings, x[0], x[1], y->word + 2, x[2], y->word + 7, x[2]));
+  REPLY(y, quendaric_average_windows(readings, x[0], x[1], x[2] != 0, y->word + 2, x[3], y->word + 7, x[3]));
 }
 /* The last byte of each operand is given, all others are 0. */
 static void divide_packed(const uint64_t *x, reply *y) {
@@ -129,8 +129,8 @@ static const struct {
      5,
      {2048, 1, 1, 2, 3},
      {{0, 0, 1, 1}, {0x55, 0x55, 0x55, 0x55, 0x55, 0x55, 0xD5, 0x3F}}},
-    /* number of readings, width, length of the lists: 101 and 142 by 4 */
-    {"average_windows", average_windows, 3, {5, 4, 3}, {{0, 0, 25, 35, 0, 0, 0, 1, 2}, {0}}},
+    /* number of readings, width, newest first, length of the lists: 142 and 101 by 4 */
+    {"average_windows", average_windows, 4, {5, 4, 1, 3}, {{0, 0, 35, 25, 0, 0, 0, 2, 1}, {0}}},
     /* 98 by 15: the last bytes of the two are the highest of their words here */
     {"divide_packed", divide_packed, 2, {0x98, 0x15}, {{0, 0, 0x06ull << 56, 0x08ull << 56}, {0}}},
     /* length of the table, length of the buffers */

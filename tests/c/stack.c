@@ -44,7 +44,7 @@ static void call(void) {
   case 8: sink = quendaric_divide_binary64(table, size, a, b, a % 4).pattern; break;
   case 9: sink = quendaric_divide_binary64_kept(a, b, a % 4).pattern; break;
   case 10: sink = quendaric_divide_samples(table, size, &a, 1, &b, 1, &concentration, 1, a % 4).flags; break;
-  case 11: sink = quendaric_average_windows(readings, 8, 1 + a % 8, means, 8, remainders, 8).refusal; break;
+  case 11: sink = quendaric_average_windows(readings, 8, 1 + a % 8, a % 16 > 7, means, 8, remainders, 8).refusal; break;
   case 12: sink = quendaric_root_whole(x).root; break;
   case 13: sink = quendaric_step(dividend, 0, divisor, table, size).sum; break;
   case 14: sink = quendaric_divide_packed(digit, digit + 8).quotient[0]; break;

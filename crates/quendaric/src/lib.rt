@@ -155,17 +155,18 @@ pub extern "C" fn quendaric_repair_table(
     selection::repair::repair_table(table, repaired, changed)
 }
 
-// Mean and remainder of every full window of so many readings, into two lists.
+// Mean and remainder of every full window of so many readings, the oldest window first, into two lists. The readings come oldest or newest first.
 #[no_mangle]
 pub extern "C" fn quendaric_average_windows(
     readings: &[u64],
     width: usize,
+    newest_first: bool,
     means: &mut [u64],
     remainders: &mut [u64],
 ) -> Refusal
-    ensures { λ r. ⌜ (r ≡ averagesOf (now (readings .entry)) width (now (means .entry)) (now (remainders .entry))) × (now (means .exit) ≡ meansOf (now (readings .entry)) width (now (means .entry)) (now (remainders .entry))) × (now (remainders .exit) ≡ remaindersOf (now (readings .entry)) width (now (means .entry)) (now (remainders .entry))) ⌝ }
+    ensures { λ r. ⌜ (r ≡ averagesOf (now (readings .entry)) width (now (means .entry)) (now (remainders .entry))) × (now (means .exit) ≡ meansOf (now (readings .entry)) width «newest_first» (now (means .entry)) (now (remainders .entry))) × (now (remainders .exit) ≡ remaindersOf (now (readings .entry)) width «newest_first» (now (means .entry)) (now (remainders .entry))) ⌝ }
 {
-    exposure::average_windows(readings, width, means, remainders)
+    exposure::average_windows(readings, width, newest_first, means, remainders)
 }
 
 // Packed decimal numbers, eight bytes each, over the kept table.
