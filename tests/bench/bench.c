@@ -187,8 +187,8 @@ static void prepare(void) {
   }
 }
 
-static void averages(size_t length, size_t width) {
-  sink = quendaric_average_windows(readings, length, width, means, READINGS, remainders, READINGS).refusal;
+static void averages(size_t length, size_t width, bool newest_first) {
+  sink = quendaric_average_windows(readings, length, width, newest_first, means, READINGS, remainders, READINGS).refusal;
 }
 
 /* Every way gives the same answers before any is timed. */
@@ -227,9 +227,12 @@ static int agree(void) {
 #endif
   }
   static uint64_t other_means[READINGS], other_remainders[READINGS];
-  averages(READINGS, WIDTH);
+  averages(READINGS, WIDTH, false);
   plain_averages(readings, READINGS, WIDTH, other_means, other_remainders);
   differ += memcmp(means, other_means, sizeof means) != 0 || memcmp(remainders, other_remainders, sizeof means) != 0;
+  averages(READINGS, WIDTH, true);
+  for (int j = 0; j <= READINGS - WIDTH; j++)
+    differ += means[j] != other_means[READINGS - WIDTH - j] || remainders[j] != other_remainders[READINGS - WIDTH - j];
   static uint64_t list[PAIRS];
   quendaric_samples run = quendaric_divide_samples(table, sizeof table, a, PAIRS, b, PAIRS, list, PAIRS, 0);
   differ += run.refusal != 0 || run.count != PAIRS;
@@ -372,18 +375,21 @@ static void samples(void) {
 /* A single division of a window's sum: what the averages spend on each window. */
 static uint64_t window_alone(int i) { return quendaric_divide_whole_kept(WIDTH * readings[i] + (uint64_t)i, WIDTH).quotient; }
 
-/* Time a window, best of rounds: beside the same loop in C and beside a single division, and over widths and lengths. */
+/* Time a window, best of rounds: in both directions, beside the same loop in C and beside a single division, and over
+   widths and lengths. */
 static void averages_time(void) {
   static const struct {
     size_t width, length;
-  } shape[] = {{WIDTH, READINGS}, {1, READINGS},   {2, READINGS},   {30, READINGS},
-               {4096, READINGS},  {WIDTH, 1000}, {WIDTH, 10000}, {WIDTH, 50000}};
+    bool newest_first;
+  } shape[] = {{WIDTH, READINGS, false}, {WIDTH, READINGS, true}, {1, READINGS, false},
+               {2, READINGS, false},     {30, READINGS, false},   {4096, READINGS, false},
+               {WIDTH, 1000, false},     {WIDTH, 10000, false},   {WIDTH, 50000, false}};
   enum { SHAPES = sizeof shape / sizeof *shape };
   double best[SHAPES] = {0}, plain = 0, alone = 0;
   for (int round = 0; round < ROUNDS / 20; round++) {
     for (int k = 0; k < SHAPES; k++) {
       double start = now();
-      averages(shape[k].length, shape[k].width);
+      averages(shape[k].length, shape[k].width, shape[k].newest_first);
       keep(&best[k], (now() - start) / (double)(shape[k].length - shape[k].width + 1));
     }
     double start = now();
@@ -396,17 +402,19 @@ static void averages_time(void) {
   }
   printf("\n%-58s %7s\n", "averages, best of rounds", "ns");
   for (int k = 0; k < SHAPES; k++)
-    printf("unit, a window, width %4zu over %6zu readings %17.1f\n", shape[k].width, shape[k].length, best[k]);
+    printf("unit, a window, width %4zu, %6zu readings, %s first %8.1f\n", shape[k].width, shape[k].length,
+           shape[k].newest_first ? "newest" : "oldest", best[k]);
   printf("%-58s %7.1f\n", "C with the machine's division, a window, width 900", plain);
   printf("%-58s %7.1f\n", "unit, a kept whole number by 900", alone);
   printf("%-58s %7.2f\n", "a window / a kept whole number by 900", best[0] / alone);
   printf("%-58s %7.2f\n", "a window / the same loop in C", best[0] / plain);
+  printf("%-58s %7.2f\n", "a window, newest first / oldest first", best[1] / best[0]);
 }
 
 int main(int argc, char **argv) {
   prepare();
   if (argc == 3 && !strcmp(argv[1], "windows")) {
-    averages((size_t)atoi(argv[2]) + WIDTH - 1, WIDTH);
+    averages((size_t)atoi(argv[2]) + WIDTH - 1, WIDTH, false);
     return sink != 0;
   }
   if (argc == 3) {

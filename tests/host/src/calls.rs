@@ -160,6 +160,7 @@ extern "C" {
         readings: *const u64,
         readings_length: usize,
         width: usize,
+        newest_first: bool,
         means: *mut u64,
         means_length: usize,
         remainders: *mut u64,
@@ -254,10 +255,18 @@ pub fn divide_samples(
     })
 }
 
-pub fn average_windows(readings: &[u64], width: usize, means: &mut [u64], remainders: &mut [u64]) -> Averages {
+pub fn average_windows(
+    readings: &[u64],
+    width: usize,
+    newest_first: bool,
+    means: &mut [u64],
+    remainders: &mut [u64],
+) -> Averages {
     let (m, m_length) = (means.as_mut_ptr(), means.len());
     let (r, r_length) = (remainders.as_mut_ptr(), remainders.len());
-    lend(readings, |list, length| unsafe { quendaric_average_windows(list, length, width, m, m_length, r, r_length) })
+    lend(readings, |list, length| unsafe {
+        quendaric_average_windows(list, length, width, newest_first, m, m_length, r, r_length)
+    })
 }
 
 pub fn divide_packed(dividend: &[u8; 8], divisor: &[u8; 8]) -> Packed {
