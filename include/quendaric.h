@@ -8,13 +8,13 @@
    Every call ends, and answers by value. The first two fields of an answer are the refusal (0: none) and its place.
    Where a call refuses, every other field is 0 (but see quendaric_check_table) and every lent buffer is unchanged.
    Look at the refusal first: zeros beside a refusal are no answer, and some of them look like one.
-   Where several refusals apply, the first of them in the order 1 to 3, 14, 15, 4 to 6, 11 to 13, 7 to 10 is given. The
-   place is 0 except for 9, 10, 13 and 15.
+   Where several refusals apply, the first of them in the order 1, 2, 16, 3, 14, 15, 4 to 6, 11 to 13, 7 to 10 is given.
+   The place is 0 except for 9, 10, 13 and 15.
 
    A pointer must be valid for its length; with length 0 it is not read and may be NULL. Tables and buffers of bytes may
-   be at any address, lists of uint64_t are aligned as such. What a call writes must overlap nothing else that is lent to
-   it. No call keeps a pointer, allocates memory, or has state of its own, so all of them are reentrant and may be called from
-   any thread.
+   be at any address, lists of uint32_t and of uint64_t are aligned as such. What a call writes must overlap nothing else
+   that is lent to it. No call keeps a pointer, allocates memory, or has state of its own, so all of them are reentrant and
+   may be called from any thread.
 
    The archive is for x86-64: the System V calling convention, a size_t of 64 bits. The calls use vector registers, and
    of the stack at most QUENDARIC_STACK bytes below the caller's. (Not proved: 512 were measured on the archive, the rest
@@ -55,9 +55,9 @@ extern "C" {
 #endif
 
 /* The version of these calls; CHANGELOG.md tells what changed. */
-#define QUENDARIC_VERSION "2.0.0"
+#define QUENDARIC_VERSION "2.1.0"
 #define QUENDARIC_VERSION_MAJOR 2
-#define QUENDARIC_VERSION_MINOR 0
+#define QUENDARIC_VERSION_MINOR 1
 #define QUENDARIC_VERSION_PATCH 0
 
 #define QUENDARIC_TABLE_LENGTH 2048
@@ -81,6 +81,7 @@ extern "C" {
 #define QUENDARIC_REFUSED_READING 13  /* a reading of 2^40 or more; the place is the first such index */
 #define QUENDARIC_REFUSED_RANGE 14    /* three times the remainder of a step is below -8 or above 8 divisors */
 #define QUENDARIC_REFUSED_DECIMAL 15  /* a half byte above 9; the place is the first such byte */
+#define QUENDARIC_REFUSED_BITS 16     /* number of significant bits 0 or above 6 */
 
 /* Rounding directions of binary64. */
 #define QUENDARIC_NEAREST 0 /* to nearest, ties to even */
@@ -205,6 +206,12 @@ typedef struct {
   uint64_t count;
 } quendaric_repaired;
 
+/* Beside a refusal nothing was written: what the list holds are no visits. */
+typedef struct {
+  uint64_t refusal;
+  uint64_t place;
+} quendaric_visits;
+
 /* Examines a single cell: is the digit byte - 2 allowed in it? A digit that is not allowed is an ordinary answer, not
    a refusal. Refuses 1; 9 with place 128 * row + column. */
 QUENDARIC_ANSWER
@@ -307,6 +314,15 @@ quendaric_averages quendaric_average_windows(const uint64_t *readings, size_t re
    with the place counted through the dividend (0 to 7) and then the divisor (8 to 15); then 5. */
 QUENDARIC_ANSWER
 quendaric_packed quendaric_divide_packed(const uint8_t dividend[8], const uint8_t divisor[8]);
+
+/* How often each cell is met. Takes all 4^(bits - 1) pairs of operands of so many significant bits, 1 to 6, both with a
+   leading one, which is placed at bit 60, and runs 1 to 28 digits of each through the table: visits[128 * row + column] is
+   how many of all these digits were taken at that cell. The first 2,048 numbers are written, and they add up to
+   digits * 4^(bits - 1); later ones keep their contents. Checks the table once. Refuses 2, 16, 7, 8, 9, 10, in this
+   order. */
+QUENDARIC_ANSWER
+quendaric_visits quendaric_count_visits(const uint8_t *table, size_t table_length, uint64_t bits, size_t digits,
+                                        uint32_t *visits, size_t visits_length);
 
 /* The whole root of a below 2^60: root * root <= a < (root + 1) * (root + 1). Uses no table. Refuses 4. */
 QUENDARIC_ANSWER

@@ -9,6 +9,14 @@ for table in kept pentium-1994; do
     "$root/target/bin/plot" <"$root/tables/$table.table" >"$work/found"
     same "$table" "$root/docs/$table.svg"
 done
+"$root/target/bin/plot" visits <"$kept" >"$work/found"
+same 'the visits of the kept table' "$root/docs/visits.svg"
+"$root/target/bin/plot" visits <"$pentium" >"$work/found"
+printf 'refusal place\n10 215\n' >"$work/expected"
+same 'the visits of a table with a bad cell' "$work/expected"
+"$root/target/bin/plot" digits <"$kept" >"$work/found" 2>&1
+echo 'plot: there is one argument, visits' >"$work/expected"
+same 'another argument' "$work/expected"
 refuses plot
 unread plot
 loses plot "$pentium"
@@ -21,4 +29,4 @@ cat "$work/said" >>"$work/found"
 { head -c $((blocks * 512)) "$root/docs/pentium-1994.svg"; echo 'plot: not all was written'; } >"$work/expected"
 same 'a picture cut short' "$work/expected"
 
-ends plot 11
+ends plot 14

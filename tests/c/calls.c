@@ -317,6 +317,34 @@ static void repairs(const uint8_t *kept) {
   SAME(memcmp(repaired, kept, size), 0);
 }
 
+static void visits(const uint8_t *kept) {
+  static uint32_t counts[QUENDARIC_TABLE_LENGTH + 1];
+  const size_t size = QUENDARIC_TABLE_LENGTH;
+  uint64_t total = 0;
+  counts[0] = counts[size] = untouched;
+  SAME(quendaric_count_visits(kept, size, 7, 0, counts, size).refusal, QUENDARIC_REFUSED_DIGITS);
+  SAME(quendaric_count_visits(kept, size, 1, QUENDARIC_MOST_DIGITS + 1, counts, size).refusal, QUENDARIC_REFUSED_DIGITS);
+  SAME(quendaric_count_visits(kept, size, 0, 1, counts, 0).refusal, QUENDARIC_REFUSED_BITS);
+  SAME(quendaric_count_visits(kept, size, 7, 1, counts, 0).refusal, QUENDARIC_REFUSED_BITS);
+  SAME(quendaric_count_visits(NULL, 0, 1, 1, NULL, 0).refusal, QUENDARIC_REFUSED_ROOM);
+  SAME(quendaric_count_visits(kept, size, 1, 1, counts, size - 1).refusal, QUENDARIC_REFUSED_ROOM);
+  SAME(quendaric_count_visits(kept, size - 1, 1, 1, counts, size).refusal, QUENDARIC_REFUSED_LENGTH);
+  SAME(counts[0], untouched);
+  SAME(quendaric_count_visits(kept, size, 6, QUENDARIC_MOST_DIGITS, counts, size).refusal, 0);
+  SAME(counts[63], 562);
+  quendaric_visits answer = quendaric_count_visits(kept, size, 2, 3, counts, size + 1);
+  SAME(answer.refusal, 0);
+  SAME(answer.place, 0);
+  for (size_t i = 0; i < size; i++)
+    total += counts[i];
+  SAME(total, 12);
+  SAME(counts[63], 3);
+  SAME(counts[1071], 2);
+  SAME(counts[1087], 2);
+  SAME(counts[0], 0);
+  SAME(counts[size], untouched);
+}
+
 static void roots(void) {
   quendaric_root whole = quendaric_root_whole(one - 1);
   SAME(whole.refusal, 0);
@@ -378,6 +406,7 @@ int main(void) {
   runs(table);
   steps(table);
   repairs(table);
+  visits(table);
   refused_runs(table);
   nothing_lent(table);
   divisions(table);

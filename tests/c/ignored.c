@@ -2,9 +2,9 @@
 
 #include "quendaric.h"
 
-void ignored(const uint8_t *table, uint8_t *buffer, uint64_t *words);
+void ignored(const uint8_t *table, uint8_t *buffer, uint64_t *words, uint32_t *numbers);
 
-void ignored(const uint8_t *table, uint8_t *buffer, uint64_t *words) {
+void ignored(const uint8_t *table, uint8_t *buffer, uint64_t *words, uint32_t *numbers) {
   quendaric_check_cell(0, 0, 2);
   quendaric_check_table(table, 2048);
   quendaric_row_limits(0);
@@ -20,6 +20,7 @@ void ignored(const uint8_t *table, uint8_t *buffer, uint64_t *words) {
   quendaric_average_windows(words, 1, 1, false, words + 1, 1, words + 2, 1);
   quendaric_divide_packed(table, buffer);
   quendaric_repair_table(table, 2048, buffer, 2048, buffer + 2048, 2048);
+  quendaric_count_visits(table, 2048, 1, 28, numbers, 2048);
   quendaric_root_whole(1);
   quendaric_root_binary64(1, QUENDARIC_NEAREST);
 }

@@ -44,6 +44,9 @@ SIZE(quendaric_repaired, 24);
 REFUSAL(quendaric_averages);
 SIZE(quendaric_averages, 16);
 
+REFUSAL(quendaric_visits);
+SIZE(quendaric_visits, 16);
+
 REFUSAL(quendaric_ran);
 FIELD(quendaric_ran, quotient, 16, 8);
 FIELD(quendaric_ran, remainder, 24, 8);

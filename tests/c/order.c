@@ -84,6 +84,16 @@ static void repair_table(const uint64_t *x, reply *y) {
   memcpy(y->buffer, repaired + 214, 4);
   memcpy(y->buffer + 4, changed + 214, 4);
 }
+/* Of the 2,048 numbers those at 63, 72, 76 and 47 follow the answer. */
+static void count_visits(const uint64_t *x, reply *y) {
+  static uint32_t visits[QUENDARIC_TABLE_LENGTH + 1];
+  memset(visits, 0, sizeof visits);
+  REPLY(y, quendaric_count_visits(table, x[0], x[1], x[2], visits, x[3]));
+  y->word[2] = visits[63];
+  y->word[3] = visits[72];
+  y->word[4] = visits[76];
+  y->word[5] = visits[47];
+}
 static void root_whole(const uint64_t *x, reply *y) { REPLY(y, quendaric_root_whole(x[0])); }
 static void root_binary64(const uint64_t *x, reply *y) { REPLY(y, quendaric_root_binary64(x[0], x[1])); }
 
@@ -135,6 +145,8 @@ static const struct {
     {"divide_packed", divide_packed, 2, {0x98, 0x15}, {{0, 0, 0x06ull << 56, 0x08ull << 56}, {0}}},
     /* length of the table, length of the buffers */
     {"repair_table", repair_table, 2, {2048, 2050}, {{0, 0, 1}, {4, 4, 2, 2, 0, 1, 0, 0}}},
+    /* table length, bits, digits, length of the list */
+    {"count_visits", count_visits, 4, {2048, 2, 3, 2049}, {{0, 0, 3, 1, 1, 1}, {0}}},
     {"root_whole", root_whole, 1, {4195835}, {{0, 0, 2048, 1531}, {0}}},
     /* a, direction: the root of 3 upward */
     {"root_binary64", root_binary64, 2, {THREE, 2}, {{0, 0, 0x3FFBB67AE8584CABull, 1}, {0}}},

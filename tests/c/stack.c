@@ -6,11 +6,12 @@
 #include <stdio.h>
 #include <string.h>
 
-enum { CALLS = 17, TURNS = 1000, PAINT = 0xA5 };
+enum { CALLS = 18, TURNS = 1000, PAINT = 0xA5 };
 
 static uint8_t stack[8192] __attribute__((aligned(64)));
 static uint8_t table[QUENDARIC_TABLE_LENGTH], buffer[QUENDARIC_MOST_DIGITS];
 static uint8_t read_back[QUENDARIC_TABLE_LENGTH], repaired[QUENDARIC_TABLE_LENGTH], changed[QUENDARIC_TABLE_LENGTH];
+static uint32_t visits[QUENDARIC_TABLE_LENGTH];
 static uint64_t readings[8], means[8], remainders[8];
 static uint8_t digit[16]; /* two decimals of two numbers each */
 static uint8_t *pointer; /* the caller's stack pointer */
@@ -49,6 +50,7 @@ static void call(void) {
   case 13: sink = quendaric_step(dividend, 0, divisor, table, size).sum; break;
   case 14: sink = quendaric_divide_packed(digit, digit + 8).quotient[0]; break;
   case 15: sink = quendaric_repair_table(read_back, size, repaired, size, changed, size).count; break;
+  case 16: sink = quendaric_count_visits(table, size, 1 + a % 2, digits, visits, size).refusal; break;
   default: sink = quendaric_root_binary64(a >> 1, b % 4).pattern; break;
   }
 }

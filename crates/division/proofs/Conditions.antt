@@ -16,6 +16,7 @@ use Rattle.recurrence.specs.Run.{mostDigits, runRungs, runZeros, runValues, run
 use Rattle.recurrence.specs.Step.{stepZeros, stepValues, stepOf}
 use Rattle.recurrence.specs.declared.step.StepAnswer.{StepAnswer}
 use Rattle.recurrence.proofs.StepRange.{in-span, by-divisor, by-range}
+use Rattle.recurrence.proofs.VisitCounts.{digits-refused, bits-refused, list-refused}
 use Rattle.division.specs.Whole.{wholeRungs, wholeZeros, wholeValues, wholeOf}
 use Rattle.division.specs.WholeSteps.{wholeThrough}
 use Rattle.division.specs.Binary64.{binary64Rungs, binary64Zeros, binary64Values, binary64Of}
@@ -135,6 +136,9 @@ conditions = record {
   buffer = buffer;
   step-divisor = step-divisor;
   step-range = step-range;
+  visits-digits = digits-refused;
+  visits-bits = bits-refused;
+  visits-room = list-refused;
   large = large;
   by-zero = by-zero;
   direction = λ t d a b. direction t a b d;

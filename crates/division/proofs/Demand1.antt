@@ -21,6 +21,7 @@ use Rattle.recurrence.specs.Run.{runRungs, written, runZeros, runValues}
 use Rattle.recurrence.specs.Step.{stepZeros, stepValues}
 use Rattle.recurrence.proofs.Refusals.{run-ladder, run-lent}
 use Rattle.recurrence.proofs.StepRange.{step-lent}
+use Rattle.recurrence.proofs.VisitCounts.{visits-right}
 use Rattle.division.specs.Whole.{wholeRungs, wholeZeros, wholeValues}
 use Rattle.division.specs.WholeSteps.{wholeThrough}
 use Rattle.division.specs.Binary64.{binary64Rungs, binary64Zeros, binary64Values}
@@ -87,6 +88,10 @@ rank-15 : rank 15 < rank 5
 unfolding rank
 rank-15 = lit< tt
 
+rank-16 : (rank 2 < rank 16) × (rank 16 < rank 7)
+unfolding rank
+rank-16 = (lit< tt, lit< tt)
+
 pub demand-1 : Demand1
 demand-1 =
     record {
@@ -95,6 +100,7 @@ demand-1 =
       order-11 = rank-11;
       order-14 = rank-14;
       order-15 = rank-15;
+      order-16 = rank-16;
       conditions = conditions;
       check-cell = cell-refuses;
       row-limits = λ r. limits-told r refl .1 .refuses;
@@ -106,6 +112,8 @@ demand-1 =
       admit = λ t. refused-by (table-ladder t);
       run = λ t N D n b place. run-refuses N D n b place t (run-lent N D n (length b) place t) refl;
       step = λ s k D t. refuses (step-lent s k D t) (λ x. x .refusal) stepZeros (stepValues (nextOf t (stateFrom s k D))) refl (λ f. refl) refl;
+      visits = λ t k n v. visits-right t k n v .refuses;
+      visits-list = λ t k n v. visits-right t k n v .keeps;
       whole = λ t a b. refuses (whole-lent a b t) (λ x. x .refusal) wholeZeros (wholeValues (wholeThrough t a b)) refl (λ f. refl) refl;
       binary64 = λ t direction a b. refuses (binary64-lent direction t) (λ x. x .refusal) binary64Zeros (binary64Values (binary64Through t direction a b)) refl (λ f. refl) refl;
       samples = λ t direction currents sensitivities given.

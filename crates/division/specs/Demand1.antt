@@ -20,6 +20,7 @@ use Rattle.recurrence.specs.Recurrence.{Operands}
 use Rattle.selection.specs.Word.{signed}
 use Rattle.recurrence.specs.Run.{runRungs, runZeros, runOf, bufferOf}
 use Rattle.recurrence.specs.Step.{stepRungs, stepZeros, stepOf}
+use Rattle.recurrence.specs.Visits.{visitsRungs, visitsAnswer, visitsLeft}
 use Rattle.division.specs.Whole.{wholeRungs, wholeZeros, wholeOf}
 use Rattle.division.specs.Binary64.{binary64Rungs, binary64Zeros, binary64Of}
 use Rattle.division.specs.Samples.{samplesRungs, samplesZeros, samplesOf, concentrationsOf}
@@ -62,6 +63,9 @@ pub record Conditions : Type 0 where
   pub step-divisor : (s k D : ℕ) (t : List ℕ) → (D < 2 ^ 60) ⊎ (2 ^ 61 ≤ D) → stepOf s k D t ≡ stepZeros (refusal 3 0)
   pub step-range : (s k D : ℕ) (t : List ℕ) → 2 ^ 60 ≤ D → D < 2 ^ 61
       → ((pos 3 *ℤ signed (s + k)) <ℤ (negℤ (pos (8 * D)))) ⊎ ((pos (8 * D)) <ℤ (pos 3 *ℤ signed (s + k))) → stepOf s k D t ≡ stepZeros (refusal 14 0)
+  pub visits-digits : (t : List ℕ) (k n : ℕ) (v : List ℕ) → (n ≡ 0) ⊎ (28 < n) → visitsAnswer t k n v ≡ refusal 2 0
+  pub visits-bits : (t : List ℕ) (k n : ℕ) (v : List ℕ) → 1 ≤ n → n ≤ 28 → (k ≡ 0) ⊎ (6 < k) → visitsAnswer t k n v ≡ refusal 16 0
+  pub visits-room : (t : List ℕ) (k n : ℕ) (v : List ℕ) → 1 ≤ n → n ≤ 28 → 1 ≤ k → k ≤ 6 → length v < 2048 → visitsAnswer t k n v ≡ refusal 7 0
   pub large : (t : List ℕ) (a b : ℕ) → (2 ^ 60 ≤ a) ⊎ (2 ^ 60 ≤ b) → wholeOf t a b ≡ wholeZeros (refusal 4 0)
   pub by-zero : (t : List ℕ) (a : ℕ) → a < 2 ^ 60 → wholeOf t a 0 ≡ wholeZeros (refusal 5 0)
   pub direction : (t : List ℕ) (d a b : ℕ) → 3 < d → binary64Of t d a b ≡ binary64Zeros (refusal 6 0)
@@ -84,11 +88,12 @@ pub record ZerosBesides : Type 0 where
 
 pub record Demand1 : Type 0 where
   pub zeros : ZerosBesides
-  -- the order is that of the numbers, from 1 to 10; 11 comes after 6 and before 7, 14 after 3 and before 8, 15 before 5
+  -- the order is that of the numbers, from 1 to 10; 11 comes after 6 and before 7, 14 after 3 and before 8, 15 before 5, 16 after 2 and before 7
   pub order : (m n : ℕ) → m < n → n < 10 → rank (m + 1) < rank (n + 1)
   pub order-11 : (rank 6 < rank 11) × (rank 11 < rank 7)
   pub order-14 : (rank 3 < rank 14) × (rank 14 < rank 8)
   pub order-15 : rank 15 < rank 5
+  pub order-16 : (rank 2 < rank 16) × (rank 16 < rank 7)
   pub conditions : Conditions
   pub check-cell : (r c b : ℕ) → Refuses (Wrongs (cellRungs r c b)) (λ x. x .refusal) cellZeros (cellNumbers (cellOf r c b))
   pub row-limits : (r : ℕ) → Refuses (Wrongs (limitsRungs r)) (λ x. x .refusal) limitsZeros (rowLimitsOf r)
@@ -101,6 +106,8 @@ pub record Demand1 : Type 0 where
   pub admit : (t : List ℕ) → RefusedBy (Wrongs (tableRungs t)) (refusalOf (ladder (tableRungs t)))
   pub run : (t : List ℕ) (N D n : ℕ) (b : List ℕ) (place : ℕ) → RunRefuses (Wrongs (runRungs N D n (length b) place ++ tableRungs t)) t N D n b place
   pub step : (s k D : ℕ) (t : List ℕ) → Refuses (Wrongs (stepRungs s k D ++ tableRungs t)) (λ x. x .refusal) stepZeros (stepOf s k D t)
+  pub visits : (t : List ℕ) (k n : ℕ) (v : List ℕ) → RefusedBy (Wrongs (visitsRungs k n (length v) ++ tableRungs t)) (visitsAnswer t k n v)
+  pub visits-list : (t : List ℕ) (k n : ℕ) (v : List ℕ) (m p : ℕ) → FirstRefusal (Wrongs (visitsRungs k n (length v) ++ tableRungs t)) m p → visitsLeft t k n v ≡ v
   pub whole : (t : List ℕ) (a b : ℕ) → Refuses (Wrongs (wholeRungs a b ++ tableRungs t)) (λ x. x .refusal) wholeZeros (wholeOf t a b)
   pub binary64 : (t : List ℕ) (direction a b : ℕ) → Refuses (Wrongs (binary64Rungs direction ++ tableRungs t)) (λ x. x .refusal) binary64Zeros (binary64Of t direction a b)
   pub samples : (t : List ℕ) (direction : ℕ) (currents sensitivities given : List ℕ)

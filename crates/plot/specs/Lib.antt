@@ -1,1 +1,2 @@
 pub mod Plot
+pub mod Visits

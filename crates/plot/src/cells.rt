@@ -41,7 +41,7 @@ fn allowed_digits(row: u64, column: u64) -> [bool; 5]
 }
 
 // No point keeps both -2 and 2, so a cell that allows both has no point.
-fn has_point(row: u64, column: u64) -> bool
+pub(crate) fn has_point(row: u64, column: u64) -> bool
     requires { ⌜ (row ≤ 15) × (column ≤ 127) ⌝ }
     ensures { λ r. ⌜ PointIs row column r ⌝ }
 {

@@ -1,7 +1,9 @@
-// The P-D plot of a table as an SVG picture: divisor rows from left to right, partial-remainder columns from below.
+// The P-D plot of a table as an SVG picture: divisor rows from left to right, partial-remainder columns from below. Its cells show the digits, or with
+// the argument `visits` how often each is met.
 mod cells;
 mod picture;
 mod print;
+mod visits;
 
 ghost use Prim.Native.Nat.{_≤_, _<_};
 ghost use Rattle.selection.specs.Table.{Table};
@@ -79,16 +81,21 @@ fn draw_table(table: &[u8], count: u64) -> bool
         && picture::print_legend()
 }
 
+fn print_digits_start() -> bool {
+    picture::print_start(
+        b"P-D plot of a table of quotient digits",
+        b"P-D plot: the quotient digit in each cell of the table",
+    )
+}
+
 // The check tells a table, passed or bad, from what gets the two lines of a refusal.
 fn draw(bytes: &[u8]) -> bool {
     let report = selection::table::check_table(bytes);
     let outcome = report.outcome;
     match outcome {
-        Outcome::Passed => picture::print_start()
-            && picture::print_passed()
-            && draw_table(bytes, 0),
+        Outcome::Passed => print_digits_start() && picture::print_passed() && draw_table(bytes, 0),
         Outcome::Bad(cell) => {
-            picture::print_start()
+            print_digits_start()
                 && picture::print_bad(report.count, cell.row, cell.column)
                 && draw_table(bytes, report.count)
         }
@@ -96,9 +103,28 @@ fn draw(bytes: &[u8]) -> bool {
     }
 }
 
+// Whether the first argument is the word. A longer one does not fit, and is none.
+fn asks_visits() -> bool {
+    let mut word = [0u8; 6];
+    let length = os::arg(1, &mut word);
+    check::same(&word[..length], b"visits")
+}
+
+fn draw_asked(bytes: &[u8], of_visits: bool) -> bool {
+    if of_visits {
+        return visits::draw_visits(bytes);
+    }
+    draw(bytes)
+}
+
 // One byte more than a table has, so that a longer input is seen. A read that fails is told, since a table read in part would look too short, and so is
 // a write: a picture cut short lacks its marks.
 fn main() {
+    let words = os::arg_count();
+    if 2 < words || (words == 2 && !asks_visits()) {
+        io::write_all(STDERR_FILENO, b"plot: there is one argument, visits\n");
+        return;
+    }
     let mut bytes = [0u8; 2049];
     let input = read_input(STDIN_FILENO, &mut bytes);
     if input.failed {
@@ -106,7 +132,7 @@ fn main() {
         return;
     }
     let count = input.count;
-    if !draw(&bytes[..count]) {
+    if !draw_asked(&bytes[..count], words == 2) {
         io::write_all(STDERR_FILENO, b"plot: not all was written\n");
     }
 }

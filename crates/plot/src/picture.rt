@@ -9,7 +9,7 @@ use selection::Refusal;
 use selection::digit_of;
 
 // The edge of the columns from `from` to before `end` of a row.
-fn print_edge(row: u64, from: u64, end: u64) -> bool
+pub(crate) fn print_edge(row: u64, from: u64, end: u64) -> bool
     requires { ⌜ (row ≤ 15) × (from < end) × (end ≤ 112) ⌝ }
 {
     print_text(b"d='M")
@@ -84,17 +84,20 @@ pub(crate) fn print_ring(row: u64, from: u64, end: u64) -> bool
         && print_number(9 + 5 * (end - from), b"'/>\n")
 }
 
-pub(crate) fn print_start() -> bool {
+// The start of a picture: its title, and the heading in it.
+pub(crate) fn print_start(title: &[u8], heading: &[u8]) -> bool {
     print_text(
         b"<svg xmlns='http://www.w3.org/2000/svg' viewBox='0 0 1030 770' width='1030' height='770' \
-        font-family='Helvetica,Arial,sans-serif' font-size='15' fill='#222'>\n\
-        <title>P-D plot of a table of quotient digits</title>\n",
+        font-family='Helvetica,Arial,sans-serif' font-size='15' fill='#222'>\n<title>",
     )
+        && print_text(title)
+        && print_text(b"</title>\n")
         && print_style()
         && print_text(
-            b"<path fill='#fff' d='M0 0h1030v770H0z'/>\n\
-            <text x='100' y='32' font-size='21' font-weight='bold'>P-D plot: the quotient digit in each cell of the table</text>\n",
+            b"<path fill='#fff' d='M0 0h1030v770H0z'/>\n<text x='100' y='32' font-size='21' font-weight='bold'>",
         )
+        && print_text(heading)
+        && print_text(b"</text>\n")
 }
 
 // Colours: orange for digits below zero, grey for 0, blue above. They differ in lightness too. What is drawn above the cells leaves
@@ -195,8 +198,15 @@ pub(crate) fn print_legend() -> bool {
         <path class='out q4' d='M836 256h17v20h-17z'/><path class='out q2' d='M853 256h17v20h-17z'/>\n\
         <text x='880' y='264'>out of range:</text><text x='880' y='282'>any digit will do</text>\n\
         <path class='q2' d='M836 310h34v6h-34z'/><path class='over bad' d='M836 310h34v6h-34z'/>\n\
-        <text x='880' y='318'>bad cell</text>\n\
-        <path class='over range' d='M836 350h34'/>\n\
+        <text x='880' y='318'>bad cell</text>\n",
+    )
+        && print_line_keys()
+}
+
+// What the lines are, and the picture's end.
+pub(crate) fn print_line_keys() -> bool {
+    print_text(
+        b"<path class='over range' d='M836 350h34'/>\n\
         <text x='880' y='355'>range of P:</text><text x='880' y='373'>-8/3 D to 8/3 D</text>\n\
         <path class='over line' d='M836 406h34'/>\n\
         <text x='880' y='411'>q is allowed from</text><text x='880' y='429'>(q - 2/3) D</text>\n\

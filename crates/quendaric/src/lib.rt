@@ -4,6 +4,7 @@ ghost use Rattle.selection.specs.Answer.{cellNumbers, reportNumbers};
 ghost use Rattle.selection.specs.Computed.{cellOf, reportOf, rowLimitsOf, makeOf, madeBuffer, madeTable, repairOf, repairedOf, changedOf};
 ghost use Rattle.recurrence.specs.Run.{runOf, bufferOf};
 ghost use Rattle.recurrence.specs.Step.{stepOf};
+ghost use Rattle.recurrence.specs.Visits.{visitsAnswer, visitsLeft};
 ghost use Rattle.division.specs.Whole.{wholeOf};
 ghost use Rattle.division.specs.Binary64.{binary64Of};
 ghost use Rattle.division.specs.Samples.{samplesOf, concentrationsOf};
@@ -175,6 +176,19 @@ pub extern "C" fn quendaric_divide_packed(dividend: &[u8; 8], divisor: &[u8; 8])
     ensures { λ r. ⌜ r ≡ packedOf (now (dividend .entry)) (now (divisor .entry)) ⌝ }
 {
     division::packed::divide_packed(*dividend, *divisor)
+}
+
+// How often each cell is met by the runs of all pairs of operands of so many bits.
+#[no_mangle]
+pub extern "C" fn quendaric_count_visits(
+    table: &[u8],
+    bits: u64,
+    digits: usize,
+    visits: &mut [u32],
+) -> Refusal
+    ensures { λ r. ⌜ (r ≡ visitsAnswer (now (table .entry)) bits digits (now (visits .entry))) × (now (visits .exit) ≡ visitsLeft (now (table .entry)) bits digits (now (visits .entry))) ⌝ }
+{
+    recurrence::visits::count_visits(table, bits, digits, visits)
 }
 
 // The whole root.

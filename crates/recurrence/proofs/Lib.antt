@@ -11,3 +11,6 @@ pub mod Refusals
 pub mod RunDemand
 pub mod StepRange
 pub mod StepDemand
+pub mod Sums
+pub mod Visiting
+pub mod VisitCounts

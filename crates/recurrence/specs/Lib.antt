@@ -7,3 +7,5 @@ pub mod Step
 pub mod StepDemand
 pub mod Row
 pub mod FastRun
+pub mod Visits
+pub mod VisitSteps

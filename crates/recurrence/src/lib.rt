@@ -1,5 +1,6 @@
 // The digit recurrence, the middle layer: a quotient digit a step, read from a table by the truncated estimate of a carry-save partial remainder.
 pub mod step;
+pub mod visits;
 
 use selection::Admission;
 use selection::Refusal;

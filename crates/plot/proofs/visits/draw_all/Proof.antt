@@ -1,0 +1,18 @@
+-- `plot::visits::draw_all` is safe and ends: k runs to 2,048.
+use Rattle.laws.proofs.Basics.{_-_, _≤_, arith, needs}
+use Rattle.plot.proofs.visits.draw_all.Statement.{statement}
+use Rattle.plot.proofs.visits.draw_all.Tie as tie
+
+abbrev Inv-loop : tie.InvT-loop
+Inv-loop visits k₀ k = k ≤ 2048
+
+abbrev μ-loop : tie.MeasureT-loop
+μ-loop visits k₀ k = 2048 - k
+
+draw-visited-requires : tie.Need-draw-visited-requires Inv-loop μ-loop
+draw-visited-requires c κs = (c .before .before .before .pre, omega arith)
+
+pub draw-all-spec : {M : Type 1} → statement M
+draw-all-spec =
+    tie.close (tie.spec Inv-loop μ-loop (λ c. omega arith) draw-visited-requires (λ c. search needs)
+    (λ c. omega arith) (λ c. omega arith) (λ c. omega arith) (λ c. search needs))
