@@ -23,6 +23,7 @@ static struct { uint64_t row, column; uint8_t byte; } bad_cell[PAIRS], any_cell[
 static uint8_t out[40];
 static uint64_t number_a[PAIRS], number_b[PAIRS];
 static uint8_t packed_a[PAIRS][8], packed_b[PAIRS][8]; /* the same numbers, packed */
+static uint32_t met[QUENDARIC_TABLE_LENGTH];
 static uint64_t readings[READINGS], means[READINGS], remainders[READINGS];
 static int digits = 28;
 
@@ -35,6 +36,7 @@ static uint64_t check_bad(int i, uint64_t x) { (void)i; return quendaric_check_t
 static uint64_t check_one(int i, uint64_t x) { (void)i; return quendaric_check_table(one_bad, sizeof one_bad).refusal ^ x; }
 static uint64_t cell_bad(int i, uint64_t x) { return quendaric_check_cell(bad_cell[i].row, bad_cell[i].column, bad_cell[i].byte).divisor ^ x; }
 static uint64_t cell_any(int i, uint64_t x) { return quendaric_check_cell(any_cell[i].row, any_cell[i].column, any_cell[i].byte).divisor ^ x; }
+static uint64_t visits(int i, uint64_t x) { (void)i; return quendaric_count_visits(table, sizeof table, 6, 28, met, QUENDARIC_TABLE_LENGTH).refusal ^ x; }
 static uint64_t make(int i, uint64_t x) { (void)i; return quendaric_make_table(made, sizeof made).refusal ^ x; }
 static uint64_t repair(int i, uint64_t x) { (void)i; return quendaric_repair_table(table, sizeof table, repaired, sizeof repaired, changed, sizeof changed).count ^ x; }
 static uint64_t repair_bad(int i, uint64_t x) { (void)i; return quendaric_repair_table(all_bad, sizeof all_bad, repaired, sizeof repaired, changed, sizeof changed).count ^ x; }
@@ -94,6 +96,7 @@ static measure measures[] = {
     {"make", "unit, the made table", make, 32, 0, 0},
     {"repair", "unit, repair of a passing table", repair, 32, 0, 0},
     {"repair-bad", "unit, repair of a table whose cells with points are all bad", repair_bad, 32, 0, 0},
+    {"visits", "unit, visits of 1,024 pairs, 28 digits", visits, 1, 0, 0},
     {"check-plain", "C, count of bad cells, 128-bit numbers", check_plain, 8, 0, 0},
     {"b64-plain", "C, binary64 over the documents' recurrence", b64_plain, PAIRS, 0, 0},
     {"b64-ahead", "C, binary64 over the fast algorithm", b64_ahead, PAIRS, 0, 0},
@@ -458,6 +461,8 @@ int main(int argc, char **argv) {
   ratio("packed / the same whole numbers", "packed", "whole-sixteen", 0);
   ratio("repair of a passing table / its check", "repair", "check", 0);
   ratio("repair, every cell with a point bad / its check", "repair-bad", "check-bad", 0);
+  double runs = named("visits")->apart / (PAIRS * named("run-kept")->apart);
+  printf("%-58s %7.2f %7s   at most 1.5: %s\n", "visits of 1,024 pairs / as many kept runs", runs, "-", runs <= 1.5 ? "met" : "MISSED");
   ratio("binary64 root / the same algorithm in C", "root", "root-digit", 1.0);
   ratio("binary64 root / two digits a step in C", "root", "root-pair", 0);
   ratio("binary64 root / kept binary64", "root", "b64-kept", 1.1);

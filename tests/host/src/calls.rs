@@ -117,6 +117,13 @@ pub struct Packed {
     pub remainder: [u8; 8],
 }
 
+#[repr(C)]
+#[derive(Clone, Copy, Debug, Default, PartialEq, Eq)]
+pub struct Visits {
+    pub refusal: u64,
+    pub place: u64,
+}
+
 extern "C" {
     fn quendaric_check_cell(row: u64, column: u64, byte: u8) -> Cell;
     fn quendaric_check_table(table: *const u8, length: usize) -> Table;
@@ -175,6 +182,14 @@ extern "C" {
         changed_length: usize,
     ) -> Repair;
     fn quendaric_divide_packed(dividend: *const u8, divisor: *const u8) -> Packed;
+    fn quendaric_count_visits(
+        table: *const u8,
+        table_length: usize,
+        bits: u64,
+        digits: usize,
+        visits: *mut u32,
+        visits_length: usize,
+    ) -> Visits;
     fn quendaric_root_whole(a: u64) -> Root;
     fn quendaric_root_binary64(a: u64, direction: u64) -> Binary64;
 }
@@ -271,6 +286,11 @@ pub fn average_windows(
 
 pub fn divide_packed(dividend: &[u8; 8], divisor: &[u8; 8]) -> Packed {
     lend(dividend, |a, _| lend(divisor, |b, _| unsafe { quendaric_divide_packed(a, b) }))
+}
+
+pub fn count_visits(table: &[u8], bits: u64, digits: usize, visits: &mut [u32]) -> Visits {
+    let (start, room) = (visits.as_mut_ptr(), visits.len());
+    lend(table, |t, size| unsafe { quendaric_count_visits(t, size, bits, digits, start, room) })
 }
 
 pub fn root_whole(a: u64) -> Root {

@@ -4,13 +4,23 @@ use std::process::{Command, Output, Stdio};
 
 /// All that a program prints on an input.
 pub fn printed(name: &str, input: &[u8]) -> String {
-    String::from_utf8(written(name, input).stdout).expect("text")
+    printed_with(name, &[], input)
+}
+
+/// The same with arguments.
+pub fn printed_with(name: &str, arguments: &[&str], input: &[u8]) -> String {
+    String::from_utf8(written_with(name, arguments, input).stdout).expect("text")
 }
 
 /// All that it writes on standard output and on standard error.
 pub fn written(name: &str, input: &[u8]) -> Output {
+    written_with(name, &[], input)
+}
+
+fn written_with(name: &str, arguments: &[&str], input: &[u8]) -> Output {
     let program = format!("{}/../../target/bin/{name}", env!("CARGO_MANIFEST_DIR"));
     let mut child = Command::new(&program)
+        .args(arguments)
         .stdin(Stdio::piped())
         .stdout(Stdio::piped())
         .stderr(Stdio::piped())
