@@ -55,9 +55,9 @@ extern "C" {
 #endif
 
 /* The version of these calls; CHANGELOG.md tells what changed. */
-#define QUENDARIC_VERSION "2.1.0"
+#define QUENDARIC_VERSION "2.2.0"
 #define QUENDARIC_VERSION_MAJOR 2
-#define QUENDARIC_VERSION_MINOR 1
+#define QUENDARIC_VERSION_MINOR 2
 #define QUENDARIC_VERSION_PATCH 0
 
 #define QUENDARIC_TABLE_LENGTH 2048
@@ -69,8 +69,8 @@ extern "C" {
 #define QUENDARIC_REFUSED_CELL 1      /* row above 15 or column above 127 */
 #define QUENDARIC_REFUSED_DIGITS 2    /* number of digits 0 or above 28 */
 #define QUENDARIC_REFUSED_SPAN 3      /* dividend or divisor outside its span */
-#define QUENDARIC_REFUSED_TOO_LARGE 4 /* a or b is 2^60 or more */
-#define QUENDARIC_REFUSED_BY_ZERO 5   /* b, or a packed divisor, is 0 */
+#define QUENDARIC_REFUSED_TOO_LARGE 4 /* a whole number is 2^60 or more */
+#define QUENDARIC_REFUSED_BY_ZERO 5   /* a divisor is 0 */
 #define QUENDARIC_REFUSED_DIRECTION 6 /* direction above 3 */
 #define QUENDARIC_REFUSED_ROOM 7      /* a lent buffer or list ends before the last place to write */
 #define QUENDARIC_REFUSED_LENGTH 8    /* the table's length is not 2,048 */
@@ -166,6 +166,14 @@ typedef struct {
   uint8_t quotient[8];
   uint8_t remainder[8];
 } quendaric_packed;
+
+/* order: -1 where a / b is less than c / d, 0 where they are equal, 1 where a / b is greater. Beside a refusal the 0 is
+   not "equal". */
+typedef struct {
+  uint64_t refusal;
+  uint64_t place;
+  int64_t order;
+} quendaric_comparison;
 
 /* remainder: a - root * root. Beside a refusal the zeros are no root. */
 typedef struct {
@@ -323,6 +331,11 @@ quendaric_packed quendaric_divide_packed(const uint8_t dividend[8], const uint8_
 QUENDARIC_ANSWER
 quendaric_visits quendaric_count_visits(const uint8_t *table, size_t table_length, uint64_t bits, size_t digits,
                                         uint32_t *visits, size_t visits_length);
+
+/* How a / b compares with c / d for whole numbers below 2^60, b and d not 0: as a * d compares with c * b, with nothing
+   rounded, so that qsort may go by it. Divides through the kept table. Refuses 4, 5. */
+QUENDARIC_ANSWER
+quendaric_comparison quendaric_compare_ratios(uint64_t a, uint64_t b, uint64_t c, uint64_t d);
 
 /* The whole root of a below 2^60: root * root <= a < (root + 1) * (root + 1). Uses no table. Refuses 4. */
 QUENDARIC_ANSWER

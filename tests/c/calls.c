@@ -398,6 +398,35 @@ static void packed(void) {
   SAME(quendaric_divide_packed(wrong, wrong).place, 2);
 }
 
+/* Is the answer this order, and no refusal? */
+static void orders(quendaric_comparison answer, int64_t order) {
+  SAME(answer.refusal, 0);
+  SAME(answer.place, 0);
+  SAME(answer.order, order);
+}
+
+/* Is the answer this refusal, at 0, and 0 besides? */
+static void no_order(quendaric_comparison answer, uint64_t refusal) {
+  SAME(answer.refusal, refusal);
+  SAME(answer.place, 0);
+  SAME(answer.order, 0);
+}
+
+static void ratios(void) {
+  orders(quendaric_compare_ratios(1, 3, 2, 5), -1);
+  orders(quendaric_compare_ratios(2, 5, 1, 3), 1);
+  orders(quendaric_compare_ratios(2, 6, 1, 3), 0);
+  orders(quendaric_compare_ratios(one - 1, one - 2, one - 2, one - 3), -1);
+  orders(quendaric_compare_ratios(one - 2, one - 3, one - 1, one - 2), 1);
+  orders(quendaric_compare_ratios(0, 1, 0, one - 1), 0);
+  no_order(quendaric_compare_ratios(one, 0, 1, 1), QUENDARIC_REFUSED_TOO_LARGE);
+  no_order(quendaric_compare_ratios(1, one, 1, 1), QUENDARIC_REFUSED_TOO_LARGE);
+  no_order(quendaric_compare_ratios(1, 1, one, 0), QUENDARIC_REFUSED_TOO_LARGE);
+  no_order(quendaric_compare_ratios(1, 1, 1, one), QUENDARIC_REFUSED_TOO_LARGE);
+  no_order(quendaric_compare_ratios(1, 0, 2, 1), QUENDARIC_REFUSED_BY_ZERO);
+  no_order(quendaric_compare_ratios(1, 1, 2, 0), QUENDARIC_REFUSED_BY_ZERO);
+}
+
 int main(void) {
   uint8_t table[QUENDARIC_TABLE_LENGTH];
   memset(table, untouched, sizeof table);
@@ -413,6 +442,7 @@ int main(void) {
   samples(table);
   averages();
   packed();
+  ratios();
   roots();
   return differences != 0;
 }

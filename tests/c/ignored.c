@@ -21,6 +21,7 @@ void ignored(const uint8_t *table, uint8_t *buffer, uint64_t *words, uint32_t *n
   quendaric_divide_packed(table, buffer);
   quendaric_repair_table(table, 2048, buffer, 2048, buffer + 2048, 2048);
   quendaric_count_visits(table, 2048, 1, 28, numbers, 2048);
+  quendaric_compare_ratios(1, 1, 1, 1);
   quendaric_root_whole(1);
   quendaric_root_binary64(1, QUENDARIC_NEAREST);
 }

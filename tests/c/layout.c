@@ -69,6 +69,10 @@ FIELD(quendaric_packed, quotient, 16, 8);
 FIELD(quendaric_packed, remainder, 24, 8);
 SIZE(quendaric_packed, 32);
 
+REFUSAL(quendaric_comparison);
+FIELD(quendaric_comparison, order, 16, 8);
+SIZE(quendaric_comparison, 24);
+
 REFUSAL(quendaric_root);
 FIELD(quendaric_root, root, 16, 8);
 FIELD(quendaric_root, remainder, 24, 8);

@@ -94,6 +94,10 @@ static void count_visits(const uint64_t *x, reply *y) {
   y->word[4] = visits[76];
   y->word[5] = visits[47];
 }
+static void compare_ratios(const uint64_t *x, reply *y) {
+  REPLY(y, quendaric_compare_ratios(x[0], x[1], x[2], x[3]));
+}
+static void compare_divisors(const uint64_t *x, reply *y) { REPLY(y, quendaric_compare_ratios(1, x[0], 1, x[1])); }
 static void root_whole(const uint64_t *x, reply *y) { REPLY(y, quendaric_root_whole(x[0])); }
 static void root_binary64(const uint64_t *x, reply *y) { REPLY(y, quendaric_root_binary64(x[0], x[1])); }
 
@@ -147,6 +151,10 @@ static const struct {
     {"repair_table", repair_table, 2, {2048, 2050}, {{0, 0, 1}, {4, 4, 2, 2, 0, 1, 0, 0}}},
     /* table length, bits, digits, length of the list */
     {"count_visits", count_visits, 4, {2048, 2, 3, 2049}, {{0, 0, 3, 1, 1, 1}, {0}}},
+    /* a, b, c, d: a·d and c·b are what they are with a and d, or c and b exchanged, so a 0 tells these apart, and b and d stand alone */
+    {"compare_ratios", compare_ratios, 4, {0, 5, 0, 5}, {{0, 0, 0}, {0}}},
+    {"compare_ratios", compare_ratios, 4, {3, 3, 0, 3}, {{0, 0, 1}, {0}}},
+    {"compare_ratios", compare_divisors, 2, {3, 2}, {{0, 0, UINT64_MAX}, {0}}},
     {"root_whole", root_whole, 1, {4195835}, {{0, 0, 2048, 1531}, {0}}},
     /* a, direction: the root of 3 upward */
     {"root_binary64", root_binary64, 2, {THREE, 2}, {{0, 0, 0x3FFBB67AE8584CABull, 1}, {0}}},

@@ -6,7 +6,7 @@
 #include <stdio.h>
 #include <string.h>
 
-enum { CALLS = 18, TURNS = 1000, PAINT = 0xA5 };
+enum { CALLS = 19, TURNS = 1000, PAINT = 0xA5 };
 
 static uint8_t stack[8192] __attribute__((aligned(64)));
 static uint8_t table[QUENDARIC_TABLE_LENGTH], buffer[QUENDARIC_MOST_DIGITS];
@@ -51,6 +51,7 @@ static void call(void) {
   case 14: sink = quendaric_divide_packed(digit, digit + 8).quotient[0]; break;
   case 15: sink = quendaric_repair_table(read_back, size, repaired, size, changed, size).count; break;
   case 16: sink = quendaric_count_visits(table, size, 1 + a % 2, digits, visits, size).refusal; break;
+  case 17: sink = (uint64_t)quendaric_compare_ratios(x, y, x + a % 2, y + b % 2).order; break;
   default: sink = quendaric_root_binary64(a >> 1, b % 4).pattern; break;
   }
 }

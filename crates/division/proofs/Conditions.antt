@@ -27,6 +27,7 @@ use Rattle.division.specs.RootSteps.{wholeRoot, rootOf}
 use Rattle.division.specs.RootCalls.{rootRungs, rootZeros, rootValues, rootWholeOf, rootBinary64Of}
 use Rattle.division.specs.Demand1.{Conditions}
 use Rattle.division.proofs.PackedCalls.{packed-dividend, packed-divisor, packed-by-zero}
+use Rattle.division.proofs.RatioCalls.{ratios-large, ratios-by-zero, ratios-told}
 
 module _ (t : List ℕ) (N D n : ℕ) (b : List ℕ) (place : ℕ) where
   wrong-count : Condition
@@ -148,6 +149,9 @@ conditions = record {
   packed-dividend = packed-dividend;
   packed-divisor = packed-divisor;
   packed-by-zero = packed-by-zero;
+  ratio-large = ratios-large;
+  ratio-by-zero = ratios-by-zero;
+  ratio-told = ratios-told;
   root-large = root-large;
   root-direction = root-direction;
 }

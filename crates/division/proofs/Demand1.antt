@@ -34,6 +34,7 @@ use Rattle.division.proofs.Conditions.{conditions}
 use Rattle.division.proofs.Calls.{whole-ladder, whole-lent, binary64-ladder, binary64-lent}
 use Rattle.division.proofs.SampleRuns.{samples-lent}
 use Rattle.division.proofs.PackedCalls.{packed-refuses}
+use Rattle.division.proofs.RatioCalls.{ratios-refuse}
 use Rattle.division.proofs.RootCalls.{root-ladder}
 
 -- the check, from its report
@@ -95,7 +96,7 @@ rank-16 = (lit< tt, lit< tt)
 pub demand-1 : Demand1
 demand-1 =
     record {
-      zeros = record { step = λ f. refl; packed = λ f. refl; repair = λ f. refl };
+      zeros = record { step = λ f. refl; packed = λ f. refl; repair = λ f. refl; comparison = λ f. refl };
       order = by-number;
       order-11 = rank-11;
       order-14 = rank-14;
@@ -123,6 +124,7 @@ demand-1 =
       whole-kept = λ a b. refuses (whole-ladder a b) (λ x. x .refusal) wholeZeros (wholeValues (wholeThrough madeTable a b)) refl (λ f. refl) (passed-last kept-passes (wholeRungs a b));
       binary64-kept = λ direction a b. refuses (binary64-ladder direction) (λ x. x .refusal) binary64Zeros (binary64Values (binary64Through madeTable direction a b)) refl (λ f. refl) (passed-last kept-passes (binary64Rungs direction));
       packed = packed-refuses;
+      compare-ratios = ratios-refuse;
       root-whole = λ a. refuses (root-ladder a) (λ x. x .refusal) rootZeros (rootValues a (wholeRoot a)) refl (λ f. refl) refl;
       root-binary64 = λ direction p. refuses (binary64-ladder direction) (λ x. x .refusal) binary64Zeros (binary64Values (rootOf direction p)) refl (λ f. refl) refl;
     }

@@ -16,6 +16,8 @@ pub mod SampleRuns
 pub mod PackedBytes
 pub mod PackedCalls
 pub mod RootCalls
+pub mod Ratios
+pub mod RatioCalls
 pub mod Conditions
 pub mod Demand1
 pub mod Demand3
@@ -26,5 +28,6 @@ pub mod IeeeRoots
 pub mod RootDemand
 pub mod Demand2
 pub mod PackedDemand
+pub mod RatioDemand
 pub mod QuotientReading
 pub mod RootReading

@@ -1,6 +1,6 @@
 -- The scale of an exact magnitude: the exponent that the definition finds is the largest, and there is one; so are the whole units, and they have 53 bits.
 use Rattle.laws.proofs.Basics.{_≡_, sym, ap, ⊎-elim, ℕ, zero, suc, min, _+_, _*_, _^_, _≤_, _<_, arith, le-leb, lt-leb}
-use native.Mathlib.Nat.{pow-suc, le-of-eq, le-trans, eq-or-lt-of-le}
+use native.Mathlib.Nat.{pow-suc, le-of-eq, le-refl, le-trans, eq-or-lt-of-le}
 use Rattle.laws.proofs.Division.{le-or-lt}
 use Rattle.division.specs.Rounded.{IsExponent}
 use Rattle.division.specs.Computed.{largest, greatest}
@@ -52,6 +52,12 @@ module _ (scale : ℕ → ℕ → ℕ) (inc : Increasing scale) where
       (λ (g : d < e). le-trans (beside d e g) (order e (2 ^ 53) (2 ^ 54) (omega arith)))
       (eq-or-lt-of-le h)
 
+  -- a greater magnitude has no smaller exponent
+  pub exponent-mono : (m n d e : ℕ) → m ≤ n → IsExponent scale m d → IsExponent scale n e → d ≤ e
+  exponent-mono m n d e h x y = ⊎-elim (λ (g : d ≤ e). g)
+      (λ (g : e < d). absurd (omega (arith, y .beyond, beside e d g, x .reached (omega arith))))
+      (le-or-lt d e)
+
   module _ (m : ℕ) where
     pub largest-meets : (d : ℕ) → m < scale d (2 ^ 54) → IsExponent scale m (largest d scale m)
     unfolding largest
@@ -61,14 +67,9 @@ module _ (scale : ℕ → ℕ → ℕ) (inc : Increasing scale) where
         (λ (g : m < scale (suc d) (2 ^ 53)). rw (lt-leb _ _ g, largest) (largest-meets d (rw (inc .double d (2 ^ 53)) at g)))
         (le-or-lt (scale (suc d) (2 ^ 53)) m)
 
-    at-most : (d e : ℕ) → IsExponent scale m d → IsExponent scale m e → d ≤ e
-    at-most d e x y = ⊎-elim (λ (g : d ≤ e). g)
-        (λ (g : e < d). absurd (omega (arith, y .beyond, beside e d g, x .reached (omega arith))))
-        (le-or-lt d e)
-
     -- there is one
     pub exponent-one : (d e : ℕ) → IsExponent scale m d → IsExponent scale m e → d ≡ e
-    exponent-one d e x y = omega (arith, at-most d e x y, at-most e d y x)
+    exponent-one d e x y = omega (arith, exponent-mono m m d e (le-refl m) x y, exponent-mono m m e d (le-refl m) y x)
 
     -- the whole units at that exponent: fewer than 2^53, and 2^52 or more where it is not 0
     module _ (e k : ℕ) (is : IsExponent scale m e) (low : scale e (2 * k) ≤ m) (high : m < scale e (2 * k + 2)) where

@@ -25,6 +25,7 @@ use Rattle.division.specs.Whole.{wholeRungs, wholeZeros, wholeOf}
 use Rattle.division.specs.Binary64.{binary64Rungs, binary64Zeros, binary64Of}
 use Rattle.division.specs.Samples.{samplesRungs, samplesZeros, samplesOf, concentrationsOf}
 use Rattle.division.specs.Packed.{packedNumber, Decimal, packedRungs, packedZeros, packedOf}
+use Rattle.division.specs.Ratios.{ratiosRungs, comparisonZeros, comparisonNumbers, comparedOf}
 use Rattle.division.specs.RootCalls.{rootRungs, rootZeros, rootWholeOf, rootBinary64Of}
 
 -- what the check's refusal 10 at the place p carries: the number of bad cells, the first of them, its witness
@@ -77,6 +78,9 @@ pub record Conditions : Type 0 where
   pub packed-divisor : (xs ys : List ℕ) (p : ℕ) → Decimal xs → p < 8 → (9 < getD ys p 0 / 16) ⊎ (9 < getD ys p 0 % 16) → ((i : ℕ) → i < p → (9 < getD ys i 0 / 16) ⊎ (9 < getD ys i 0 % 16) → ⊥)
       → packedOf xs ys ≡ packedZeros (refusal 15 (p + 8))
   pub packed-by-zero : (xs ys : List ℕ) → Decimal xs → Decimal ys → packedNumber ys ≡ 0 → packedOf xs ys ≡ packedZeros (refusal 5 0)
+  pub ratio-large : (a b c d : ℕ) → (2 ^ 60 ≤ a) ⊎ ((2 ^ 60 ≤ b) ⊎ ((2 ^ 60 ≤ c) ⊎ (2 ^ 60 ≤ d))) → comparisonNumbers (comparedOf a b c d) ≡ comparisonZeros (refusal 4 0)
+  pub ratio-by-zero : (a b c d : ℕ) → a < 2 ^ 60 → b < 2 ^ 60 → c < 2 ^ 60 → d < 2 ^ 60 → (b ≡ 0) ⊎ (d ≡ 0) → comparisonNumbers (comparedOf a b c d) ≡ comparisonZeros (refusal 5 0)
+  pub ratio-told : (a b c d : ℕ) → a < 2 ^ 60 → b < 2 ^ 60 → c < 2 ^ 60 → d < 2 ^ 60 → 0 < b → 0 < d → comparisonNumbers (comparedOf a b c d) .refusal ≡ refusal 0 0
   pub root-large : (a : ℕ) → 2 ^ 60 ≤ a → rootWholeOf a ≡ rootZeros (refusal 4 0)
   pub root-direction : (d p : ℕ) → 3 < d → rootBinary64Of d p ≡ binary64Zeros (refusal 6 0)
 
@@ -85,6 +89,7 @@ pub record ZerosBesides : Type 0 where
   pub step : (f : Refusal) → stepZeros f ≡ record { refusal = f; digit = pos 0; sum = 0; carry = 0 }
   pub packed : (f : Refusal) → packedZeros f ≡ record { refusal = f; quotient = 0 ∷ 0 ∷ 0 ∷ 0 ∷ 0 ∷ 0 ∷ 0 ∷ 0 ∷ []; remainder = 0 ∷ 0 ∷ 0 ∷ 0 ∷ 0 ∷ 0 ∷ 0 ∷ 0 ∷ [] }
   pub repair : (f : Refusal) → repairZeros f ≡ record { refusal = f; count = 0 }
+  pub comparison : (f : Refusal) → comparisonZeros f ≡ record { refusal = f; order = pos 0 }
 
 pub record Demand1 : Type 0 where
   pub zeros : ZerosBesides
@@ -118,6 +123,8 @@ pub record Demand1 : Type 0 where
   pub binary64-kept : (direction a b : ℕ) → Refuses (Wrongs (binary64Rungs direction)) (λ x. x .refusal) binary64Zeros (binary64Of madeTable direction a b)
   -- packed numbers are divided over the kept table
   pub packed : (xs ys : List ℕ) → Refuses (Wrongs (packedRungs xs ys)) (λ x. x .refusal) packedZeros (packedOf xs ys)
+  -- ratios are compared over the kept table
+  pub compare-ratios : (a b c d : ℕ) → Refuses (Wrongs (ratiosRungs a b c d)) (λ x. x .refusal) comparisonZeros (comparisonNumbers (comparedOf a b c d))
   -- roots use no table
   pub root-whole : (a : ℕ) → Refuses (Wrongs (rootRungs a)) (λ x. x .refusal) rootZeros (rootWholeOf a)
   pub root-binary64 : (direction p : ℕ) → Refuses (Wrongs (binary64Rungs direction)) (λ x. x .refusal) binary64Zeros (rootBinary64Of direction p)

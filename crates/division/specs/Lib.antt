@@ -10,6 +10,7 @@ pub mod Binary64Steps
 pub mod Binary64
 pub mod Samples
 pub mod Packed
+pub mod Ratios
 pub mod Roots
 pub mod RootSteps
 pub mod RootCalls
@@ -18,4 +19,5 @@ pub mod Demand2
 pub mod Demand3
 pub mod RootDemand
 pub mod PackedDemand
+pub mod RatioDemand
 pub mod BenchCases

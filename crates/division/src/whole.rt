@@ -14,7 +14,7 @@ use selection::Refusal;
 use selection::refused;
 
 // Operands are below 2^60.
-const OPERAND_END: u64 = 0x1000_0000_0000_0000;
+pub(crate) const OPERAND_END: u64 = 0x1000_0000_0000_0000;
 
 pub struct WholeResult {
     pub quotient: u64,
@@ -64,7 +64,7 @@ fn divide(table: &[u8], a: u64, b: u64) -> WholeResult
 }
 
 // The same through the kept table.
-fn divide_kept(a: u64, b: u64) -> WholeResult
+pub(crate) fn divide_kept(a: u64, b: u64) -> WholeResult
     requires { ⌜ (a < 2 ^ 60) × (0 < b) × (b < 2 ^ 60) ⌝ }
     ensures { λ r. ⌜ r ≡ wholeThrough madeTable a b ⌝ }
 {

@@ -1,7 +1,7 @@
 -- A rounded magnitude as the logic reads it: its sign, and how many units of 2^-1074 it has, an infinity 2^2098. It is stated for every scale.
-use Rattle.laws.proofs.Basics.{_≡_, refl, sym, subst, Bool, true, false, cond, true≢false, _⊎_, ⊎-elim, ℕ, _+_, _*_, _^_, _≤_, _<_, arith, T, leb, le-leb, lt-leb}
-use native.Mathlib.Nat.{le-refl, le-of-lt, mul-le-mul-right}
-use lib.Pow.{pow-pos}
+use Rattle.laws.proofs.Basics.{_≡_, refl, sym, subst, Bool, true, false, cond, true≢false, _⊎_, ⊎-elim, ℕ, suc, _+_, _*_, _^_, _≤_, _<_, arith, T, leb, le-leb, lt-leb}
+use native.Mathlib.Nat.{eq-or-lt-of-le, le-refl, le-of-lt, mul-le-mul-right, pow-suc, zero-mul}
+use lib.Pow.{pow-pos, pow-mono}
 use lib.Ieee.{Float, nan, inf, fin, ofBits, le}
 use Rattle.laws.proofs.Division.{le-or-lt}
 use Rattle.division.specs.declared.format.Binary64Result.{Binary64Result}
@@ -9,7 +9,7 @@ use Rattle.division.specs.Format.{signBit, infinity, largestFinite}
 use Rattle.division.specs.Rounding.{modeOf, Rounds}
 use Rattle.division.specs.Rounded.{pointsToZero, Rounded}
 use Rattle.division.proofs.Nearest.{rounds-mono, rounds-exact}
-use Rattle.division.proofs.Scales.{Increasing, exponent-one}
+use Rattle.division.proofs.Scales.{Increasing, exponent-mono, exponent-one}
 use Rattle.ieee.specs.LanguageQuotient.{valueOf}
 use Rattle.ieee.specs.Directions.{signIn}
 use Rattle.ieee.proofs.LanguageOrder.{SignedLe, stands-le}
@@ -22,6 +22,13 @@ pub is-sign : (x : Float) (s : Bool) (n : ℕ) → Is x s n → signIn x ≡ s
 is-sign nan s n w = absurd w
 is-sign (inf t) s n w = w .0
 is-sign (fin t m e) s n w = w .0
+
+-- ---- units of two exponents, p and q their powers: 2^53 of the one are no more than 2^52 of the other
+pub coarser : (K L p q : ℕ) → K * p ≤ 2 ^ 53 * p → 2 ^ 52 * q ≤ L * q → p * 2 ≤ q → K * p ≤ L * q
+coarser K L p q i j k = omega arith
+
+pub doubled : {f e : ℕ} → f < e → 2 ^ f * 2 ≤ 2 ^ e
+doubled {f} {e} g = rw (pow-suc 2 f) at (pow-mono {i = suc f} {j = e} g)
 
 -- ---- overflow: v units, but from M on the largest finite number's t, or infinity's M
 abbrev pub capped : ℕ → ℕ → Bool → ℕ → ℕ
@@ -85,6 +92,12 @@ module _ {direction : ℕ} {s : Bool} {scale : ℕ → ℕ → ℕ} {m : ℕ} {x
       rounds-mono (scale (u .e)) (inc .up (u .e)) (modeOf direction s) (scale (u .e) (2 ^ 53)) m (2 ^ 52) (u .K) (u .exponent .reached g)
       (rounds-exact (scale (u .e)) (inc .up (u .e)) (modeOf direction s) (2 ^ 52)) (u .rounded)
 
+  -- and it has no more than 2^53
+  units-most : Increasing scale → u .K ≤ 2 ^ 53
+  units-most inc =
+      rounds-mono (scale (u .e)) (inc .up (u .e)) (modeOf direction s) m (scale (u .e) (2 ^ 54)) (u .K) (2 ^ 53) (le-of-lt (u .exponent .beyond))
+      (u .rounded) (rounds-exact (scale (u .e)) (inc .up (u .e)) (modeOf direction s) (2 ^ 53))
+
 -- of two directions, one that rounds no further away from zero gives no more units
 pub units-before : {d d' : ℕ} {s : Bool} (scale : ℕ → ℕ → ℕ) (inc : Increasing scale) (m : ℕ) {x y : Binary64Result} (u : Rounded d s scale m x) (v : Rounded d' s scale m y)
     → ((i j : ℕ) → Rounds (modeOf d s) (scale (u .e)) m i → Rounds (modeOf d' s) (scale (u .e)) m j → i ≤ j) → (pointsToZero d' s ≡ true → pointsToZero d s ≡ true)
@@ -93,3 +106,22 @@ units-before {d} {d'} {s} scale inc m u v h k =
     let z = exponent-one scale inc m (v .e) (u .e) (v .exponent) (u .exponent) in
     capped-mono (2 ^ 2098) top (le-of-lt top-below) (pointsToZero d s) (pointsToZero d' s) (u .K * 2 ^ u .e) (v .K * 2 ^ v .e) (units-small u) k
     (rw z (mul-le-mul-right (2 ^ u .e) (h (u .K) (v .K) (u .rounded) (subst (λ (e : ℕ). Rounds (modeOf d' s) (scale e) m (v .K)) z (v .rounded)))))
+
+-- with one direction and one sign, a greater magnitude has no fewer units
+pub units-mono : {d : ℕ} {s : Bool} (scale : ℕ → ℕ → ℕ) (inc : Increasing scale) (m n : ℕ) {x y : Binary64Result} → m ≤ n → (u : Rounded d s scale m x) (v : Rounded d s scale n y)
+    → answered d s (u .K * 2 ^ u .e) ≤ answered d s (v .K * 2 ^ v .e)
+units-mono {d} {s} scale inc m n h u v =
+    capped-mono (2 ^ 2098) top (le-of-lt top-below) (pointsToZero d s) (pointsToZero d s) (u .K * 2 ^ u .e) (v .K * 2 ^ v .e) (units-small u) (λ e. e)
+    (⊎-elim
+    (λ (z : u .e ≡ v .e). rw z (mul-le-mul-right (2 ^ v .e)
+    (rounds-mono (scale (v .e)) (inc .up (v .e)) (modeOf d s) m n (u .K) (v .K) h (subst (λ (e : ℕ). Rounds (modeOf d s) (scale e) m (u .K)) z (u .rounded)) (v .rounded))))
+    (λ (g : u .e < v .e). coarser (u .K) (v .K) (2 ^ u .e) (2 ^ v .e) (mul-le-mul-right (2 ^ u .e) (units-most u inc)) (mul-le-mul-right (2 ^ v .e) (units-wide v inc (omega arith))) (doubled g))
+    (eq-or-lt-of-le (exponent-mono scale inc m n (u .e) (v .e) h (u .exponent) (v .exponent))))
+
+-- and none at all has none
+pub units-none : {d : ℕ} {s : Bool} (scale : ℕ → ℕ → ℕ) (inc : Increasing scale) {m : ℕ} {x : Binary64Result} → m ≡ 0 → (u : Rounded d s scale m x) → answered d s (u .K * 2 ^ u .e) ≡ 0
+units-none {d} {s} scale inc {m} h u =
+    let k : u .K ≤ 0 =
+    rounds-mono (scale (u .e)) (inc .up (u .e)) (modeOf d s) m (scale (u .e) 0) (u .K) 0 (omega arith) (u .rounded) (rounds-exact (scale (u .e)) (inc .up (u .e)) (modeOf d s) 0) in
+    let z : u .K ≡ 0 = omega arith in
+    rw (z, zero-mul) refl

@@ -1,7 +1,7 @@
 -- Of directions 2 and 3 the answer is the exact quotient rounded up and down, among all values of the format; of direction 1 it is the one that the sign asks for.
 use Rattle.laws.proofs.Basics.{_≡_, refl, sym, ap, subst, _∙_, Bool, true, false, ⊎-elim, ℕ, zero, suc, _+_, _-_, _*_, _^_, _≤_, _<_, zero-le, arith, T, le-leb, lt-leb}
-use native.Mathlib.Nat.{add-comm, le-of-eq, le-of-lt, le-refl, le-trans, lt-of-le-of-lt, not-le-of-lt, mul-pos, mul-le-mul-right, mul-lt-mul-of-pos-right, pow-suc}
-use lib.Pow.{pow-pos, pow-mono, pow-add}
+use native.Mathlib.Nat.{add-comm, le-of-eq, le-of-lt, le-refl, le-trans, lt-of-le-of-lt, not-le-of-lt, mul-pos, mul-le-mul-right, mul-lt-mul-of-pos-right}
+use lib.Pow.{pow-pos, pow-add}
 use lib.Ieee.{Float, nan, inf, fin, le}
 use lib.Ieee.Scale.{finite}
 use lib.Ieee.Positive.{num}
@@ -17,7 +17,7 @@ use Rattle.ieee.specs.Directions.{signIn, quotientSign, AtMostQuotient, 
 use Rattle.ieee.proofs.LanguageQuotient.{nearest-quotient}
 use Rattle.ieee.proofs.LanguageOrder.{SignedLe, least-infinity, greatest-infinity}
 use Rattle.ieee.proofs.Operands.{Is, top, top-below, magnitude-top, digits, seen, seen-some, finite-stands, quotient-rounded}
-use Rattle.ieee.proofs.AnswerUnits.{is-le, is-sign, capped, answered, rounded-stands, rounded-word, units-small, units-wide}
+use Rattle.ieee.proofs.AnswerUnits.{is-le, is-sign, coarser, doubled, capped, answered, rounded-stands, rounded-word, units-small, units-wide}
 use Rattle.ieee.proofs.QuotientOrder.{sign-seen, at-most-units, at-least-units, under-quotient, over-quotient}
 
 -- ---- among whole units; n stands for the dividend's units, p and q for powers of exponents
@@ -37,9 +37,6 @@ enough j K b p n h g = ⊎-elim
     less : (q : ℕ) → 2 * j ≤ q → q * (b * p) < 2 * n → ⊥
     less q i k = omega (arith, mul-le-mul-right (b * p) i)
 
-coarser : (K L p q : ℕ) → K * p ≤ 2 ^ 53 * p → 2 ^ 52 * q ≤ L * q → p * 2 ≤ q → K * p ≤ L * q
-coarser K L p q i j k = omega arith
-
 beyond-all : (n b k p q : ℕ) → 2 ^ 53 * (b * q) ≤ 2 * n → n ≤ k * p * b → k * (p * b) < 2 ^ 53 * (p * b) → p * 2 * b ≤ q * b → ⊥
 beyond-all n b k p q h i j l = omega arith
 
@@ -56,9 +53,6 @@ nothing n b m c h g = omega (arith, mul-le-mul-right n h)
 module _ (a b e K f k : ℕ) (h : 0 < b) (x : IsExponent (quotientScale b) (quotientPlace a) e) (l : k < 2 ^ 53) where
   finer : e ≤ f → k * 2 ^ f ≡ k * 2 ^ (f - e) * 2 ^ e
   finer g = let w : f ≡ f - e + e = omega arith in ap (λ (n : ℕ). k * 2 ^ n) w ∙ ap (λ (n : ℕ). k * n) (pow-add 2 (f - e) e) ∙ omega arith
-
-  doubled : f < e → 2 ^ f * 2 ≤ 2 ^ e
-  doubled g = rw (pow-suc 2 f) at (pow-mono {i = suc f} {j = e} g)
 
   greatest : (0 < e → 2 ^ 52 ≤ K) → TowardZero (quotientScale b e) (quotientPlace a) K → k * 2 ^ f * b ≤ a * 2 ^ 1074 → k * 2 ^ f ≤ K * 2 ^ e
   greatest m r y = ⊎-elim

@@ -1,7 +1,8 @@
 -- Binary64 answers by the logic's own account of IEEE 754, through every table that passes.
-use Rattle.laws.proofs.Basics.{_≡_, refl, ap, _∙_, sym, Bool, true, false, cond, List, ℕ, zero, suc, _≤_, zero-le, arith, T}
+use Rattle.laws.proofs.Basics.{_≡_, refl, ap, _∙_, sym, Bool, true, false, cond, List, ℕ, zero, suc, _≤_, _<_, zero-le, arith, length, getD, T}
 use lib.Ieee.{ofBits, le}
 use lib.Ieee.Scale.{finite}
+use lib.Ieee.Positive.{positive}
 use Rattle.selection.specs.Answer.{refusal}
 use Rattle.selection.specs.Table.{Passes}
 use Rattle.selection.proofs.MadeTables.{kept-passes}
@@ -11,10 +12,11 @@ use Rattle.division.specs.declared.binary64.Binary64Answer.{Binary64Answer}
 use Rattle.division.specs.Format.{negative, magnitude, largestFinite}
 use Rattle.division.specs.Ieee.{Ieee}
 use Rattle.division.specs.Binary64.{binary64Of, binary64Values}
+use Rattle.division.specs.Samples.{concentrationsOf}
 use Rattle.division.proofs.Demand2.{demand-2}
 use Rattle.ieee.specs.LanguageQuotient.{valueOf, one}
 use Rattle.ieee.specs.Directions.{quotientSign, Pinned, turned, mirrored}
-use Rattle.ieee.specs.Ieee754.{IeeeThrough, NamedPatterns, Thirds, Ieee754}
+use Rattle.ieee.specs.Ieee754.{answerValue, Sorted, OneSensitivity, IeeeThrough, NamedPatterns, Thirds, Ieee754}
 use Rattle.ieee.proofs.LanguageQuotient.{special-quotient, language-quotient}
 use Rattle.ieee.proofs.LanguageOrder.{SignedLe}
 use Rattle.ieee.proofs.Operands.{top, magnitude-top, seen, finite-stands}
@@ -26,6 +28,7 @@ use Rattle.ieee.proofs.InexactFlag.{silent}
 use Rattle.ieee.proofs.ExactQuotients.{exact-quotient, over-one, over-itself}
 use Rattle.ieee.proofs.Signalling.{signals, silent-nan}
 use Rattle.ieee.proofs.SignSymmetry.{turned-neg, dividend-turned, divisor-turned}
+use Rattle.ieee.proofs.BiggerStays.{bigger-stays}
 
 -- an answer without a refusal is its pattern and flags
 abbrev told : Binary64Answer → Binary64Result
@@ -54,6 +57,20 @@ module _ (t : List ℕ) (p : Passes t) where
   pinned : (direction a b : ℕ) → direction ≤ 3 → Pinned direction a b (binary64Of t direction a b .pattern)
   pinned d a b l = record { special = special-quotient d a b (means d a b l); directed = λ f. directed a b (f .dividend) (f .divisor) d l (means d a b l) }
 
+  bigger : (direction a b d : ℕ) → direction ≤ 3 → T (finite (valueOf a)) → T (finite (valueOf b)) → T (positive (valueOf d)) → T (le (valueOf a) (valueOf b))
+      → T (le (answerValue t direction a d) (answerValue t direction b d))
+  bigger direction a b d l = bigger-stays direction a b d (means direction a d l) (means direction b d l)
+
+  sorted : (direction d : ℕ) (currents sensitivities given : List ℕ) → direction ≤ 3 → length currents ≡ length sensitivities → length currents ≤ length given
+      → OneSensitivity d currents sensitivities → Sorted (length currents) currents → Sorted (length currents) (concentrationsOf t direction currents sensitivities given)
+  sorted direction d xs ys given l e r o s =
+      let each = demand-2 .passed t p .samples direction xs ys given l e r .meaning .concentrations .each in
+      record {
+        ordered = λ i j h k.
+            let g : i < length xs = omega arith in
+            rw (each i g, each j k, o .one i g, o .one j k) (bigger direction (getD xs i 0) (getD xs j 0) d l (o .currents-finite i g) (o .currents-finite j k) (o .above) (s .ordered i j h k));
+      }
+
   through : IeeeThrough t
   through = record {
     language = language-quotient t p;
@@ -72,6 +89,8 @@ module _ (t : List ℕ) (p : Passes t) where
     quiet = λ d a b l. silent-nan d a b (means d a b l);
     dividend-turned = λ d a b l w. let o = dividend-turned d a b l w (means d (turned a) b l) (means (mirrored d) a b (mirrored-span d)) in record { value = o .0; flags = o .1 };
     divisor-turned = λ d a b l w. let o = divisor-turned d a b l w (means d a (turned b) l) (means (mirrored d) a b (mirrored-span d)) in record { value = o .0; flags = o .1 };
+    bigger = bigger;
+    sorted = sorted;
   }
 
 largest : (p : ℕ) → T (finite (valueOf p)) → T (le (valueOf p) (valueOf largestFinite))
@@ -84,8 +103,8 @@ largest p h =
     go false k = k
 
 named : NamedPatterns
-unfolding ofBits
-named = record { one-is = refl; infinity-is = refl; quiet-nan-is = refl; largest-is = (tt, largest); turned-is = turned-neg }
+unfolding ofBits le
+named = record { one-is = refl; infinity-is = refl; quiet-nan-is = refl; largest-is = (tt, largest); zeros-level = (tt, tt); turned-is = turned-neg }
 
 thirds : Thirds
 unfolding ofBits

@@ -11,6 +11,8 @@ pub mod DirectionOrder
 pub mod InexactFlag
 pub mod ExactQuotients
 pub mod SignSymmetry
+pub mod BiggerStays
 pub mod Signalling
 pub mod Ieee754
 pub mod RootExamples
+pub mod RootOrder

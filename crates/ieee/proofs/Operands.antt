@@ -2,7 +2,7 @@
 use Rattle.laws.proofs.Basics.{_≡_, refl, sym, subst, Bool, true, false, cond, _⊎_, inl, inr, ⊎-elim, ℕ, _+_, _-_, _*_, _^_, _≤_, _<_, arith, T, eqb, lit<, lit≤, ne-eqb, lt-ltb}
 use native.Mathlib.Nat.{eq-zero-or-pos, le-trans, not-le-of-lt, lt-of-le-of-lt, mul-pos, mul-le-mul, zero-mul}
 use lib.Pow.{pow-pos, pow-mono}
-use lib.Ieee.{Float, nan, inf, fin, up, down}
+use lib.Ieee.{Float, nan, inf, fin, up, down, le}
 use lib.Ieee.Scale.{finite}
 use lib.Ieee.Positive.{num, first-pos}
 use Rattle.laws.proofs.Division.{le-or-lt}
@@ -16,10 +16,10 @@ use Rattle.division.proofs.Quotient.{quotient-increasing}
 use Rattle.ieee.specs.LanguageQuotient.{valueOf}
 use Rattle.ieee.proofs.LanguageReading.{Number}
 use Rattle.ieee.proofs.LanguageReading as Reading
-use Rattle.ieee.proofs.LanguageOrder.{Stands}
+use Rattle.ieee.proofs.LanguageOrder.{SignedLe, Stands, le-signed}
 
 -- a finite pattern's class, by its magnitude
-class-of : (p : ℕ) → field p < 2047 → ((classOf p ≡ Zero) × (magnitude p ≡ 0)) ⊎ (IsNonzero p × (0 < magnitude p))
+pub class-of : (p : ℕ) → field p < 2047 → ((classOf p ≡ Zero) × (magnitude p ≡ 0)) ⊎ (IsNonzero p × (0 < magnitude p))
 class-of p h = ⊎-elim
     (λ (f : field p ≡ 0). ⊎-elim
     (λ (g : fraction p ≡ 0). inl (rw (f, g), rw (f, g)))
@@ -94,6 +94,15 @@ pub finite-stands : (p : ℕ) → field p < 2047 → Is (valueOf p) (negative p)
 finite-stands p h =
     let n = Reading.finite p h in
     subst (λ (x : Float). Is x (negative p) (magnitude p)) (sym (n .is)) (refl, n .value, lt-of-le-of-lt (magnitude-top p h) top-below)
+
+pub finite-value : (p : ℕ) → field p < 2047 → T (finite (valueOf p))
+finite-value p h = subst (λ (x : Float). T (finite x)) (sym (Reading.finite p h .is)) tt
+
+-- the order of finite values is that of signs and magnitudes
+pub finite-le : (p q : ℕ) → field p < 2047 → field q < 2047 → T (le (valueOf p) (valueOf q)) → SignedLe (negative p) (magnitude p) (negative q) (magnitude q)
+finite-le p q f g =
+    le-signed (2 ^ 1074) (2 ^ 2098) (pow-pos 1074) (pow-pos 2098) (valueOf p) (valueOf q) (negative p) (negative q) (magnitude p) (magnitude q)
+    (finite-stands p f) (finite-stands q g) (finite-value p f) (finite-value q g)
 
 -- ---- the answer
 signed-zero : (s : Bool) → (signBit s < 2 ^ 64) × (magnitude (signBit s) ≡ 0) × (negative (signBit s) ≡ s) × (field (signBit s) < 2047)

@@ -5,16 +5,18 @@ use mathlib.Core.Bool.{false, not, cond}
 use mathlib.Core.List.{List}
 use mathlib.Core.Logic.{_↔_, _⊎_}
 use Prim.Native.Nat.{ℕ, _/_, _%_, _^_, _≤_, _<_}
+use lib.ListN.{length, getD}
 use lib.IntN.{pos}
 use lib.Dec.{T}
 use lib.Ieee.{Float, nan, inf, fin, le, neg, isNan}
 use lib.Ieee.Scale.{finite}
-use lib.Ieee.Positive.{num}
+use lib.Ieee.Positive.{num, positive}
 use Rattle.selection.specs.Table.{Passes}
 use Rattle.selection.specs.Computed.{madeTable}
 use Rattle.division.specs.declared.binary64.Binary64Answer.{Binary64Answer}
 use Rattle.division.specs.Format.{infinity, largestFinite, quietNan}
 use Rattle.division.specs.Binary64.{binary64Of, binary64Values}
+use Rattle.division.specs.Samples.{concentrationsOf}
 use Rattle.ieee.specs.LanguageQuotient.{valueOf, one, LanguageQuotient}
 use Rattle.ieee.specs.Directions.{signIn, quotientSign, AtMostQuotient, AtLeastQuotient, IsQuotient, FiniteOver, Pinned, turned, mirrored}
 
@@ -34,6 +36,16 @@ unflagged p = binary64Values (record { pattern = p; flags = 0 })
 -- the pattern is a not-a-number's, and its top fraction bit is 0
 abbrev pub Signals : ℕ → Type 0
 Signals p = (valueOf p ≡ nan) × (p / 2 ^ 51 % 2 ≡ 0)
+
+-- the first n patterns of a list are in order: none is greater than a later one
+pub record Sorted (n : ℕ) (ps : List ℕ) : Type 0 where
+  pub ordered : (i j : ℕ) → i < j → j < n → T (le (valueOf (getD ps i 0)) (valueOf (getD ps j 0)))
+
+-- samples with finite currents and one sensitivity d, finite and above zero
+pub record OneSensitivity (d : ℕ) (currents sensitivities : List ℕ) : Type 0 where
+  pub above : T (positive (valueOf d))
+  pub one : (i : ℕ) → i < length currents → getD sensitivities i 0 ≡ d
+  pub currents-finite : (i : ℕ) → i < length currents → T (finite (valueOf (getD currents i 0)))
 
 pub record IeeeThrough (t : List ℕ) : Type 0 where
   -- in direction 0 the language's own quotient
@@ -56,6 +68,12 @@ pub record IeeeThrough (t : List ℕ) : Type 0 where
   -- turning an operand's sign turns the answer's, and exchanges up and down
   pub dividend-turned : (direction a b : ℕ) → direction ≤ 3 → a < 2 ^ 64 → Opposite (binary64Of t direction (turned a) b) (binary64Of t (mirrored direction) a b)
   pub divisor-turned : (direction a b : ℕ) → direction ≤ 3 → b < 2 ^ 64 → Opposite (binary64Of t direction a (turned b)) (binary64Of t (mirrored direction) a b)
+  -- bigger stays bigger: over one divisor that is finite and above zero, of two finite dividends the greater never has the smaller answer; `le` counts zeros of either sign as equal
+  pub bigger : (direction a b d : ℕ) → direction ≤ 3 → T (finite (valueOf a)) → T (finite (valueOf b)) → T (positive (valueOf d)) → T (le (valueOf a) (valueOf b))
+      → T (le (answerValue t direction a d) (answerValue t direction b d))
+  -- so a run of samples keeps the order of its currents
+  pub sorted : (direction d : ℕ) (currents sensitivities given : List ℕ) → direction ≤ 3 → length currents ≡ length sensitivities → length currents ≤ length given
+      → OneSensitivity d currents sensitivities → Sorted (length currents) currents → Sorted (length currents) (concentrationsOf t direction currents sensitivities given)
 
 -- the patterns that have names are what they are named for
 pub record NamedPatterns : Type 0 where
@@ -63,6 +81,7 @@ pub record NamedPatterns : Type 0 where
   pub infinity-is : valueOf infinity ≡ inf false
   pub quiet-nan-is : valueOf quietNan ≡ nan
   pub largest-is : T (finite (valueOf largestFinite)) × ((p : ℕ) → T (finite (valueOf p)) → T (le (valueOf p) (valueOf largestFinite)))
+  pub zeros-level : T (le (valueOf 0) (valueOf 0x8000_0000_0000_0000)) × T (le (valueOf 0x8000_0000_0000_0000) (valueOf 0))
   pub turned-is : (p : ℕ) → p < 2 ^ 64 → valueOf (turned p) ≡ neg (valueOf p)
 
 -- the relations can fail: two neighbours stand on the two sides of 1/3, and of -1/3 the other way round

@@ -2,3 +2,4 @@ pub mod LanguageQuotient
 pub mod Directions
 pub mod Ieee754
 pub mod RootExamples
+pub mod RootOrder

@@ -9,10 +9,12 @@ ghost use Rattle.division.specs.Whole.{wholeOf};
 ghost use Rattle.division.specs.Binary64.{binary64Of};
 ghost use Rattle.division.specs.Samples.{samplesOf, concentrationsOf};
 ghost use Rattle.division.specs.Packed.{packedOf};
+ghost use Rattle.division.specs.Ratios.{comparedOf, comparisonNumbers};
 ghost use Rattle.division.specs.RootCalls.{rootWholeOf, rootBinary64Of};
 ghost use Rattle.exposure.specs.Computed.{averagesOf, meansOf, remaindersOf};
 use division::binary64::Binary64Answer;
 use division::packed::PackedAnswer;
+use division::ratio::ComparisonNumbers;
 use division::root::RootAnswer;
 use division::samples::SamplesAnswer;
 use division::whole::WholeAnswer;
@@ -189,6 +191,14 @@ pub extern "C" fn quendaric_count_visits(
     ensures { λ r. ⌜ (r ≡ visitsAnswer (now (table .entry)) bits digits (now (visits .entry))) × (now (visits .exit) ≡ visitsLeft (now (table .entry)) bits digits (now (visits .entry))) ⌝ }
 {
     recurrence::visits::count_visits(table, bits, digits, visits)
+}
+
+// a / b against c / d.
+#[no_mangle]
+pub extern "C" fn quendaric_compare_ratios(a: u64, b: u64, c: u64, d: u64) -> ComparisonNumbers
+    ensures { λ r. ⌜ r ≡ comparisonNumbers (comparedOf a b c d) ⌝ }
+{
+    division::ratio::comparison_numbers(a, b, c, d)
 }
 
 // The whole root.
