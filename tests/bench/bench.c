@@ -20,6 +20,7 @@ static uint8_t table[QUENDARIC_TABLE_LENGTH], all_bad[QUENDARIC_TABLE_LENGTH], o
 static uint8_t repaired[QUENDARIC_TABLE_LENGTH], changed[QUENDARIC_TABLE_LENGTH];
 static uint64_t dividend[PAIRS], divisor[PAIRS], a[PAIRS], b[PAIRS];
 static struct { uint64_t row, column; uint8_t byte; } bad_cell[PAIRS], any_cell[PAIRS];
+static struct { uint64_t a, b, c, d; } any_ratio[PAIRS], near_ratio[PAIRS];
 static uint8_t out[40];
 static uint64_t number_a[PAIRS], number_b[PAIRS];
 static uint8_t packed_a[PAIRS][8], packed_b[PAIRS][8]; /* the same numbers, packed */
@@ -57,6 +58,16 @@ static uint64_t packed(int i, uint64_t x) {
   memcpy(&quotient, answer.quotient, 8);
   return quotient;
 }
+/* Ratios: drawn ones; neighbours, a / b and (a + 1) / b near 2^60; neighbours among Fibonacci's numbers, the last below 2^60. */
+static const uint64_t fibonacci[] = {420196140727489673u, 679891637638612258u, 1100087778366101931u};
+static uint64_t compare_any(int i, uint64_t x) { return (uint64_t)quendaric_compare_ratios(any_ratio[i].a, any_ratio[i].b, any_ratio[i].c, any_ratio[i].d).order ^ x; }
+static uint64_t compare_near(int i, uint64_t x) { return (uint64_t)quendaric_compare_ratios(near_ratio[i].a, near_ratio[i].b, near_ratio[i].c, near_ratio[i].d).order ^ x; }
+static uint64_t compare_fibonacci(int i, uint64_t x) { (void)i; return (uint64_t)quendaric_compare_ratios(fibonacci[0], fibonacci[1], fibonacci[1], fibonacci[2]).order ^ x; }
+static int64_t by_products(uint64_t u, uint64_t v, uint64_t w, uint64_t z) {
+  unsigned __int128 m = (unsigned __int128)u * z, n = (unsigned __int128)w * v;
+  return (m > n) - (m < n);
+}
+static uint64_t compare_products(int i, uint64_t x) { return (uint64_t)by_products(any_ratio[i].a, any_ratio[i].b, any_ratio[i].c, any_ratio[i].d) ^ x; }
 /* An operand above 0. */
 static uint64_t above(int i, uint64_t x) { return (a[i] ^ (x & 255)) & ~(1ull << 63); }
 static uint64_t root_digit(int i, uint64_t x) { return digit_root_binary64(above(i, x), 0).pattern; }
@@ -108,6 +119,10 @@ static measure measures[] = {
     {"whole-kept", "unit, kept whole numbers, mixed sizes", whole_kept, PAIRS, 0, 0},
     {"whole-sixteen", "unit, kept whole numbers of up to sixteen decimal digits", whole_sixteen, PAIRS, 0, 0},
     {"packed", "unit, the same numbers packed", packed, PAIRS, 0, 0},
+    {"compare-any", "unit, comparison of drawn ratios", compare_any, PAIRS, 0, 0},
+    {"compare-near", "unit, comparison of a / b with (a + 1) / b near 2^60", compare_near, PAIRS, 0, 0},
+    {"compare-fibonacci", "unit, comparison of Fibonacci neighbours, 86 rounds", compare_fibonacci, 32, 0, 0},
+    {"compare-products", "C, drawn ratios by products in 128 bits", compare_products, PAIRS, 0, 0},
     {"root-digit", "C, binary64 root, the same algorithm", root_digit, PAIRS, 0, 0},
     {"root-pair", "C, binary64 root, two digits a step", root_pair, PAIRS, 0, 0},
     {"root", "unit, binary64 root", root_unit, PAIRS, 0, 0},
@@ -188,6 +203,11 @@ static void prepare(void) {
     pack(number_a[i], packed_a[i]);
     pack(number_b[i], packed_b[i]);
   }
+  for (int i = 0; i < PAIRS; i++) {
+    any_ratio[i].a = bits() >> 4, any_ratio[i].b = bits() >> 4 | 1, any_ratio[i].c = bits() >> 4, any_ratio[i].d = bits() >> 4 | 1;
+    near_ratio[i].a = (1ull << 60) - 2 - (bits() >> 8), near_ratio[i].b = (1ull << 60) - 1 - (bits() >> 8);
+    near_ratio[i].c = near_ratio[i].a + 1, near_ratio[i].d = near_ratio[i].b;
+  }
 }
 
 static void averages(size_t length, size_t width, bool newest_first) {
@@ -224,11 +244,13 @@ static int agree(void) {
 #ifdef SOFTFLOAT
     differ += root_softfloat(i, 0) != root_unit(i, 0);
 #endif
+    differ += compare_any(i, 0) != compare_products(i, 0) || compare_near(i, 0) != UINT64_MAX;
     differ += processor_binary64(a[i], b[i]) != quendaric_divide_binary64_kept(a[i], b[i], 0).pattern;
 #ifdef SOFTFLOAT
     differ += b64_softfloat(i, 0) != quendaric_divide_binary64_kept(a[i], b[i], 0).pattern;
 #endif
   }
+  differ += compare_fibonacci(0, 0) != (uint64_t)by_products(fibonacci[0], fibonacci[1], fibonacci[1], fibonacci[2]);
   static uint64_t other_means[READINGS], other_remainders[READINGS];
   averages(READINGS, WIDTH, false);
   plain_averages(readings, READINGS, WIDTH, other_means, other_remainders);
@@ -260,8 +282,11 @@ static double timed(measure *m, int chained) {
   return t;
 }
 
-/* A check, a cell, the maker and a repair have no operand that could come from the last answer. */
-static int chains(const measure *m) { return strncmp(m->name, "check", 5) && strncmp(m->name, "cell", 4) && strcmp(m->name, "make") && strncmp(m->name, "repair", 6); }
+/* A check, a cell, the maker, a repair and these comparisons have no operand that comes from the last answer. */
+static int chains(const measure *m) {
+  return strncmp(m->name, "check", 5) && strncmp(m->name, "cell", 4) && strcmp(m->name, "make") && strncmp(m->name, "repair", 6) &&
+         strncmp(m->name, "compare", 7);
+}
 
 static void keep(double *best, double t) {
   if (*best == 0 || t < *best)
@@ -463,6 +488,10 @@ int main(int argc, char **argv) {
   ratio("repair, every cell with a point bad / its check", "repair-bad", "check-bad", 0);
   double runs = named("visits")->apart / (PAIRS * named("run-kept")->apart);
   printf("%-58s %7.2f %7s   at most 1.5: %s\n", "visits of 1,024 pairs / as many kept runs", runs, "-", runs <= 1.5 ? "met" : "MISSED");
+  ratio("comparison of drawn ratios / kept whole numbers", "compare-any", "whole-kept", 0);
+  ratio("comparison of neighbours / kept whole numbers", "compare-near", "whole-kept", 0);
+  ratio("comparison of Fibonacci neighbours / kept whole numbers", "compare-fibonacci", "whole-kept", 0);
+  ratio("comparison of drawn ratios / products in C", "compare-any", "compare-products", 0);
   ratio("binary64 root / the same algorithm in C", "root", "root-digit", 1.0);
   ratio("binary64 root / two digits a step in C", "root", "root-pair", 0);
   ratio("binary64 root / kept binary64", "root", "b64-kept", 1.1);

@@ -124,6 +124,14 @@ pub struct Visits {
     pub place: u64,
 }
 
+#[repr(C)]
+#[derive(Clone, Copy, Debug, Default, PartialEq, Eq)]
+pub struct Comparison {
+    pub refusal: u64,
+    pub place: u64,
+    pub order: i64,
+}
+
 extern "C" {
     fn quendaric_check_cell(row: u64, column: u64, byte: u8) -> Cell;
     fn quendaric_check_table(table: *const u8, length: usize) -> Table;
@@ -190,6 +198,7 @@ extern "C" {
         visits: *mut u32,
         visits_length: usize,
     ) -> Visits;
+    fn quendaric_compare_ratios(a: u64, b: u64, c: u64, d: u64) -> Comparison;
     fn quendaric_root_whole(a: u64) -> Root;
     fn quendaric_root_binary64(a: u64, direction: u64) -> Binary64;
 }
@@ -291,6 +300,10 @@ pub fn divide_packed(dividend: &[u8; 8], divisor: &[u8; 8]) -> Packed {
 pub fn count_visits(table: &[u8], bits: u64, digits: usize, visits: &mut [u32]) -> Visits {
     let (start, room) = (visits.as_mut_ptr(), visits.len());
     lend(table, |t, size| unsafe { quendaric_count_visits(t, size, bits, digits, start, room) })
+}
+
+pub fn compare_ratios(a: u64, b: u64, c: u64, d: u64) -> Comparison {
+    unsafe { quendaric_compare_ratios(a, b, c, d) }
 }
 
 pub fn root_whole(a: u64) -> Root {
