@@ -128,10 +128,12 @@ conditions = record {
   row-column = cell-row-column;
   byte = cell-byte;
   row = λ r h. ap (answerBy limitsZeros (record { refusal = refusal 0 0; limits = limitsOf r })) (rung-holds 1 0 (below 15 r) [] h);
+  row-told = λ r h. ap (λ (v : Admission). answerBy limitsZeros (record { refusal = refusal 0 0; limits = limitsOf r }) v .refusal) (rung-past 1 0 (below 15 r) [] (λ (x : 15 < r). omega arith));
   room = λ s h. ap (answerBy (λ f. f) (refusal 0 0)) (rung-holds 7 0 (below (length s) 2048) [] h);
   repair-room = short-refused;
   repair-length = length-refused;
   repair-told = repair-told;
+  room-told = λ s h. ap (answerBy (λ f. f) (refusal 0 0)) (rung-past 7 0 (below (length s) 2048) [] (λ (x : length s < 2048). omega arith));
   digits = digits;
   operands = operands;
   buffer = buffer;

@@ -29,7 +29,7 @@ use Rattle.division.specs.Binary64Steps.{binary64Through}
 use Rattle.division.specs.Samples.{samplesZeros, samplesValues, flagsThrough, filledThrough}
 use Rattle.division.specs.RootSteps.{wholeRoot, rootOf}
 use Rattle.division.specs.RootCalls.{rootZeros, rootValues}
-use Rattle.division.specs.Demand1.{Carries, CheckRefuses, RefusesLent, RunRefuses, Demand1}
+use Rattle.division.specs.Demand1.{Carries, CheckRefuses, RefusesLent, RunRefuses, ZerosBesides, Demand1}
 use Rattle.division.proofs.Conditions.{conditions}
 use Rattle.division.proofs.Calls.{whole-ladder, whole-lent, binary64-ladder, binary64-lent}
 use Rattle.division.proofs.SampleRuns.{samples-lent}
@@ -93,10 +93,26 @@ rank-16 : (rank 2 < rank 16) × (rank 16 < rank 7)
 unfolding rank
 rank-16 = (lit< tt, lit< tt)
 
+zeros-besides : ZerosBesides
+zeros-besides = record {
+  cell = λ f. refl;
+  report = λ f. refl;
+  limits = λ f. refl;
+  run = λ f. refl;
+  step = λ f. refl;
+  packed = λ f. refl;
+  repair = λ f. refl;
+  comparison = λ f. refl;
+  whole = λ f. refl;
+  binary64 = λ f. refl;
+  samples = λ f. refl;
+  root = λ f. refl;
+}
+
 pub demand-1 : Demand1
 demand-1 =
     record {
-      zeros = record { step = λ f. refl; packed = λ f. refl; repair = λ f. refl; comparison = λ f. refl };
+      zeros = zeros-besides;
       order = by-number;
       order-11 = rank-11;
       order-14 = rank-14;

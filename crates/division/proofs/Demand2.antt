@@ -1,5 +1,5 @@
 -- Demand 2.
-use Rattle.laws.proofs.Basics.{_≡_, refl, sym, List, [], ℕ, _^_, _≤_, _<_, arith, length}
+use Rattle.laws.proofs.Basics.{_≡_, refl, sym, List, [], _∷_, ℕ, _^_, _≤_, _<_, arith, length, lit≤}
 use native.Mathlib.Nat.{div-add-mod', mod-lt}
 use Rattle.laws.specs.Lists.{listFrom}
 use Rattle.laws.proofs.Division.{quotient}
@@ -9,8 +9,9 @@ use Rattle.selection.proofs.MadeTables.{kept-passes}
 use Rattle.division.specs.Whole.{wholeRungs, wholeOf}
 use Rattle.division.specs.Binary64.{binary64Rungs, binary64Of}
 use Rattle.division.specs.Samples.{samplesRungs, samplesValues, joined, samplesOf, concentrationsOf}
-use Rattle.division.specs.Demand2.{Divides, DividesBinary64, DividesSamples, RightThrough, Demand2}
-use Rattle.division.proofs.SampleRuns.{samples-clear, samples-right, compensated-one}
+use Rattle.division.specs.Computed.{finiteRounded}
+use Rattle.division.specs.Demand2.{Divides, DividesBinary64, DividesSamples, SamplesExample, RightThrough, Demand2}
+use Rattle.division.proofs.SampleRuns.{samples-clear, samples-right, samples-are, compensated-one}
 use Rattle.division.proofs.Calls.{whole-clear, direction-clear}
 use Rattle.division.proofs.WholeThrough.{whole-divides}
 use Rattle.division.proofs.IeeeLaws.{ieee-through}
@@ -37,8 +38,14 @@ module _ (t : List ℕ) (p : Passes t) where
   unfolding joined listFrom
   no-samples direction given h = rw (passed-last p (samplesRungs direction 0 0 (length given)), samples-clear direction 0 0 (length given) h refl (omega arith)) (refl, refl)
 
+  samples-example : SamplesExample t
+  unfolding joined listFrom finiteRounded
+  samples-example =
+      let x = samples-are t p 0 (lit≤ tt) (0x7FE0_0000_0000_0000 ∷ 0x0010_0000_0000_0000 ∷ []) (0x3FD0_0000_0000_0000 ∷ 0x4008_0000_0000_0000 ∷ []) (11 ∷ 12 ∷ 13 ∷ []) refl (lit≤ tt) in
+      record { answer = x .0; concentrations = x .1 }
+
   right : RightThrough t
-  right = record { whole = whole; binary64 = binary64; samples = samples; no-samples = no-samples }
+  right = record { whole = whole; binary64 = binary64; samples = samples; no-samples = no-samples; samples-example = samples-example }
 
 pub demand-2 : Demand2
 demand-2 = record { passed = right; kept = right _ kept-passes }

@@ -16,3 +16,4 @@ pub mod Signalling
 pub mod Ieee754
 pub mod RootExamples
 pub mod RootOrder
+pub mod FlagExamples

@@ -14,6 +14,7 @@ root-examples = record {
   upward = refl;
   downward = refl;
   minus-one = (refl, refl, refl, refl);
+  minus-least = (refl, refl, refl, refl);
   minus-infinity = (refl, refl, refl, refl);
   signalling = (refl, refl, refl, refl);
   quiet = (refl, refl, refl, refl);

@@ -3,3 +3,4 @@ pub mod Directions
 pub mod Ieee754
 pub mod RootExamples
 pub mod RootOrder
+pub mod FlagExamples

@@ -22,8 +22,9 @@ pub record RootExamples : Type 0 where
   pub toward-zero : rootBinary64Of 1 0x4000_0000_0000_0000 ≡ answered 0x3FF6_A09E_667F_3BCC 1
   pub upward : rootBinary64Of 2 0x4000_0000_0000_0000 ≡ answered 0x3FF6_A09E_667F_3BCD 1
   pub downward : rootBinary64Of 3 0x4000_0000_0000_0000 ≡ answered 0x3FF6_A09E_667F_3BCC 1
-  -- -1, minus infinity, a signalling and a quiet not-a-number; minus zero and infinity
+  -- -1, -2^-1074, minus infinity, a signalling and a quiet not-a-number; minus zero and infinity
   pub minus-one : InAll 0xBFF0_0000_0000_0000 (answered 0x7FF8_0000_0000_0000 16)
+  pub minus-least : InAll 0x8000_0000_0000_0001 (answered 0x7FF8_0000_0000_0000 16)
   pub minus-infinity : InAll 0xFFF0_0000_0000_0000 (answered 0x7FF8_0000_0000_0000 16)
   pub signalling : InAll 0x7FF0_0000_0000_0001 (answered 0x7FF8_0000_0000_0000 16)
   pub quiet : InAll 0xFFF8_0000_0000_0001 (answered 0x7FF8_0000_0000_0000 0)

@@ -1,5 +1,5 @@
 -- The test of a cell, given its row's multiples, gives the verdict and witness of the single cell.
-use Rattle.laws.proofs.Basics.{_≡_, refl, sym, subst, ap, _∙_, Bool, true, false, cond, not, _||_, ℕ, _+_, _^_, _≤_, _<_, arith, T, ltb, lt-ltb, le-ltb}
+use Rattle.laws.proofs.Basics.{_≡_, refl, sym, subst, ap, _∙_, _↔_, Bool, true, false, cond, not, _||_, ℕ, _+_, _^_, _≤_, _<_, arith, T, ltb, lt-ltb, le-ltb}
 use Rattle.selection.specs.Cell.{IsCell}
 use Rattle.selection.specs.Multiples.{RowOf, past, allowsBy, leastByte, greatestByte, hasPoint, lowDivisor, highDivisor, lowAt, highAt, foundAt, testOf, witnessOf, cellVerdictOf}
 use Rattle.selection.specs.Multiples.Finding.{NoWitness, LeastAt}
@@ -29,6 +29,15 @@ module _ (m : RowMultiples) (c b : ℕ) where
   not-found : allowsBy m c b ≡ true → testOf m c b ≡ NoWitness
   not-found e = rw e refl
 
+  -- the digit is allowed exactly where the test says so
+  pub allows-tested : (allowsBy m c b ≡ true) ↔ (cellVerdictOf (testOf m c b) ≡ Allowed)
+  allows-tested = ((λ e. ap cellVerdictOf (not-found e)), go (allowsBy m c b) (ltb (greatestByte m c) b))
+    where
+      go : (x y : Bool) → cellVerdictOf (cond x NoWitness (foundAt (m .smallest) c b y)) ≡ Allowed → x ≡ true
+      go true y v = refl
+      go false true v = absurd (let z : _≡_ {A = ℕ} 0 1 = cc in omega arith)
+      go false false v = absurd (let z : _≡_ {A = ℕ} 0 1 = cc in omega arith)
+
   found : allowsBy m c b ≡ false → (x : Bool) → ltb (greatestByte m c) b ≡ x → testOf m c b ≡ foundAt (m .smallest) c b x
   found e x f = rw (e, f) refl
 
@@ -39,6 +48,13 @@ module _ {m : RowMultiples} {c b : ℕ} (o : RowOf m) (hc : c ≤ 127) (hb : b �
   -- at every column and byte from 0 to 4 the test by a row's multiples is the single cell's answer
   pub row-tested : cellVerdictOf (testOf m c b) ≡ cellOf (m .row) c b
   row-tested = ap (λ (n : RowMultiples). cellVerdictOf (testOf n c b)) (o .is) ∙ sym (cell-known cell)
+
+  -- so a digit is allowed exactly where that answer is Allowed
+  pub allows-single : (allowsBy m c b ≡ true) ↔ (cellOf (m .row) c b ≡ Allowed)
+  allows-single = ((λ e. sym row-tested ∙ allows-tested m c b .0 e), (λ v. allows-tested m c b .1 (row-tested ∙ v)))
+
+  pub allowed-is : {x : Bool} → x ≡ allowsBy m c b → (x ≡ allowsBy m c b) × ((x ≡ true) ↔ (cellOf (m .row) c b ≡ Allowed))
+  allowed-is e = (e, ((λ t. allows-single .0 (sym e ∙ t)), (λ v. e ∙ allows-single .1 v)))
 
   -- a divisor that is found is the row's
   found-is : {d w : ℕ} → testOf m c b ≡ LeastAt d w → (d ≤ 2 ^ 61) × (Disallowed (witnessOf d w) ≡ cellOf (m .row) c b)

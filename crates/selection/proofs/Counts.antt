@@ -1,5 +1,5 @@
 -- The first number that passes a test and how many pass: the turns of the code's loops, and what both say of a property that the test decides.
-use Rattle.laws.proofs.Basics.{_≡_, refl, sym, subst, ap, _∙_, Bool, true, false, cond, _⊎_, inl, inr, ⊎-elim, ℕ, zero, suc, _+_, _*_, _-_, _≤_, _<_, add-one, arith, T, ltb, ltb-true, ltb-false, lt-ltb, le-ltb}
+use Rattle.laws.proofs.Basics.{_≡_, refl, sym, subst, ap, _∙_, Bool, true, false, cond, _⊎_, inl, inr, ⊎-elim, ℕ, zero, suc, _+_, _*_, _-_, _≤_, _<_, min, add-one, arith, T, ltb, ltb-true, ltb-false, lt-ltb, le-ltb}
 use native.Mathlib.Nat.{zero-add, add-zero, add-suc, suc-add, eq-or-lt-of-le, not-le-of-lt}
 use Rattle.laws.proofs.Tests.{by-cond}
 use Rattle.selection.specs.Refusals.{First, firstFrom}
@@ -21,6 +21,31 @@ module _ (f : ℕ → Bool) (i m : ℕ) where
   pub first-end : m ≤ i → firstFrom f i (m - i) ≡ i
   unfolding firstFrom
   first-end h = let s : m - i ≡ 0 = omega arith in rw s refl
+
+-- where b says whether the first is not before i, and i passes the test, the first is not past i
+pub first-seen : (f : ℕ → Bool) (i m : ℕ) (b : Bool) → i < m → f i ≡ true → (b ≡ true → firstFrom f 0 m ≡ firstFrom f i (m - i)) → (b ≡ false → firstFrom f 0 m < i) → firstFrom f 0 m < i + 1
+first-seen f i m true h e on before = let x = on refl ∙ first-here f i m h e in omega arith
+first-seen f i m false h e on before = let x = before refl in omega arith
+
+first-bounds : (f : ℕ → Bool) (i n : ℕ) → (i ≤ firstFrom f i n) × (firstFrom f i n ≤ i + n)
+unfolding firstFrom
+first-bounds f i zero = (omega arith, omega arith)
+first-bounds f i (suc n) = by-cond (λ k. (i ≤ k) × (k ≤ i + suc n)) (f i) _ _ (λ t. (omega arith, omega arith)) (λ t. let b = first-bounds f (i + 1) n in (omega arith, omega arith))
+
+-- the first of all is the lesser of the first so far, or m, and the first from i on
+module _ (f : ℕ → Bool) (m : ℕ) where
+  pub lesser-start : firstFrom f 0 m ≡ min m (firstFrom f 0 m)
+  lesser-start = let b = first-bounds f 0 m in omega arith
+
+  pub lesser-turn : (i first : ℕ) {at next : ℕ} → i < m → first ≤ m → at ≡ cond (f i) i m → next ≡ min first at → min first (firstFrom f i (m - i)) ≡ min next (firstFrom f (i + 1) (m - (i + 1)))
+  lesser-turn i first {at} {next} h l e n = go (f i) refl e
+    where
+      go : (x : Bool) → f i ≡ x → at ≡ cond x i m → min first (firstFrom f i (m - i)) ≡ min next (firstFrom f (i + 1) (m - (i + 1)))
+      go true g e = let b = first-bounds f (i + 1) (m - (i + 1)) in let k = first-here f i m h g in omega arith
+      go false g e = let b = first-bounds f (i + 1) (m - (i + 1)) in let k = first-on f i m h g in omega arith
+
+  pub lesser-end : (i first : ℕ) → m ≤ i → first ≤ m → min first (firstFrom f i (m - i)) ≡ first
+  lesser-end i first h l = let k = first-end f i m h in omega arith
 
 module _ (f : ℕ → Bool) (i : ℕ) where
   pub count-one : f i ≡ true → countBelow f (i + 1) ≡ countBelow f i + 1
@@ -126,11 +151,27 @@ pub first-below : {P : ℕ → Type 0} (f : ℕ → Bool) (m : ℕ) → ((k : �
 first-below f m d =
     ⊎-elim (λ x. inl (x .0, λ k h. x .1 k (omega arith) h)) (λ x. inr (x .0, record { here = x .1; before = λ k h. x .2 k (omega arith) h })) (first-of f 0 m m (zero-add m) d)
 
--- where none is counted, none is the first
+-- where none is counted, none is the first, and else one is
 count-some : (f : ℕ → Bool) (j n : ℕ) → j < n → f j ≡ true → 0 < countBelow f n
 unfolding countBelow
 count-some f j zero h e = omega arith
 count-some f j (suc n) h e = ⊎-elim (λ q. let x : f n ≡ true = subst (λ (k : ℕ). f k ≡ true) q e in rw x (omega arith)) (λ l. by-cond (λ k. 0 < k) (f n) _ _ (λ t. omega arith) (λ t. count-some f j n l e)) (eq-or-lt-of-le (omega arith))
 
-pub none-counted : (f : ℕ → Bool) (n : ℕ) → countBelow f n ≡ 0 → firstFrom f 0 n ≡ n
-none-counted f n z = ⊎-elim (λ x. x .0) (λ x. absurd (omega (arith, count-some f (firstFrom f 0 n) n (x .0) (x .1 .here)))) (first-below {P = λ k. f k ≡ true} f n (λ k h. record { yes = λ e. e; no = λ e q. subst T (sym q ∙ e) tt }))
+count-none : (f : ℕ → Bool) (n : ℕ) → ((k : ℕ) → k < n → f k ≡ true → ⊥) → countBelow f n ≡ 0
+unfolding countBelow
+count-none f zero h = refl
+count-none f (suc n) h = go (f n) refl (count-none f n (λ k l. h k (omega arith)))
+  where
+    go : (x : Bool) → f n ≡ x → countBelow f n ≡ 0 → cond x (countBelow f n + 1) (countBelow f n) ≡ 0
+    go true e z = absurd (h n (omega arith) e)
+    go false e z = z
+
+module _ (f : ℕ → Bool) (n : ℕ) where
+  first-true : let k = firstFrom f 0 n in ((k ≡ n) × ((j : ℕ) → j < n → f j ≡ true → ⊥)) ⊎ ((k < n) × First (λ j. f j ≡ true) k)
+  first-true = first-below {P = λ j. f j ≡ true} f n (λ k h. record { yes = λ e. e; no = λ e q. subst T (sym q ∙ e) tt })
+
+  pub none-counted : countBelow f n ≡ 0 → firstFrom f 0 n ≡ n
+  none-counted z = ⊎-elim (λ x. x .0) (λ x. absurd (omega (arith, count-some f (firstFrom f 0 n) n (x .0) (x .1 .here)))) first-true
+
+  pub some-counted : 0 < countBelow f n → firstFrom f 0 n < n
+  some-counted h = ⊎-elim (λ x. absurd (omega (arith, count-none f n (x .1)))) (λ x. x .0) first-true

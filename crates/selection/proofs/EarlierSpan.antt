@@ -1,7 +1,9 @@
 -- For a user with a burned table: what passed under document 01's span passes under this one, and the check says so. The converse is false, by the made table.
-use Rattle.laws.proofs.Basics.{_≡_, refl, sym, _∙_, List, ℕ, _*_, _-_, _^_, _≤_, arith, lit<, lit≤, ℤ, pos}
+use Rattle.laws.proofs.Basics.{_≡_, refl, sym, ap, ap₂, _∙_, List, ℕ, _+_, _*_, _-_, _/_, _%_, _^_, _≤_, min, arith, lit<, lit≤, ℤ, pos}
 use native.Mathlib.Nat.{le-trans}
 use Rattle.laws.specs.Lists.{listFrom}
+use Rattle.laws.proofs.Diff.{diff}
+use Rattle.laws.proofs.Words.{same-mod}
 use Rattle.selection.specs.Word.{signed}
 use Rattle.selection.specs.Cell.{earlierSpan, PointUnder, digit}
 use Rattle.selection.specs.Table.{tableRungs, Passes, PassesUnder}
@@ -10,6 +12,9 @@ use Rattle.selection.specs.Answer.{refusal, reportNumbers, reportZeros}
 use Rattle.selection.specs.Computed.{madeOf, madeTable, reportOf}
 use Rattle.selection.specs.Refusals.{ladder}
 use Rattle.selection.specs.declared.Admission.the-variants.{Admitted}
+use Rattle.selection.specs.Burned.{earlierColumn, earlierLeftOut, LeavesOut, BurnedTables}
+use Rattle.selection.proofs.BiasedPoints.{signed-diff}
+use Rattle.selection.proofs.EarlierKept.{earlier-kept-passes}
 use Rattle.selection.proofs.Reports.{report-passed, passes-admitted, admission-ladder}
 
 module _ {m n : ℕ} (h : n ≤ m) where
@@ -38,3 +43,35 @@ corner = record { row = record { from = lit≤ tt; below = lit< tt }; column = r
 pub made-fails-earlier : PassesUnder earlierSpan madeTable → ⊥
 unfolding madeTable listFrom madeOf allowsOf digit
 made-fails-earlier p = p .allowed 196 (lit< tt) _ _ corner .high .le
+
+-- ---- document 01's estimate
+
+earlier-left-out : (s k : ℕ) → signed (s + k) ≡ signed ((earlierColumn s k + 64) * 2 ^ 57 + earlierLeftOut s k)
+earlier-left-out s k =
+    let n = s / 2 ^ 57 + k / 2 ^ 57 in
+    let c = earlierColumn s k in
+    let e = earlierLeftOut s k in
+    let m : n + 64 ≡ 128 * ((n + 64) / 128) + c = omega arith in
+    signed-diff (s + k) ∙ ap (λ (n : ℕ). diff n (2 ^ 63)) (same-mod (s + k + 2 ^ 63) ((c + 64) * 2 ^ 57 + e + 2 ^ 63) (2 ^ 64) 1 ((n + 64) / 128) (omega arith)) ∙ sym (signed-diff ((c + 64) * 2 ^ 57 + e))
+
+earlier-occurs : (c e : ℕ) → c ≤ 127 → e ≤ earlierSpan → LeavesOut c e
+earlier-occurs c e hc he =
+    let x = min e (2 ^ 57 - 1) in
+    let t = (c + 64) % 128 in
+    let s = t * 2 ^ 57 + x in
+    let k = e - x in
+    let a : s / 2 ^ 57 ≡ t = omega arith in
+    let b : k / 2 ^ 57 ≡ 0 = omega arith in
+    record { sum = s; carry = k; words = (omega arith, omega arith); column = ap₂ (λ (m n : ℕ). (m + n + 64) % 128) a b ∙ omega arith; left-out = omega arith }
+
+pub burned-tables : BurnedTables
+burned-tables = record {
+  estimate = earlier-left-out;
+  at-most = λ s k. omega arith;
+  occurs = earlier-occurs;
+  passes = λ t. burned-passes;
+  told = λ t. burned-told;
+  admitted = λ t. burned-admitted;
+  kept-before = earlier-kept-passes;
+  not-kept-now = made-fails-earlier;
+}

@@ -1,12 +1,12 @@
 -- The computed report is the check's answer in document 01's words, and a table is admitted exactly if it passes.
-use Rattle.laws.proofs.Basics.{_≡_, refl, sym, subst, ap, ap₂, _∙_, List, [], _∷_, _⊎_, inl, inr, ⊎-elim, ℕ, _+_, _*_, _/_, _%_, _≤_, _<_, arith, ltb, ltb→lt, nltb→le, length, getD}
+use Rattle.laws.proofs.Basics.{_≡_, refl, sym, subst, ap, ap₂, _∙_, List, [], _∷_, _⊎_, inl, inr, ⊎-elim, ℕ, _+_, _*_, _/_, _%_, _≤_, _<_, arith, ltb, ltb→lt, nltb→le, lt-ltb, length, getD}
 use native.Mathlib.Nat.{not-le-of-lt}
 use Rattle.laws.proofs.Tests.{by-cond}
 use Rattle.selection.specs.Refusals.{First, Wrongs, firstFrom, numberFirst, ladder, rank}
 use Rattle.selection.specs.Cell.{Allows, CellChecked, digit}
 use Rattle.selection.specs.Table.{Table, BadAt, Passes, formRungs, Checked, ReportMeaning, tableRungs}
 use Rattle.selection.specs.Allowed.{aboveFour, isBad}
-use Rattle.selection.specs.Computed.{cellOf, countBelow, badReport, passedReport, refusedReport, tableReport, reportOf}
+use Rattle.selection.specs.Computed.{cellOf, countBelow, badReport, reportAt, passedReport, refusedReport, tableReport, reportOf}
 use Rattle.selection.specs.Answer.{refusal, outcomeNumbers, reportNumbers, reportZeros, admission, admissionOf, firstOf, answerBy}
 use Rattle.selection.specs.declared.Admission.{Admission}
 use Rattle.selection.specs.declared.Admission.the-variants as A
@@ -38,13 +38,13 @@ module _ (t : List ℕ) where
       let n = ⊎-elim (λ l. l .1) (λ r. absurd (omega (arith, r .0))) (bad-first a) in
       record { means = (record { table = a; allowed = λ k h. allows-unless (cell-at a k h) (λ D P x. n k h (record { divisor = D; remainder = P; against = x })) }, refl) }
 
-  bad : Table t → let k = firstFrom (isBad t) 0 2048 in k < 2048 → Checked t (badReport (countBelow (isBad t) 2048) k (cellOf (k / 128) (k % 128) (getD t k 0)))
+  bad : Table t → let k = firstFrom (isBad t) 0 2048 in k < 2048 → Checked t (reportAt (countBelow (isBad t) 2048) t k)
   bad a h =
       let k = firstFrom (isBad t) 0 2048 in
       let f : First (BadAt t) k = ⊎-elim (λ l. absurd (omega (arith, l .0))) (λ r. r .1) (bad-first a) in
       go k h f (cellOf (k / 128) (k % 128) (getD t k 0)) (cell-checked (k / 128) (k % 128) (getD t k 0))
     where
-      go : (k : ℕ) → k < 2048 → First (BadAt t) k → (v : CellVerdict) → CellChecked (k / 128) (k % 128) (getD t k 0) v → Checked t (badReport (countBelow (isBad t) 2048) k v)
+      go : (k : ℕ) → k < 2048 → First (BadAt t) k → (v : CellVerdict) → CellChecked (k / 128) (k % 128) (getD t k 0) v → Checked t (badReport (countBelow (isBad t) 2048) (k / 128) (k % 128) v)
       go k h f Allowed j = absurd (not-allowed (f .here .against) (j .means .1))
       go k h f (Disallowed w) j = record { means = (a, count-tally (isBad t) 2048 (bad-decides a), first-bad-of h f (j .means .1)) }
       go k h f (Refused r) j = known-not-refused (cell-at a k h) (j .means)
@@ -56,6 +56,18 @@ form-ladder t = record { sound = (tt, λ _. ((λ k h. less-decides 4 (getD t k 0
 -- what no rung of the form refuses is a table
 form-table : (t : List ℕ) → ((n p : ℕ) → Wrongs (formRungs t) n p → ⊥) → Table t
 form-table t a = table-of t (equal (length t) 2048 (λ n. a 8 0 (inl (refl, (refl, n))))) (⊎-elim (λ l. l .1) (λ r. absurd (a 9 _ (inr (inl (refl, r))))) (above-first t))
+
+-- the report of a first bad cell, by its row and its column
+pub report-in : (n : ℕ) (t : List ℕ) (r c : ℕ) {v : CellVerdict} → c ≤ 127 → v ≡ cellOf r c (getD t (128 * r + c) 0) → badReport n r c v ≡ reportAt n t (128 * r + c)
+report-in n t r c h e = rw (cell-row r c h, cell-column r c h) (ap (badReport n r c) e)
+
+-- the report of the table, by its first bad cell
+module _ (t : List ℕ) where
+  pub report-first : (r c n : ℕ) → r ≤ 15 → c ≤ 127 → firstFrom (isBad t) 0 2048 ≡ 128 * r + c → n ≡ countBelow (isBad t) 2048 → reportAt n t (128 * r + c) ≡ tableReport t
+  report-first r c n hr hc e f = rw (e, f, lt-ltb (128 * r + c) 2048 (omega arith)) refl
+
+  pub report-none : firstFrom (isBad t) 0 2048 ≡ 2048 → passedReport ≡ tableReport t
+  report-none e = rw e refl
 
 -- the computed report is the check's answer
 pub report-checked : (t : List ℕ) → Checked t (reportOf t)

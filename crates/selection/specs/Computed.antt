@@ -68,11 +68,15 @@ countBelow f (suc m) = cond (f m) (countBelow f m + 1) (countBelow f m)
 abbrev pub passedReport : Report
 passedReport = record { count = 0; outcome = O.Passed }
 
--- the report of a table whose first bad cell is k, one of n, by the verdict on that cell: no bad cell is `Allowed` or `Refused`
-abbrev pub badReport : ℕ → ℕ → CellVerdict → Report
-badReport n k Allowed = passedReport
-badReport n k (Disallowed w) = record { count = n; outcome = O.Bad (record { row = k / 128; column = k % 128; witness = w }) }
-badReport n k (Refused f) = record { count = 0; outcome = O.Refused f }
+-- the report of a table with n bad cells, the first of them (r, c), by the verdict on that cell: no bad cell is `Allowed` or `Refused`
+abbrev pub badReport : ℕ → ℕ → ℕ → CellVerdict → Report
+badReport n r c Allowed = passedReport
+badReport n r c (Disallowed w) = record { count = n; outcome = O.Bad (record { row = r; column = c; witness = w }) }
+badReport n r c (Refused f) = record { count = 0; outcome = O.Refused f }
+
+-- where it is at the index k of t
+abbrev pub reportAt : ℕ → List ℕ → ℕ → Report
+reportAt n t k = badReport n (k / 128) (k % 128) (cellOf (k / 128) (k % 128) (getD t k 0))
 
 abbrev pub refusedReport : Refusal → Report
 refusedReport f = record { count = 0; outcome = O.Refused f }
@@ -81,7 +85,7 @@ refusedReport f = record { count = 0; outcome = O.Refused f }
 abbrev pub tableReport : List ℕ → Report
 tableReport t =
     let bad = firstFrom (isBad t) 0 2048 in
-    cond (ltb bad 2048) (badReport (countBelow (isBad t) 2048) bad (cellOf (bad / 128) (bad % 128) (getD t bad 0))) passedReport
+    cond (ltb bad 2048) (reportAt (countBelow (isBad t) 2048) t bad) passedReport
 
 -- the check's answer
 unfoldable pub reportOf : List ℕ → Report

@@ -5,6 +5,7 @@ pub mod Allowed
 pub mod Table
 pub mod Maker
 pub mod EarlierKept
+pub mod Burned
 pub mod Answer
 pub mod Refusals
 pub mod Repair

@@ -1,9 +1,12 @@
 // The test of a cell by multiples of its row's smallest and largest divisor, which are worked out once a row.
 ghost use mathlib.Core.Path.{_≡_};
+ghost use mathlib.Core.Bool.{true};
+ghost use mathlib.Core.Logic.{_↔_};
 ghost use Prim.Native.Nat.{_+_, _*_, _-_, _^_, _≤_, _<_, max};
 ghost use lib.IntN.{subℕ};
 ghost use Rattle.selection.specs.Computed.{cellOf};
 ghost use Rattle.selection.specs.Multiples.{leftColumn, rightColumn, beginsAtMost, beginsBelowMinus, endsAtMost, endsBelowMinus, RowOf, past, leastByte, greatestByte, hasPoint, allowsBy};
+ghost use Rattle.selection.specs.declared.CellVerdict.the-variants as Verdict;
 ghost use Rattle.selection.specs.Multiples.{above, under, leastPast, leastDivisor, lowDivisor, highDivisor, lowAt, highAt, witnessOf};
 use crate::CellVerdict;
 use crate::Witness;
@@ -152,10 +155,10 @@ fn has_point(m: RowMultiples, c: u8) -> bool
     past(m.minus8, c) + past(m.plus8, c) == 1
 }
 
-// Whether the cell allows the byte's digit.
+// Whether the cell allows the byte's digit: the verdict of `test_cell` without its witness.
 pub(crate) fn allows(m: RowMultiples, c: u8, byte: u8) -> bool
     requires { ⌜ RowOf m × (c ≤ 127) × (byte ≤ 4) ⌝ }
-    ensures { λ r. ⌜ r ≡ allowsBy m c byte ⌝ }
+    ensures { λ r. ⌜ (r ≡ allowsBy m c byte) × ((r ≡ true) ↔ (cellOf (m .row) c byte ≡ Verdict.Allowed)) ⌝ }
 {
     if past(greatest_byte(m, c), byte) + past(byte, least_byte(m, c)) == 0 {
         return true;
@@ -255,8 +258,7 @@ fn high_witness(d: u64, column: u64, byte: u64) -> Witness
     }
 }
 
-// The test of a cell: the verdict and the witness of `check_cell`. No digit is both too low and too high. A table's cells ask `allows` and leave this one
-// caller, so that it is compiled into `check_cell` and a row's multiples don't go through memory.
+// The test of a cell: the verdict and the witness of `check_cell`. No digit is both too low and too high.
 pub(crate) fn test_cell(m: RowMultiples, column: u64, byte: u8) -> CellVerdict
     requires { ⌜ RowOf m × (column ≤ 127) × (byte ≤ 4) ⌝ }
     ensures { λ r. ⌜ r ≡ cellOf (m .row) column byte ⌝ }

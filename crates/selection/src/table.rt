@@ -1,15 +1,16 @@
 // The check of a table, and where its rows begin.
 ghost use mathlib.Core.Path.{_≡_};
-ghost use mathlib.Core.Bool.{true};
-ghost use Prim.Native.Nat.{_+_, _*_, _/_, _%_, _≤_, _<_};
-ghost use lib.ListN.{length, getD};
+ghost use mathlib.Core.Bool.{true, cond};
+ghost use mathlib.Core.Logic.{_↔_};
+ghost use Prim.Native.Nat.{_+_, _*_, _≤_, _<_, min};
+ghost use lib.ListN.{length};
 ghost use Rattle.selection.specs.Refusals.{firstFrom, ladder};
 ghost use Rattle.selection.specs.Answer.{refusal, admission, firstOf};
 ghost use Rattle.selection.specs.Cell as Cell;
 ghost use Rattle.selection.specs.Allowed.{aboveFour, isBad, isBadIn};
 ghost use Rattle.selection.specs.Multiples.{RowOf};
 ghost use Rattle.selection.specs.Table.{tableRungs, Table, Checked};
-ghost use Rattle.selection.specs.Computed.{cellOf, countBelow, refusedReport, badReport, reportOf};
+ghost use Rattle.selection.specs.Computed.{countBelow, refusedReport, reportAt, tableReport, reportOf};
 use crate::Admission;
 use crate::CellVerdict;
 use crate::Refusal;
@@ -17,6 +18,7 @@ use crate::Witness;
 use crate::multiples::RowMultiples;
 use crate::multiples::allows;
 use crate::multiples::row_multiples;
+use crate::multiples::test_cell;
 
 // A bad cell and the witness against its digit.
 pub struct BadCell {
@@ -46,7 +48,7 @@ pub fn row_start(divisor: u64) -> usize
 // Whether no byte is above 4: a loop without an exit, for bytes side by side.
 fn none_above(table: &[u8]) -> bool
     requires { ⌜ length (now table) ≡ 2048 ⌝ }
-    ensures { λ r. ⌜ (r ≡ true → firstFrom (aboveFour (now (table .entry))) 0 2048 ≡ 2048) ⌝ }
+    ensures { λ r. ⌜ (r ≡ true) ↔ (firstFrom (aboveFour (now (table .entry))) 0 2048 ≡ 2048) ⌝ }
 {
     let mut none = true;
     let mut k: usize = 0;
@@ -101,53 +103,51 @@ fn count_row(table: &[u8], m: RowMultiples) -> u8
     count
 }
 
-// The column of the first bad cell of a row, or 128.
-fn first_in_row(table: &[u8], m: RowMultiples) -> usize
+// The column of a bad cell, or 128.
+fn bad_column(table: &[u8], m: RowMultiples, column: usize) -> u8
+    requires { ⌜ Table (now table) × RowOf m × (column ≤ 127) ⌝ }
+    ensures { λ r. ⌜ r ≡ cond (isBadIn (now (table .entry)) (m .row) column) column 128 ⌝ }
+{
+    if is_bad(table, m, column) {
+        column as u8
+    } else {
+        128
+    }
+}
+
+// The lesser of two columns.
+fn lesser(a: u8, b: u8) -> u8
+    ensures { λ r. ⌜ r ≡ min a b ⌝ }
+{
+    if b < a { b } else { a }
+}
+
+// The column of the first bad cell of a row, or 128: a loop without an exit too.
+fn first_in_row(table: &[u8], m: RowMultiples) -> u8
     requires { ⌜ Table (now table) × RowOf m ⌝ }
     ensures { λ r. ⌜ r ≡ firstFrom (isBadIn (now (table .entry)) (m .row)) 0 128 ⌝ }
 {
-    if count_row(table, m) == 0 {
-        return 128;
-    }
+    let mut first: u8 = 128;
     let mut column: usize = 0;
     while column < 128 {
-        if is_bad(table, m, column) {
-            return column;
-        }
+        first = lesser(first, bad_column(table, m, column));
         column += 1;
     }
-    128
+    first
 }
 
-// The index of the first bad cell, or 2048. A row's multiples are worked out before its columns start.
-fn first_bad(table: &[u8]) -> usize
-    requires { ⌜ Table (now table) ⌝ }
-    ensures { λ r. ⌜ r ≡ firstFrom (isBad (now (table .entry))) 0 2048 ⌝ }
-{
-    let mut row: usize = 0;
-    while row < 16 {
-        let m = row_multiples(row as u64);
-        let column = first_in_row(table, m);
-        if column < 128 {
-            return 128 * row + column;
-        }
-        row += 1;
-    }
-    2048
-}
-
-// The number of bad cells.
-fn count_bad(table: &[u8]) -> u64
-    requires { ⌜ Table (now table) ⌝ }
+// The number of bad cells, where the rows before `start` have `count` of them.
+fn count_from(table: &[u8], start: usize, count: u64) -> u64
+    requires { ⌜ Table (now table) × (start ≤ 16) × (count ≡ countBelow (isBad (now table)) (128 * start)) ⌝ }
     ensures { λ r. ⌜ r ≡ countBelow (isBad (now (table .entry))) 2048 ⌝ }
 {
-    let mut count: u64 = 0;
-    let mut row: usize = 0;
+    let mut total = count;
+    let mut row = start;
     while row < 16 {
-        count += count_row(table, row_multiples(row as u64)) as u64;
+        total += count_row(table, row_multiples(row as u64)) as u64;
         row += 1;
     }
-    count
+    total
 }
 
 // A refusal, with no count.
@@ -160,16 +160,18 @@ fn refused_report(number: u64, place: u64) -> Report
     }
 }
 
-// The report of a table whose first bad cell is at the index k. The last two verdicts are never given on it.
-fn bad_report(table: &[u8], k: usize) -> Report
-    requires { ⌜ Table (now table) × (k < 2048) ⌝ }
-    ensures { λ r. ⌜ r ≡ badReport (countBelow (isBad (now (table .entry))) 2048) k (cellOf (k / 128) (k % 128) (getD (now (table .entry)) k 0)) ⌝ }
+// The report of a table with `count` bad cells, the first of them in the row whose multiples are m: its verdict and witness are the test's. The last two
+// verdicts are never given on it.
+fn bad_report(table: &[u8], m: RowMultiples, count: u64) -> Report
+    requires { ⌜ Table (now table) × RowOf m × (firstFrom (isBadIn (now table) (m .row)) 0 128 < 128) ⌝ }
+    ensures { λ r. ⌜ r ≡ reportAt count (now (table .entry)) (128 * m .row + firstFrom (isBadIn (now (table .entry)) (m .row)) 0 128) ⌝ }
 {
-    let row = (k / 128) as u64;
-    let column = (k % 128) as u64;
-    match crate::check_cell(row, column, table[k]) {
+    let row = m.row;
+    let column = first_in_row(table, m) as u64;
+    let k = 128 * row + column;
+    match test_cell(m, column, table[k as usize]) {
         CellVerdict::Disallowed(witness) => Report {
-            count: count_bad(table),
+            count,
             outcome: Outcome::Bad(BadCell {
                 row,
                 column,
@@ -187,6 +189,27 @@ fn bad_report(table: &[u8], k: usize) -> Report
     }
 }
 
+// The report of 2,048 bytes from 0 to 4, in one pass: a row's multiples are worked out before its columns start, and handed to the count of its bad cells
+// and to the test of the first.
+fn check_rows(table: &[u8]) -> Report
+    requires { ⌜ Table (now table) ⌝ }
+    ensures { λ r. ⌜ r ≡ tableReport (now (table .entry)) ⌝ }
+{
+    let mut row: usize = 0;
+    while row < 16 {
+        let m = row_multiples(row as u64);
+        let count = count_row(table, m);
+        if 0 < count {
+            return bad_report(table, m, count_from(table, row + 1, count as u64));
+        }
+        row += 1;
+    }
+    Report {
+        count: 0,
+        outcome: Outcome::Passed,
+    }
+}
+
 // The number of bad cells, and the first of them with its witness.
 pub fn check_table(table: &[u8]) -> Report
     ensures { λ r. ⌜ (r ≡ reportOf (now (table .entry))) × (Checked (now (table .entry)) r) ⌝ }
@@ -198,14 +221,7 @@ pub fn check_table(table: &[u8]) -> Report
     if above < 2048 {
         return refused_report(9, above as u64);
     }
-    let bad = first_bad(table);
-    if bad < 2048 {
-        return bad_report(table, bad);
-    }
-    Report {
-        count: 0,
-        outcome: Outcome::Passed,
-    }
+    check_rows(table)
 }
 
 // The index of a bad cell.

@@ -7,17 +7,17 @@ use Rattle.selection.proofs.multiples.test_cell.Statement.{statement}
 use Rattle.selection.proofs.multiples.test_cell.Tie as tie
 
 returns : tie.Need-returns
-returns c = let a = c .before .before in is-allowed (a .pre .0) (a .pre .1) (a .pre .2) (sym (c .before .allows .ensures) ∙ c .if1 .taken)
+returns c = let a = c .before .before in is-allowed (a .pre .0) (a .pre .1) (a .pre .2) (sym (c .before .allows .ensures .0) ∙ c .if1 .taken)
 
 -- past the first test a digit is broken
 columns : (c : tie.Else1) → let a = c .before .before .args in (20 ≤ a .column) × (a .column ≤ 106)
-columns c = let a = c .before .before in found-columns (a .pre .0) (a .pre .1) (a .pre .2) (sym (c .before .allows .ensures) ∙ c .if1 .left)
+columns c = let a = c .before .before in found-columns (a .pre .0) (a .pre .1) (a .pre .2) (sym (c .before .allows .ensures .0) ∙ c .if1 .left)
 
 low : (c : tie.Then2) → let a = c .before .before .before .before .args in let d = lowDivisor (a .m .smallest) (a .column) (a .byte) in (d ≤ 2 ^ 61) × (Disallowed (witnessOf d (lowAt d (a .column))) ≡ cellOf (a .m .row) (a .column) (a .byte))
-low c = let a = c .before .before .before .before in low-found (a .pre .0) (a .pre .1) (a .pre .2) (sym (c .before .before .before .allows .ensures) ∙ c .before .before .if1 .left) (rw (← c .before .greatest-byte .ensures .0) (c .if2 .taken))
+low c = let a = c .before .before .before .before in low-found (a .pre .0) (a .pre .1) (a .pre .2) (sym (c .before .before .before .allows .ensures .0) ∙ c .before .before .if1 .left) (rw (← c .before .greatest-byte .ensures .0) (c .if2 .taken))
 
 high : (c : tie.Else2) → let a = c .before .before .before .before .args in let d = highDivisor (a .m .smallest) (a .column) (a .byte) in (d ≤ 2 ^ 61) × (Disallowed (witnessOf d (highAt d (a .column) (a .byte))) ≡ cellOf (a .m .row) (a .column) (a .byte))
-high c = let a = c .before .before .before .before in high-found (a .pre .0) (a .pre .1) (a .pre .2) (sym (c .before .before .before .allows .ensures) ∙ c .before .before .if1 .left) (rw (← c .before .greatest-byte .ensures .0) (c .if2 .left))
+high c = let a = c .before .before .before .before in high-found (a .pre .0) (a .pre .1) (a .pre .2) (sym (c .before .before .before .allows .ensures .0) ∙ c .before .before .if1 .left) (rw (← c .before .greatest-byte .ensures .0) (c .if2 .left))
 
 low-divisor-requires : tie.Need-low-divisor-requires
 low-divisor-requires c κs = (columns (c .before .before) .0, columns (c .before .before) .1, c .before .before .before .before .pre .2)

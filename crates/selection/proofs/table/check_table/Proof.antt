@@ -1,4 +1,4 @@
-use Rattle.laws.proofs.Basics.{now, arith, needs, eq-eqb, ne-eqb, lt-ltb, le-ltb}
+use Rattle.laws.proofs.Basics.{now, needs, eq-eqb, ne-eqb, lt-ltb, le-ltb}
 use Rattle.selection.specs.Table.{Table}
 use Rattle.selection.specs.Computed.{reportOf}
 use Rattle.selection.proofs.Reports.{report-is, is-table}
@@ -17,21 +17,14 @@ returns-2 : tie.Need-returns-2
 unfolding reportOf
 returns-2 c = report-is (rw (c .refused-report2 .ensures) (simp (eq-eqb _ _ (c .before .before .before .if1 .left), ← c .before .before .first-above .ensures, lt-ltb _ _ (c .before .if2 .taken))))
 
-first-bad-requires : tie.Need-first-bad-requires
-first-bad-requires c κs = table-ok c
-
-bad-report-requires : tie.Need-bad-report-requires
-bad-report-requires c κs = (table-ok (c .before .before), omega arith)
+check-rows-requires : tie.Need-check-rows-requires
+check-rows-requires c κs = table-ok c
 
 returns-3 : tie.Need-returns-3
 unfolding reportOf
-returns-3 c = report-is (rw (c .bad-report .ensures) (simp (eq-eqb _ _ (c .before .before .before .before .before .if1 .left), ← c .before .before .before .before .first-above .ensures, le-ltb _ _ (c .before .before .before .if2 .left), ← c .before .before .first-bad .ensures, lt-ltb _ _ (c .before .if3 .taken))))
-
-returns-4 : tie.Need-returns-4
-unfolding reportOf
-returns-4 c = report-is (simp (eq-eqb _ _ (c .before .before .before .before .if1 .left), ← c .before .before .before .first-above .ensures, le-ltb _ _ (c .before .before .if2 .left), ← c .before .first-bad .ensures, le-ltb _ _ (c .if3 .left)))
+returns-3 c = report-is (rw (c .check-rows .ensures) (simp (eq-eqb _ _ (c .before .before .before .if1 .left), ← c .before .before .first-above .ensures, le-ltb _ _ (c .before .if2 .left))))
 
 pub check-table-spec : {M : Type 1} → statement M
 check-table-spec =
     tie.close (tie.spec (λ c κs. search needs) returns (λ c κs. search needs) (λ c κs. search needs)
-    returns-2 first-bad-requires bad-report-requires returns-3 returns-4)
+    returns-2 check-rows-requires returns-3)

@@ -13,7 +13,7 @@ abbrev μ-loop : tie.MeasureT-loop
 μ-loop table i₀ i = 2048 - i
 
 returns : tie.Need-returns Inv-loop μ-loop
-returns c = sym (c .before .none-above .ensures (c .if1 .taken))
+returns c = sym (c .before .none-above .ensures .0 (c .if1 .taken))
 
 returns-2 : tie.Need-returns-2 Inv-loop μ-loop
 returns-2 c = sym (c .before .before .before .loop .inv .1 ∙ first-here _ _ 2048 (omega arith) (lt-ltb _ _ (c .if2 .taken)))

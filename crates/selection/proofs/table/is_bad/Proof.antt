@@ -7,7 +7,7 @@ allows-requires : tie.Need-allows-requires
 allows-requires c κs = (c .before .before .pre .1, omega arith, c .before .before .pre .0 .digits _)
 
 returns : tie.Need-returns
-returns c = let a = c .before .before .before in ap not (c .allows .ensures) ∙ bad-in-row (now (a .args .table)) (a .args .column) (a .pre .1) (a .pre .2)
+returns c = let a = c .before .before .before in ap not (c .allows .ensures .0) ∙ bad-in-row (now (a .args .table)) (a .args .column) (a .pre .1) (a .pre .2)
 
 pub is-bad-spec : {M : Type 1} → statement M
 is-bad-spec =

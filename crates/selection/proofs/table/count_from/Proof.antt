@@ -1,25 +1,24 @@
-use Rattle.laws.proofs.Basics.{now, ℕ, _*_, _≤_, _-_, _≡_, refl, ap, _∙_, arith}
+use Rattle.laws.proofs.Basics.{now, ℕ, _*_, _≤_, _-_, _≡_, ap, _∙_, arith}
 use Rattle.selection.specs.Allowed.{isBad, isBadIn}
 use Rattle.selection.specs.Computed.{countBelow}
 use Rattle.selection.proofs.Counts.{count-most, row-counted}
-use Rattle.selection.proofs.table.count_bad.Statement.{statement}
-use Rattle.selection.proofs.table.count_bad.Tie as tie
+use Rattle.selection.proofs.table.count_from.Statement.{statement}
+use Rattle.selection.proofs.table.count_from.Tie as tie
 
 abbrev Inv-loop : tie.InvT-loop
-Inv-loop table count₀ row₀ count row = (row ≤ 16) × (count ≡ countBelow (isBad table) (128 * row))
+Inv-loop table start count total₀ row₀ total row = (row ≤ 16) × (total ≡ countBelow (isBad table) (128 * row))
 
 abbrev μ-loop : tie.MeasureT-loop
-μ-loop table count₀ row₀ count row = 16 - row
+μ-loop table start count total₀ row₀ total row = 16 - row
 
 loop-holds : tie.Need-loop-holds Inv-loop μ-loop
-unfolding countBelow
-loop-holds c = (omega arith, refl)
+loop-holds c = (c .before .pre .1, c .before .pre .2)
 
 count-row-requires : tie.Need-count-row-requires Inv-loop μ-loop
-count-row-requires c κs = (c .before .before .before .before .pre, c .row-multiples .ensures .0)
+count-row-requires c κs = (c .before .before .before .before .pre .0, c .row-multiples .ensures .0)
 
-add-count : tie.Need-add-count Inv-loop μ-loop
-add-count c = omega (arith, count-most (isBad (now (c .before .before .before .before .before .args .table))) (128 * c .before .before .before .loop .row))
+add-total : tie.Need-add-total Inv-loop μ-loop
+add-total c = omega (arith, count-most (isBad (now (c .before .before .before .before .before .args .table))) (128 * c .before .before .before .loop .row))
 
 loop-again : tie.Need-loop-again Inv-loop μ-loop
 loop-again c =
@@ -30,7 +29,7 @@ loop-again c =
 returns : tie.Need-returns Inv-loop μ-loop
 returns c = let e : c .before .loop .row ≡ 16 = omega arith in c .before .loop .inv .1 ∙ ap (λ (n : ℕ). countBelow (isBad (now (c .before .before .before .args .table))) (128 * n)) e
 
-pub count-bad-spec : {M : Type 1} → statement M
-count-bad-spec =
+pub count-from-spec : {M : Type 1} → statement M
+count-from-spec =
     tie.close (tie.spec Inv-loop μ-loop loop-holds (λ c κs. omega arith) count-row-requires
-    (λ c. omega arith) add-count (λ c. omega arith) (λ c. omega arith) loop-again returns)
+    (λ c. omega arith) add-total (λ c. omega arith) (λ c. omega arith) loop-again returns)
