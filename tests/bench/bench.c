@@ -481,7 +481,7 @@ int main(int argc, char **argv) {
   ratio("check of a passing table / kept run", "check", "run-kept", 9);
   ratio("check of a passing table / C count in 128-bit numbers", "check", "check-plain", 0.15);
   ratio("check, every cell with a point bad / passing", "check-bad", "check", 1.5);
-  ratio("check, one bad cell, the last / passing", "check-one", "check", 2.5);
+  ratio("check, one bad cell, the last / passing", "check-one", "check", 1.3);
   ratio("the made table / kept run", "make", "run-kept", 0);
   ratio("packed / the same whole numbers", "packed", "whole-sixteen", 0);
   ratio("repair of a passing table / its check", "repair", "check", 0);
