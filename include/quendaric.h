@@ -55,10 +55,10 @@ extern "C" {
 #endif
 
 /* The version of these calls; CHANGELOG.md tells what changed. */
-#define QUENDARIC_VERSION "2.2.1"
+#define QUENDARIC_VERSION "2.2.2"
 #define QUENDARIC_VERSION_MAJOR 2
 #define QUENDARIC_VERSION_MINOR 2
-#define QUENDARIC_VERSION_PATCH 1
+#define QUENDARIC_VERSION_PATCH 2
 
 #define QUENDARIC_TABLE_LENGTH 2048
 #define QUENDARIC_MOST_DIGITS 28

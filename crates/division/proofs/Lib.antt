@@ -10,6 +10,7 @@ pub mod RootDigits
 pub mod Roots
 pub mod Classes
 pub mod WholeThrough
+pub mod WholeDigits
 pub mod Binary64Through
 pub mod Calls
 pub mod SampleRuns

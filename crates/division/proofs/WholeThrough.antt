@@ -1,38 +1,51 @@
 -- Whole numbers through a table that passes: the run's digits give a / b and a % b.
 use Rattle.laws.proofs.Basics.{_≡_, List, ℕ, _+_, _-_, _*_, _/_, _%_, _^_, _≤_, _<_, arith, lit<}
-use native.Mathlib.Nat.{mul-assoc, mul-div-cancel, mul-le-mul-left}
-use lib.Pow.{pow-mono, pow-pos}
+use native.Mathlib.Nat.{mul-assoc, mul-div-cancel, mul-lt-mul-of-pos-right}
+use lib.Count.{leadingZeros, leading-length}
+use lib.Pow.{pow-add, pow-mono, pow-pos}
 use Rattle.laws.proofs.Division.{scaled}
-use Rattle.laws.proofs.Powers.{by-digits, lifted}
+use Rattle.laws.proofs.Powers.{four-pow, lifted, pow-cancel}
 use Rattle.selection.specs.Table.{Passes}
 use Rattle.recurrence.specs.Recurrence.{Operands, resultOf}
 use Rattle.recurrence.proofs.RunDemand.{result-divides}
-use Rattle.division.specs.WholeSteps.{shiftTo, shiftedThrough, wholeThrough}
+use Rattle.division.specs.WholeSteps.{shiftTo, digitsAfter, shiftedRun, shiftedThrough, wholeThrough}
 
--- the dividend is moved up by a bit at most
-pub low-bit : (a s : ℕ) → a < 2 ^ 60 → a * 2 ^ (s % 2) < 2 ^ 61
-low-bit a s h =
-    let l : s % 2 ≤ 1 = omega arith in
-    omega (arith, mul-le-mul-left a (pow-mono l))
+-- above a number below 2^60 there are four zeros at least; moved up by all of them but three, or by less, it stays in the dividend's span
+pub room-above : (a : ℕ) → a < 2 ^ 60 → (4 ≤ leadingZeros 64 a) × ((m : ℕ) → m ≤ shiftTo 60 a → a * 2 ^ m < 2 ^ 61)
+room-above a h =
+    let u = leading-length 64 a (omega arith) in
+    let short : u .0 < 61 = pow-cancel (omega (arith, u .3)) in
+    (omega (arith, u .1), λ m l. omega (arith, mul-lt-mul-of-pos-right (u .2) (pow-pos m), pow-add 2 (u .0) m, pow-mono {i = u .0 + m} {j = 61} (omega (arith, u .1))))
+
+-- what the digits after the first leave to the dividend
+pub after-bounds : (a s : ℕ) → a < 2 ^ 60 → s ≤ 60 → let k = digitsAfter a s in (k ≤ 30) × (2 * k ≤ s) × (a * 2 ^ (s - 2 * k) < 2 ^ 61)
+after-bounds a s h l =
+    let r = room-above a h in
+    (omega (arith, r .0), omega (arith, r .0), r .1 (s - 2 * digitsAfter a s) (omega (arith, r .0)))
 
 -- the run's operands
-pub whole-operands : (a b : ℕ) → a < 2 ^ 60 → 0 < b → b < 2 ^ 60 → Operands (a * 2 ^ (shiftTo 60 b % 2)) (b * 2 ^ shiftTo 60 b)
+pub whole-operands : (a b : ℕ) → a < 2 ^ 60 → 0 < b → b < 2 ^ 60
+    → let s = shiftTo 60 b in Operands (a * 2 ^ (s - 2 * digitsAfter a s)) (b * 2 ^ s)
 whole-operands a b ha p hb =
     let l = lifted 60 b (lit< tt) p hb in
-    record { dividend = low-bit a (shiftTo 60 b) ha; least = l .2; most = l .3 }
+    record { dividend = after-bounds a (shiftTo 60 b) ha (l .1) .2; least = l .2; most = l .3 }
 
--- the run of a·2^(s % 2) by b·2^s, s / 2 + 1 digits, gives a / b and (a % b)·2^s
+-- the run of a·2^(s − 2k) by b·2^s, k + 1 digits, gives a / b and (a % b)·2^s
 pub whole-through : (t : List ℕ) (a b : ℕ) → Passes t → a < 2 ^ 60 → 0 < b → b < 2 ^ 60
-    → let s = shiftTo 60 b in resultOf t (a * 2 ^ (s % 2)) (b * 2 ^ s) (s / 2 + 1) ≡ record { quotient = a / b; remainder = a % b * 2 ^ s; count = s / 2 + 1 }
+    → let s = shiftTo 60 b in let k = digitsAfter a s in
+    resultOf t (a * 2 ^ (s - 2 * k)) (b * 2 ^ s) (k + 1) ≡ record { quotient = a / b; remainder = a % b * 2 ^ s; count = k + 1 }
 whole-through t a b p ha pb hb =
     let s = shiftTo 60 b in
-    let e = result-divides t (a * 2 ^ (s % 2)) (b * 2 ^ s) (s / 2 + 1) p (whole-operands a b ha pb hb) (omega arith) in
-    let i : s / 2 + 1 - 1 ≡ s / 2 = omega arith in
-    let m : a * 2 ^ (s % 2) * 4 ^ (s / 2 + 1 - 1) ≡ a * 2 ^ s = rw (i, mul-assoc, by-digits s) in
+    let k = digitsAfter a s in
+    let bounds = after-bounds a s ha (lifted 60 b (lit< tt) pb hb .1) in
+    let e = result-divides t (a * 2 ^ (s - 2 * k)) (b * 2 ^ s) (k + 1) p (whole-operands a b ha pb hb) (omega arith) in
+    let i : k + 1 - 1 ≡ k = omega arith in
+    let j : s - 2 * k + (k + k) ≡ s = omega (arith, bounds .1) in
+    let m : a * 2 ^ (s - 2 * k) * 4 ^ (k + 1 - 1) ≡ a * 2 ^ s = rw (i, mul-assoc, four-pow k, ← pow-add 2 (s - 2 * k) (k + k), j) in
     let free = scaled a {k = 2 ^ s} pb (pow-pos s) in
     rw (e, m, free .0, free .1)
 
 -- so the call's quotient and remainder are a / b and a % b
 pub whole-divides : (t : List ℕ) (a b : ℕ) → Passes t → a < 2 ^ 60 → 0 < b → b < 2 ^ 60 → wholeThrough t a b ≡ record { quotient = a / b; remainder = a % b }
-unfolding shiftedThrough
+unfolding shiftedThrough shiftedRun
 whole-divides t a b p ha pb hb = rw (whole-through t a b p ha pb hb, mul-div-cancel (a % b) (pow-pos (shiftTo 60 b)))

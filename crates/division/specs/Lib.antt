@@ -5,6 +5,7 @@ pub mod Ieee
 pub mod Computed
 pub mod WholeSteps
 pub mod Whole
+pub mod WholeDigits
 pub mod Significands
 pub mod Binary64Steps
 pub mod Binary64

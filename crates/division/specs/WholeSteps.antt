@@ -1,21 +1,31 @@
 -- Whole-number division through a table, step by step. No step need be believed: `whole-through` and `whole-divides` show that through every table that passes
 -- they give a / b and a % b.
 use mathlib.Core.List.{List}
-use Prim.Native.Nat.{ℕ, _+_, _-_, _*_, _/_, _%_, _^_}
+use Prim.Native.Nat.{ℕ, _+_, _-_, _*_, _/_, _^_}
 use lib.Count.{leadingZeros}
 use Rattle.recurrence.specs.Recurrence.{resultOf}
+use Rattle.recurrence.specs.declared.RunResult.{RunResult}
 use Rattle.division.specs.declared.whole.WholeResult.{WholeResult}
 
 -- how far a 64-bit number is moved up for its leading one to stand at bit k
 abbrev pub shiftTo : ℕ → ℕ → ℕ
 shiftTo k b = leadingZeros 64 b - (63 - k)
 
--- quotient and remainder of a by a divisor that has been moved up by s bits to d, in the divisor's span: the run of s / 2 + 1 digits of a·2^(s % 2) by d,
--- and its remainder moved down again
+-- how many digits follow the first, where the divisor is moved up by s bits: each of them brings two of the s, and a is moved up by the rest, to bit 60 at most
+abbrev pub digitsAfter : ℕ → ℕ → ℕ
+digitsAfter a s = (s - shiftTo 60 a + 1) / 2
+
+-- the run of a by a divisor that has been moved up by s bits to d, in the divisor's span: a is moved up by the bits that the digits after the first do not bring
+unfoldable pub shiftedRun : List ℕ → ℕ → ℕ → ℕ → RunResult
+shiftedRun t a d s = let k = digitsAfter a s in resultOf t (a * 2 ^ (s - 2 * k)) d (k + 1)
+
+-- its quotient, and its remainder moved down again
 unfoldable pub shiftedThrough : List ℕ → ℕ → ℕ → ℕ → WholeResult
-shiftedThrough t a d s =
-    let r = resultOf t (a * 2 ^ (s % 2)) d (s / 2 + 1) in
-    record { quotient = r .quotient; remainder = r .remainder / 2 ^ s }
+shiftedThrough t a d s = record { quotient = shiftedRun t a d s .quotient; remainder = shiftedRun t a d s .remainder / 2 ^ s }
+
+-- the run of a by b, its digits those of the table t
+abbrev pub wholeRun : List ℕ → ℕ → ℕ → RunResult
+wholeRun t a b = shiftedRun t a (b * 2 ^ shiftTo 60 b) (shiftTo 60 b)
 
 -- a by b, the quotient by the digits of the table t
 abbrev pub wholeThrough : List ℕ → ℕ → ℕ → WholeResult

@@ -1,14 +1,15 @@
 // Whole-number division over the run.
 ghost use mathlib.Core.Path.{_≡_};
 ghost use mathlib.Core.List.{List};
-ghost use Prim.Native.Nat.{ℕ, _+_, _-_, _*_, _/_, _%_, _^_, _≤_, _<_};
+ghost use Prim.Native.Nat.{ℕ, _+_, _-_, _*_, _/_, _^_, _≤_, _<_};
 ghost use Rattle.selection.specs.Cell as Cell;
 ghost use Rattle.selection.specs.Computed.{madeTable};
 ghost use Rattle.selection.specs.Table.{Passes, rowBytes};
 ghost use Rattle.selection.specs.Refusals.{ladder};
 ghost use Rattle.recurrence.specs.Row.{Row};
-ghost use Rattle.division.specs.WholeSteps.{shiftTo, shiftedThrough, wholeThrough};
+ghost use Rattle.division.specs.WholeSteps.{shiftTo, digitsAfter, shiftedRun, shiftedThrough, wholeThrough};
 ghost use Rattle.division.specs.Whole.{wholeRungs, wholeZeros, wholeValues, wholeOf};
+use recurrence::RunResult;
 use selection::Admission;
 use selection::Refusal;
 use selection::refused;
@@ -37,15 +38,36 @@ fn shift_of(b: u64) -> u32
     u64::leading_zeros(b) - 3
 }
 
-// The quotient of a by a divisor moved up by s bits to d, through its row in a table that passes.
+// How many digits follow the first, where the divisor is moved up by s bits: as few as bring a, moved up the rest of the way, into the dividend's span.
+fn digits_after(a: u64, s: u32) -> u32
+    requires { ⌜ (a < 2 ^ 60) × (s ≤ 60) ⌝ }
+    ensures { λ k. ⌜ (k ≡ digitsAfter a s) × (k ≤ 30) × (2 * k ≤ s) × (a * 2 ^ (s - 2 * k) < 2 ^ 61) ⌝ }
+{
+    let room = u64::leading_zeros(a) - 3;
+    if s <= room {
+        return 0;
+    }
+    (s - room + 1) / 2
+}
+
+// The run of a by a divisor moved up by s bits to d, through its row in a table that passes.
+fn shifted_run(row: &[u8], a: u64, d: u64, s: u32) -> RunResult
+    requires { ⌜ (Row d (now row)) × (a < 2 ^ 60) × (2 ^ 60 ≤ d) × (d < 2 ^ 61) × (s ≤ 60) ⌝ }
+    ensures { λ r. ⌜ ((t : List ℕ) → Passes t → now (row .entry) ≡ rowBytes t (Cell.row d) → r ≡ shiftedRun t a d s) ⌝ }
+{
+    let after = digits_after(a, s);
+    let n = a << (s - 2 * after);
+    let count = (after + 1) as usize;
+    let mut digits = [2u8; recurrence::LONGEST];
+    recurrence::run_row(row, n, d, &mut digits[0..count])
+}
+
+// Its quotient, and its remainder moved down again.
 fn shifted(row: &[u8], a: u64, d: u64, s: u32) -> WholeResult
     requires { ⌜ (Row d (now row)) × (a < 2 ^ 60) × (2 ^ 60 ≤ d) × (d < 2 ^ 61) × (s ≤ 60) ⌝ }
     ensures { λ r. ⌜ ((t : List ℕ) → Passes t → now (row .entry) ≡ rowBytes t (Cell.row d) → r ≡ shiftedThrough t a d s) ⌝ }
 {
-    let n = a << (s % 2);
-    let count = (s / 2 + 1) as usize;
-    let mut digits = [2u8; recurrence::LONGEST];
-    let ran = recurrence::run_row(row, n, d, &mut digits[0..count]);
+    let ran = shifted_run(row, a, d, s);
     WholeResult {
         quotient: ran.quotient,
         remainder: ran.remainder >> s,

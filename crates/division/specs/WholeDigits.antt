@@ -1,0 +1,30 @@
+-- How many digits a whole-number division takes: document 02, Wish 5, "as many digits as it needs".
+use mathlib.Core.Path.{_≡_}
+use mathlib.Core.List.{List}
+use Prim.Native.Nat.{ℕ, _+_, _-_, _*_, _/_, _^_, _≤_, _<_}
+use lib.Count.{leadingZeros}
+use Rattle.recurrence.specs.Recurrence.{resultOf}
+use Rattle.division.specs.WholeSteps.{wholeRun, wholeThrough}
+
+-- how many bits a number below 2^64 has; 0 has none
+abbrev pub bits : ℕ → ℕ
+bits a = 64 - leadingZeros 64 a
+
+-- a is divided by b in one run of n digits, whatever the table: quotient and remainder are the run's, the remainder moved down. (Tables that do not pass are among
+-- them, and through these a run of another number of digits answers otherwise.)
+pub record TakesDigits (a b n : ℕ) : Type 0 where
+  pub dividend : ℕ
+  pub divisor : ℕ
+  pub shift : ℕ
+  pub run : (t : List ℕ) → wholeRun t a b ≡ resultOf t dividend divisor n
+  pub answer : (t : List ℕ) → wholeThrough t a b ≡ record { quotient = wholeRun t a b .quotient; remainder = wholeRun t a b .remainder / 2 ^ shift }
+
+pub record WholeDigits : Type 0 where
+  -- a is below 2^(bits a), and below no smaller power of two
+  pub bits-least : (a : ℕ) → a < 2 ^ 64 → (a < 2 ^ bits a) × (2 ^ bits a ≤ 2 * a + 1)
+  -- a digit for every two bits by which a is longer than b, and two at most besides
+  pub few : (a b : ℕ) → a < 2 ^ 60 → 0 < b → b < 2 ^ 60 → (n : ℕ) × TakesDigits a b n × (n ≤ (bits a - bits b) / 2 + 2)
+  -- a small number by a larger one; the sum of fifteen minutes by 900, its mean 10,000; the longest quotient
+  pub smaller : TakesDigits 5 900 1
+  pub window : TakesDigits 9000000 900 8
+  pub longest : TakesDigits (2 ^ 60 - 1) 1 31
