@@ -1,7 +1,8 @@
 /* Measures the unit beside the same division in C, interleaved round by round, and keeps the best round of each.
      bench            times and ratios
      bench NAME N     N calls of one measure and nothing else, for a count of instructions
-     bench windows N  the averages of N windows, likewise */
+     bench windows N  the averages of N windows, likewise
+     bench quotients  times over the quotient's length and of the averages alone, to compare two archives in turn */
 #include "baseline.h"
 #include "quendaric.h"
 #include <math.h>
@@ -14,7 +15,7 @@
 #include "softfloat.h"
 #endif
 
-enum { PAIRS = 1024, ROUNDS = 600, DIFFERENCES = 4001, READINGS = 100000, WIDTH = 900 };
+enum { PAIRS = 1024, ROUNDS = 600, DIFFERENCES = 4001, READINGS = 100000, WIDTH = 900, LENGTHS = 6 };
 
 static uint8_t table[QUENDARIC_TABLE_LENGTH], all_bad[QUENDARIC_TABLE_LENGTH], one_bad[QUENDARIC_TABLE_LENGTH], made[QUENDARIC_TABLE_LENGTH];
 static uint8_t repaired[QUENDARIC_TABLE_LENGTH], changed[QUENDARIC_TABLE_LENGTH];
@@ -26,6 +27,10 @@ static uint64_t number_a[PAIRS], number_b[PAIRS];
 static uint8_t packed_a[PAIRS][8], packed_b[PAIRS][8]; /* the same numbers, packed */
 static uint32_t met[QUENDARIC_TABLE_LENGTH];
 static uint64_t readings[READINGS], means[READINGS], remainders[READINGS];
+/* Whole numbers whose quotient has so many bits, and readings of two sizes. */
+static const int quotient_bits[LENGTHS] = {1, 10, 20, 30, 45, 59};
+static struct { uint64_t a, b; } whole[LENGTHS][PAIRS];
+static uint64_t low_readings[READINGS], high_readings[READINGS];
 static int digits = 28;
 
 static uint64_t run_plain(int i, uint64_t x) { return plain_run(table, dividend[i] ^ (x & 255), divisor[i], digits, out).quotient; }
@@ -208,6 +213,14 @@ static void prepare(void) {
     near_ratio[i].a = (1ull << 60) - 2 - (bits() >> 8), near_ratio[i].b = (1ull << 60) - 1 - (bits() >> 8);
     near_ratio[i].c = near_ratio[i].a + 1, near_ratio[i].d = near_ratio[i].b;
   }
+  for (int k = 0; k < LENGTHS; k++)
+    for (int i = 0; i < PAIRS; i++) {
+      int q = quotient_bits[k], length = 1 + i % (60 - q);
+      uint64_t quotient = 1ull << (q - 1) | bits() >> 1 >> (64 - q), by = 1ull << (length - 1) | bits() >> 1 >> (64 - length);
+      whole[k][i].a = quotient * by + bits() % by, whole[k][i].b = by;
+    }
+  for (int i = 0; i < READINGS; i++)
+    low_readings[i] = bits() % 20000, high_readings[i] = (1ull << 40) - 1 - bits() % 20000;
 }
 
 static void averages(size_t length, size_t width, bool newest_first) {
@@ -258,6 +271,11 @@ static int agree(void) {
   averages(READINGS, WIDTH, true);
   for (int j = 0; j <= READINGS - WIDTH; j++)
     differ += means[j] != other_means[READINGS - WIDTH - j] || remainders[j] != other_remainders[READINGS - WIDTH - j];
+  for (int k = 0; k < LENGTHS; k++)
+    for (int i = 0; i < PAIRS; i++) {
+      quendaric_whole w = quendaric_divide_whole_kept(whole[k][i].a, whole[k][i].b);
+      differ += w.quotient != whole[k][i].a / whole[k][i].b || w.remainder != whole[k][i].a % whole[k][i].b || w.quotient >> (quotient_bits[k] - 1) != 1;
+    }
   static uint64_t list[PAIRS];
   quendaric_samples run = quendaric_divide_samples(table, sizeof table, a, PAIRS, b, PAIRS, list, PAIRS, 0);
   differ += run.refusal != 0 || run.count != PAIRS;
@@ -439,6 +457,35 @@ static void averages_time(void) {
   printf("%-58s %7.2f\n", "a window, newest first / oldest first", best[1] / best[0]);
 }
 
+/* Time over the length of the quotient: kept whole numbers, the divisors of every length that leaves room for it, and windows of small and of large readings. */
+static void quotients_time(void) {
+  double best[LENGTHS] = {0}, low = 0, high = 0;
+  for (int round = 0; round < ROUNDS; round++)
+    for (int k = 0; k < LENGTHS; k++) {
+      uint64_t x = 0;
+      double start = now();
+      for (int i = 0; i < PAIRS; i++)
+        x ^= quendaric_divide_whole_kept(whole[k][i].a, whole[k][i].b).quotient;
+      keep(&best[k], (now() - start) / PAIRS);
+      sink = x;
+    }
+  for (int round = 0; round < ROUNDS / 20; round++) {
+    double start = now();
+    sink = quendaric_average_windows(low_readings, READINGS, WIDTH, false, means, READINGS, remainders, READINGS).refusal;
+    keep(&low, (now() - start) / (READINGS - WIDTH + 1));
+    start = now();
+    sink = quendaric_average_windows(high_readings, READINGS, WIDTH, false, means, READINGS, remainders, READINGS).refusal;
+    keep(&high, (now() - start) / (READINGS - WIDTH + 1));
+  }
+  printf("\n%-40s", "growth over the quotient's length, bits:");
+  for (int k = 0; k < LENGTHS; k++)
+    printf("%8d", quotient_bits[k]);
+  printf("\n%-40s", "unit, kept whole numbers, ns");
+  for (int k = 0; k < LENGTHS; k++)
+    printf("%8.1f", best[k]);
+  printf("\n%-58s %7.1f\n%-58s %7.1f\n", "unit, a window of 900 readings below 20,000", low, "unit, a window of 900 readings near 2^40", high);
+}
+
 int main(int argc, char **argv) {
   prepare();
   if (argc == 3 && !strcmp(argv[1], "windows")) {
@@ -455,6 +502,11 @@ int main(int argc, char **argv) {
   printf("answers that differ between the ways: %d\n", differ);
   if (differ)
     return 1;
+  if (argc == 2 && !strcmp(argv[1], "quotients")) {
+    quotients_time();
+    averages_time();
+    return 0;
+  }
   for (int round = 0; round < ROUNDS; round++)
     for (int j = 0; j < MEASURES; j++) {
       keep(&measures[j].apart, timed(&measures[j], 0));
@@ -503,6 +555,7 @@ int main(int argc, char **argv) {
   lent_alone();
   samples();
   growth();
+  quotients_time();
   averages_time();
   return 0;
 }

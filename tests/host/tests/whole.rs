@@ -50,6 +50,29 @@ fn kept_table_on_drawn_numbers() {
     }
 }
 
+/// A number of so many bits.
+fn of_length(draw: &mut Draw, bits: u32) -> u64 {
+    1 << (bits - 1) | draw.below(1 << (bits - 1))
+}
+
+/// The number of digits comes from the two lengths alone: every pair of them, a quotient of any number of bits from 0 to 60.
+#[test]
+fn kept_table_for_every_pair_of_lengths() {
+    let mut draw = Draw::new(SEED + 2);
+    for i in 1..=60 {
+        for j in 1..=60 {
+            let (least, most) = (1 << (i - 1), TOP >> (60 - i));
+            let (low, high) = (1 << (j - 1), TOP >> (60 - j));
+            for (a, b) in [(least, low), (least, high), (most, low), (most, high)] {
+                check(None, a, b);
+            }
+            for _ in 0..100 {
+                check(None, of_length(&mut draw, i), of_length(&mut draw, j));
+            }
+        }
+    }
+}
+
 #[test]
 fn lent_tables() {
     let mut draw = Draw::new(SEED + 1);
