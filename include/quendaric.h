@@ -78,9 +78,9 @@ extern "C" {
 #define QUENDARIC_REFUSED_BAD_CELL 10 /* a digit that can drive the remainder out of range; the place is the first */
 #define QUENDARIC_REFUSED_LISTS 11    /* the two input lists differ in length */
 #define QUENDARIC_REFUSED_WIDTH 12    /* a window's width is 0, above 4,096 or above the number of readings */
-#define QUENDARIC_REFUSED_READING 13  /* a reading of 2^40 or more; the place is the first such index */
+#define QUENDARIC_REFUSED_READING 13  /* a reading of 2^40 or more; the place is the first such index in the list as handed in */
 #define QUENDARIC_REFUSED_RANGE 14    /* three times the remainder of a step is below -8 or above 8 divisors */
-#define QUENDARIC_REFUSED_DECIMAL 15  /* a half byte above 9; the place is the first such byte */
+#define QUENDARIC_REFUSED_DECIMAL 15  /* a half byte above 9; the place is its byte, 0 to 7 in the dividend, 8 to 15 in the divisor */
 #define QUENDARIC_REFUSED_BITS 16     /* number of significant bits 0 or above 6 */
 
 /* Rounding directions of binary64. */
@@ -242,9 +242,10 @@ quendaric_made quendaric_make_table(uint8_t *buffer, size_t length);
 
 /* Repairs a table that was read back. A bad cell, or a byte above 4, takes the made digit, any other byte is copied: to the
    first 2,048 bytes of repaired. Those of changed get 1 for each changed cell and 0 elsewhere, and count is the number of
-   changes. The repaired table passes the check, and no table that passes differs from this one in fewer cells. Later bytes
-   of both buffers keep their contents. The two are buffers of their own: neither may be the table itself or overlap it, so
-   a table is not repaired in its place. Refuses 7, 8; whatever 2,048 bytes the table has, 9 and 10 are never given. */
+   changes. The repaired table passes the check, and no table that passes differs from this one in fewer cells; both by this
+   unit's estimate, so that a repaired table need not suit a divider that adds seven bits of each word. Later bytes of both
+   buffers keep their contents. The two are buffers of their own: neither may be the table itself or overlap it, so a table
+   is not repaired in its place. Refuses 7, 8; whatever 2,048 bytes the table has, 9 and 10 are never given. */
 QUENDARIC_ANSWER
 quendaric_repaired quendaric_repair_table(const uint8_t *table, size_t table_length, uint8_t *repaired,
                                           size_t repaired_length, uint8_t *changed, size_t changed_length);

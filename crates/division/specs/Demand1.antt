@@ -49,18 +49,18 @@ pub record RefusesLent {X : Type 0} (C : ℕ → ℕ → Type 0) (refused : X �
 abbrev pub RunRefuses : (ℕ → ℕ → Type 0) → List ℕ → ℕ → ℕ → ℕ → List ℕ → ℕ → Type 0
 RunRefuses C t N D n b place = RefusesLent C (λ x. x .refusal) runZeros (runOf t N D n b place) b (bufferOf t N D n b place)
 
--- the caller's conditions once more, in numbers: where one holds and none before it, the call refuses so, whatever else it is handed; and of row limits and the maker, where none holds,
--- that nothing is refused (of the other calls demands 2 and 3, `StepDemand` and `RootDemand` say it)
+-- the caller's conditions once more, in numbers: where one holds and none before it, the call refuses so, whatever else it is handed; and of row limits, the maker, the repair and
+-- ratios, where none holds, that nothing is refused (of the other calls demands 2 and 3, `StepDemand`, `VisitsDemand`, `PackedDemand` and `RootDemand` say it)
 pub record Conditions : Type 0 where
   pub row-column : (r c b : ℕ) → (15 < r) ⊎ (127 < c) → cellNumbers (cellOf r c b) ≡ cellZeros (refusal 1 0)
   pub byte : (r c b : ℕ) → r ≤ 15 → c ≤ 127 → 4 < b → cellNumbers (cellOf r c b) ≡ cellZeros (refusal 9 (128 * r + c))
   pub row : (r : ℕ) → 15 < r → rowLimitsOf r ≡ limitsZeros (refusal 1 0)
   pub row-told : (r : ℕ) → r ≤ 15 → rowLimitsOf r .refusal ≡ refusal 0 0
   pub room : (s : List ℕ) → length s < 2048 → makeOf s ≡ refusal 7 0
+  pub room-told : (s : List ℕ) → 2048 ≤ length s → makeOf s ≡ refusal 0 0
   pub repair-room : (t rs cs : List ℕ) → (length rs < 2048) ⊎ (length cs < 2048) → repairOf t rs cs ≡ repairZeros (refusal 7 0)
   pub repair-length : (t rs cs : List ℕ) → 2048 ≤ length rs → 2048 ≤ length cs → (length t ≡ 2048 → ⊥) → repairOf t rs cs ≡ repairZeros (refusal 8 0)
   pub repair-told : (t rs cs : List ℕ) → length t ≡ 2048 → 2048 ≤ length rs → 2048 ≤ length cs → repairOf t rs cs .refusal ≡ refusal 0 0
-  pub room-told : (s : List ℕ) → 2048 ≤ length s → makeOf s ≡ refusal 0 0
   pub digits : (t : List ℕ) (N D n : ℕ) (b : List ℕ) (place : ℕ) → (n ≡ 0) ⊎ (28 < n) → runOf t N D n b place ≡ runZeros (refusal 2 0)
   pub operands : (t : List ℕ) (N D n : ℕ) (b : List ℕ) (place : ℕ) → 1 ≤ n → n ≤ 28 → (D < 2 ^ 60) ⊎ ((2 ^ 61 ≤ D) ⊎ (2 ^ 61 ≤ N)) → runOf t N D n b place ≡ runZeros (refusal 3 0)
   pub buffer : (t : List ℕ) (N D n : ℕ) (b : List ℕ) (place : ℕ) → Operands N D → 1 ≤ n → n ≤ 28 → length b < place + n → runOf t N D n b place ≡ runZeros (refusal 7 0)

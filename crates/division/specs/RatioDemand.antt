@@ -32,7 +32,7 @@ pub record RatioDemand : Type 0 where
   pub greater : (a b c d : ℕ) → Ratios a b c d → c * b < a * d → Answers a b c d (pos 1)
   pub examples : Answers 1 3 2 5 (negsuc 0) × Answers 2 5 1 3 (pos 1) × Answers 2 6 1 3 (pos 0)
   pub largest : Answers (2 ^ 60 - 1) (2 ^ 60 - 2) (2 ^ 60 - 2) (2 ^ 60 - 3) (negsuc 0)
-  -- found through repeated whole-number division of the remainders, in 87 rounds at most
+  -- found through repeated whole-number division of the remainders, in 87 rounds at most; `by-quotients` and `by-remainders` say one round without its definition, and greater is `reversed`
   pub by-quotients : (a b c d : ℕ) → Ratios a b c d → a / b < c / d → comparedOf a b c d ≡ Less
   pub by-remainders : (a b c d : ℕ) → Ratios a b c d → a / b ≡ c / d → 0 < a % b → 0 < c % d → comparedOf a b c d ≡ comparedOf d (c % d) b (a % b)
   pub found : (a b c d : ℕ) → Ratios a b c d → FoundIn 87 a b c d (comparedOf a b c d)

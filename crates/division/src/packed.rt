@@ -67,7 +67,7 @@ fn number_of(bytes: [u8; 8]) -> u64
     number
 }
 
-// The bytes of a number, the last one first.
+// The bytes of a number, the first one highest; the last one is found first.
 fn bytes_of(number: u64) -> [u8; 8]
     ensures { λ r. ⌜ r ≡ packedBytes number ⌝ }
 {

@@ -18,7 +18,7 @@ use crate::RunState;
 use crate::all_top_bits;
 use crate::multiples_of;
 
-// The most significant bits.
+// How many significant bits an operand may have.
 const MOST_BITS: u64 = 6;
 
 // A run of n digits through the row that begins at `start` in a table: one more for the cell of each digit.

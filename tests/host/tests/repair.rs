@@ -138,10 +138,15 @@ fn at_any_address() {
     for offset in 0..18 {
         let table = damaged(&mut draw, 300, 8);
         let (want, marks, count) = wanted(&table);
+        let mut held = vec![CANARY; CELLS + 32];
+        held[offset..offset + CELLS].copy_from_slice(&table);
         let mut space = vec![CANARY; 4 * CELLS];
         let (left, right) = space.split_at_mut(CELLS + 64);
-        let got =
-            repair_table(&table, &mut left[offset..offset + CELLS], &mut right[2 * offset + 1..2 * offset + 1 + CELLS]);
+        let got = repair_table(
+            &held[offset..offset + CELLS],
+            &mut left[offset..offset + CELLS],
+            &mut right[2 * offset + 1..2 * offset + 1 + CELLS],
+        );
         assert_eq!(got, Repair { refusal: 0, place: 0, count });
         let mut all = vec![CANARY; 4 * CELLS];
         all[offset..offset + CELLS].copy_from_slice(&want);

@@ -173,5 +173,6 @@ fn no_picture_of_a_table_that_is_refused() {
         assert_eq!(printed_with("plot", &["visits"], table), format!("refusal place\n{place}\n"));
     }
     assert_eq!(printed_with("plot", &["visit"], KEPT), "");
+    assert_eq!(printed_with("plot", &["visitss"], KEPT), "");
     assert_eq!(printed_with("plot", &["visits", "visits"], KEPT), "");
 }
