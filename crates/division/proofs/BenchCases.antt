@@ -11,9 +11,9 @@ use Rattle.selection.proofs.CellCases.{case-1, case-2, case-3, case-4, case-5, 
 use Rattle.selection.proofs.MadeTables.{made-bytes, kept-passes}
 use Rattle.selection.proofs.Orders.{passed-last}
 use Rattle.recurrence.specs.Recurrence.{after, nextOf, value, endRemainder, resultOf}
-use Rattle.division.specs.Whole.{wholeRungs, wholeValues, wholeOf}
+use Rattle.division.specs.Whole.{wholeRules, wholeValues, wholeOf}
 use Rattle.division.specs.Computed.{finiteRounded}
-use Rattle.division.specs.Binary64.{binary64Rungs, binary64Values, binary64Of}
+use Rattle.division.specs.Binary64.{binary64Rules, binary64Values, binary64Of}
 use Rattle.division.specs.BenchCases.{Case8, Case9, BenchCases}
 use Rattle.division.proofs.Calls.{whole-clear, direction-clear}
 use Rattle.division.proofs.WholeThrough.{whole-divides}
@@ -28,16 +28,16 @@ unfolding madeTable listFrom madeOf allowsOf after nextOf value endRemainder res
 case-9 = record { shown = refl; total = refl; result = refl }
 
 case-10 : wholeOf madeTable 4195835 3145727 ≡ record { refusal = refusal 0 0; quotient = 1; remainder = 1050108 }
-case-10 = rw (passed-last kept-passes (wholeRungs 4195835 3145727), whole-clear 4195835 3145727 (lit< tt) (lit< tt) (lit< tt)) (ap wholeValues (whole-divides madeTable 4195835 3145727 kept-passes (lit< tt) (lit< tt) (lit< tt)))
+case-10 = rw (passed-last kept-passes (wholeRules 4195835 3145727), whole-clear 4195835 3145727 (lit< tt) (lit< tt) (lit< tt)) (ap wholeValues (whole-divides madeTable 4195835 3145727 kept-passes (lit< tt) (lit< tt) (lit< tt)))
 
 case-11 : binary64Of madeTable 0 0x3FF0000000000000 0x4008000000000000 ≡ record { refusal = refusal 0 0; pattern = 0x3FD5555555555555; flags = 1 }
 unfolding finiteRounded
-case-11 = rw (passed-last kept-passes (binary64Rungs 0), direction-clear 0 (omega arith)) (ap binary64Values (binary64-through madeTable 0 0x3FF0000000000000 0x4008000000000000 kept-passes))
+case-11 = rw (passed-last kept-passes (binary64Rules 0), direction-clear 0 (omega arith)) (ap binary64Values (binary64-through madeTable 0 0x3FF0000000000000 0x4008000000000000 kept-passes))
 
 case-12 : (binary64Of madeTable 0 1 0x4000000000000000 ≡ record { refusal = refusal 0 0; pattern = 0; flags = 3 }) × (binary64Of madeTable 2 1 0x4000000000000000 ≡ record { refusal = refusal 0 0; pattern = 1; flags = 3 })
 unfolding finiteRounded
 case-12 =
-    rw (passed-last kept-passes (binary64Rungs 0), direction-clear 0 (omega arith), passed-last kept-passes (binary64Rungs 2), direction-clear 2 (omega arith))
+    rw (passed-last kept-passes (binary64Rules 0), direction-clear 0 (omega arith), passed-last kept-passes (binary64Rules 2), direction-clear 2 (omega arith))
     (ap binary64Values (binary64-through madeTable 0 1 0x4000000000000000 kept-passes), ap binary64Values (binary64-through madeTable 2 1 0x4000000000000000 kept-passes))
 
 pub bench-cases : (t : List ℕ) → MadeTable t → BenchCases t

@@ -1,9 +1,9 @@
--- Demand 1: the answers of all calls are those of their ladders.
+-- Demand 1: the answers of all calls are those of their lists of rules.
 use Rattle.laws.proofs.Basics.{_≡_, refl, sym, ap, subst, _∙_, List, _++_, ⊎-elim, ℕ, _+_, _*_, _<_, arith, length, getD, lit<}
 use Rattle.selection.specs.Answer.{refusal, refusalOf, answerBy, admissionOf, outcomeNumbers, reportNumbers, reportZeros}
-use Rattle.selection.specs.Refusals.{Rung, Wrongs, ladder, rank, RefusedBy}
+use Rattle.selection.specs.Refusals.{Rule, Wrongs, firstRefusal, rank, RefusedBy}
 use Rattle.selection.specs.Cell.{LeastWitness, digit}
-use Rattle.selection.specs.Table.{ReportMeaning, tableRungs}
+use Rattle.selection.specs.Table.{ReportMeaning, tableRules}
 use Rattle.selection.specs.Computed.{madeTable, reportOf}
 use Rattle.selection.specs.declared.Refusal.{Refusal}
 use Rattle.selection.specs.declared.Admission.{Admission}
@@ -11,31 +11,31 @@ use Rattle.selection.specs.declared.Admission.the-variants.{Refused}
 use Rattle.selection.specs.declared.table.Outcome.{Outcome}
 use Rattle.selection.specs.declared.table.Outcome.the-variants as O
 use Rattle.selection.proofs.Verdicts.{cell-refuses}
-use Rattle.selection.proofs.Ladders.{Ladder, by-number, first-is, refused-by, refuses}
+use Rattle.selection.proofs.Rules.{WellFormed, by-number, first-is, refused-by, refuses}
 use Rattle.selection.proofs.MadeTables.{kept-passes, limits-told, make-answer}
 use Rattle.selection.proofs.Orders.{passed-last}
 use Rattle.selection.proofs.RepairAnswers.{repairs-right}
-use Rattle.selection.proofs.Reports.{report-checked, table-ladder, admission-ladder}
+use Rattle.selection.proofs.Reports.{report-checked, table-rules, admission-rules}
 use Rattle.recurrence.specs.Recurrence.{stateFrom, nextOf, digits, resultOf}
-use Rattle.recurrence.specs.Run.{runRungs, written, runZeros, runValues}
+use Rattle.recurrence.specs.Run.{runRules, written, runZeros, runValues}
 use Rattle.recurrence.specs.Step.{stepZeros, stepValues}
-use Rattle.recurrence.proofs.Refusals.{run-ladder, run-lent}
+use Rattle.recurrence.proofs.Refusals.{run-rules, run-lent}
 use Rattle.recurrence.proofs.StepRange.{step-lent}
 use Rattle.recurrence.proofs.VisitCounts.{visits-right}
-use Rattle.division.specs.Whole.{wholeRungs, wholeZeros, wholeValues}
+use Rattle.division.specs.Whole.{wholeRules, wholeZeros, wholeValues}
 use Rattle.division.specs.WholeSteps.{wholeThrough}
-use Rattle.division.specs.Binary64.{binary64Rungs, binary64Zeros, binary64Values}
+use Rattle.division.specs.Binary64.{binary64Rules, binary64Zeros, binary64Values}
 use Rattle.division.specs.Binary64Steps.{binary64Through}
 use Rattle.division.specs.Samples.{samplesZeros, samplesValues, flagsThrough, filledThrough}
 use Rattle.division.specs.RootSteps.{wholeRoot, rootOf}
 use Rattle.division.specs.RootCalls.{rootZeros, rootValues}
 use Rattle.division.specs.Demand1.{Carries, CheckRefuses, RefusesLent, RunRefuses, ZerosBesides, Demand1}
 use Rattle.division.proofs.Conditions.{conditions}
-use Rattle.division.proofs.Calls.{whole-ladder, whole-lent, binary64-ladder, binary64-lent}
+use Rattle.division.proofs.Calls.{whole-rules, whole-lent, binary64-rules, binary64-lent}
 use Rattle.division.proofs.SampleRuns.{samples-lent}
 use Rattle.division.proofs.PackedCalls.{packed-refuses}
 use Rattle.division.proofs.RatioCalls.{ratios-refuse}
-use Rattle.division.proofs.RootCalls.{root-ladder}
+use Rattle.division.proofs.RootCalls.{root-rules}
 
 -- the check, from its report
 module _ (t : List ℕ) where
@@ -60,13 +60,13 @@ module _ (t : List ℕ) where
   check-refuses =
       let a = reportOf t in
       record {
-        by = subst (RefusedBy (Wrongs (tableRungs t))) (sym (check-same (a .count) (a .outcome) ∙ ap refusalOf (admission-ladder t))) (refused-by (table-ladder t));
-        besides = λ n p l x. check-zeros (a .count) (a .outcome) n p l (admission-ladder t ∙ first-is (table-ladder t) n p x);
-        carries = λ p x. check-carries (a .count) (a .outcome) (report-checked t .means) p (admission-ladder t ∙ first-is (table-ladder t) 10 p x);
+        by = subst (RefusedBy (Wrongs (tableRules t))) (sym (check-same (a .count) (a .outcome) ∙ ap refusalOf (admission-rules t))) (refused-by (table-rules t));
+        besides = λ n p l x. check-zeros (a .count) (a .outcome) n p l (admission-rules t ∙ first-is (table-rules t) n p x);
+        carries = λ p x. check-carries (a .count) (a .outcome) (report-checked t .means) p (admission-rules t ∙ first-is (table-rules t) 10 p x);
       }
 
--- a call that answers by the refusal v of its ladder, and writes s into the list b
-refuses-lent : {X : Type 0} {rs : List Rung} {v : Admission} → Ladder rs → (refused : X → Refusal) (zeros : Refusal → X) (done : X) (b s : List ℕ) → refused done ≡ refusal 0 0 → ((f : Refusal) → refused (zeros f) ≡ f) → v ≡ ladder rs
+-- a call that answers by the refusal v of its firstRefusal, and writes s into the list b
+refuses-lent : {X : Type 0} {rs : List Rule} {v : Admission} → WellFormed rs → (refused : X → Refusal) (zeros : Refusal → X) (done : X) (b s : List ℕ) → refused done ≡ refusal 0 0 → ((f : Refusal) → refused (zeros f) ≡ f) → v ≡ firstRefusal rs
     → RefusesLent (Wrongs rs) refused zeros (answerBy zeros done v) b (answerBy (λ f. b) s v)
 refuses-lent c refused zeros done b s h k e = record {
   answer = refuses c refused zeros done h k e;
@@ -74,7 +74,7 @@ refuses-lent c refused zeros done b s h k e = record {
 }
 
 module _ (N D n : ℕ) (b : List ℕ) (place : ℕ) where
-  run-refuses : (t : List ℕ) {rs : List Rung} → Ladder rs → ladder (runRungs N D n (length b) place ++ tableRungs t) ≡ ladder rs → RunRefuses (Wrongs rs) t N D n b place
+  run-refuses : (t : List ℕ) {rs : List Rule} → WellFormed rs → firstRefusal (runRules N D n (length b) place ++ tableRules t) ≡ firstRefusal rs → RunRefuses (Wrongs rs) t N D n b place
   run-refuses t c e = refuses-lent c (λ x. x .refusal) runZeros (runValues (resultOf t N D n)) b (written b place (digits t N D n) n) refl (λ f. refl) e
 
 rank-11 : (rank 6 < rank 11) × (rank 11 < rank 7)
@@ -126,7 +126,7 @@ demand-1 =
       repair = λ t rs cs. repairs-right t rs cs .refuses;
       repair-buffers = λ t rs cs. repairs-right t rs cs .keeps;
       check-table = check-refuses;
-      admit = λ t. refused-by (table-ladder t);
+      admit = λ t. refused-by (table-rules t);
       run = λ t N D n b place. run-refuses N D n b place t (run-lent N D n (length b) place t) refl;
       step = λ s k D t. refuses (step-lent s k D t) (λ x. x .refusal) stepZeros (stepValues (nextOf t (stateFrom s k D))) refl (λ f. refl) refl;
       visits = λ t k n v. visits-right t k n v .refuses;
@@ -136,11 +136,11 @@ demand-1 =
       samples = λ t direction currents sensitivities given.
           refuses-lent (samples-lent direction (length currents) (length sensitivities) (length given) t) (λ x. x .refusal) samplesZeros
           (samplesValues (flagsThrough t direction currents sensitivities (length currents)) (length currents)) given (filledThrough t direction currents sensitivities (length currents) given) refl (λ f. refl) refl;
-      run-kept = λ N D n b place. run-refuses N D n b place madeTable (run-ladder N D n (length b) place) (passed-last kept-passes (runRungs N D n (length b) place));
-      whole-kept = λ a b. refuses (whole-ladder a b) (λ x. x .refusal) wholeZeros (wholeValues (wholeThrough madeTable a b)) refl (λ f. refl) (passed-last kept-passes (wholeRungs a b));
-      binary64-kept = λ direction a b. refuses (binary64-ladder direction) (λ x. x .refusal) binary64Zeros (binary64Values (binary64Through madeTable direction a b)) refl (λ f. refl) (passed-last kept-passes (binary64Rungs direction));
+      run-kept = λ N D n b place. run-refuses N D n b place madeTable (run-rules N D n (length b) place) (passed-last kept-passes (runRules N D n (length b) place));
+      whole-kept = λ a b. refuses (whole-rules a b) (λ x. x .refusal) wholeZeros (wholeValues (wholeThrough madeTable a b)) refl (λ f. refl) (passed-last kept-passes (wholeRules a b));
+      binary64-kept = λ direction a b. refuses (binary64-rules direction) (λ x. x .refusal) binary64Zeros (binary64Values (binary64Through madeTable direction a b)) refl (λ f. refl) (passed-last kept-passes (binary64Rules direction));
       packed = packed-refuses;
       compare-ratios = ratios-refuse;
-      root-whole = λ a. refuses (root-ladder a) (λ x. x .refusal) rootZeros (rootValues a (wholeRoot a)) refl (λ f. refl) refl;
-      root-binary64 = λ direction p. refuses (binary64-ladder direction) (λ x. x .refusal) binary64Zeros (binary64Values (rootOf direction p)) refl (λ f. refl) refl;
+      root-whole = λ a. refuses (root-rules a) (λ x. x .refusal) rootZeros (rootValues a (wholeRoot a)) refl (λ f. refl) refl;
+      root-binary64 = λ direction p. refuses (binary64-rules direction) (λ x. x .refusal) binary64Zeros (binary64Values (rootOf direction p)) refl (λ f. refl) refl;
     }

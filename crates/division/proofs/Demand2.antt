@@ -6,9 +6,9 @@ use Rattle.laws.proofs.Division.{quotient}
 use Rattle.selection.specs.Table.{Passes}
 use Rattle.selection.proofs.Orders.{passed-last}
 use Rattle.selection.proofs.MadeTables.{kept-passes}
-use Rattle.division.specs.Whole.{wholeRungs, wholeOf}
-use Rattle.division.specs.Binary64.{binary64Rungs, binary64Of}
-use Rattle.division.specs.Samples.{samplesRungs, samplesValues, joined, samplesOf, concentrationsOf}
+use Rattle.division.specs.Whole.{wholeRules, wholeOf}
+use Rattle.division.specs.Binary64.{binary64Rules, binary64Of}
+use Rattle.division.specs.Samples.{samplesRules, samplesValues, joined, samplesOf, concentrationsOf}
 use Rattle.division.specs.Computed.{finiteRounded}
 use Rattle.division.specs.Demand2.{Divides, DividesBinary64, DividesSamples, SamplesExample, RightThrough, Demand2}
 use Rattle.division.proofs.SampleRuns.{samples-clear, samples-right, samples-are, compensated-one}
@@ -20,12 +20,12 @@ use Rattle.division.proofs.IeeeOne.{ieee-one}
 module _ (t : List ℕ) (p : Passes t) where
   whole : (a b : ℕ) → a < 2 ^ 60 → 0 < b → b < 2 ^ 60 → Divides a b (wholeOf t a b)
   whole a b ha pb hb =
-      rw (passed-last p (wholeRungs a b), whole-clear a b ha pb hb, whole-divides t a b p ha pb hb)
+      rw (passed-last p (wholeRules a b), whole-clear a b ha pb hb, whole-divides t a b p ha pb hb)
       (record { done = refl; equation = sym (div-add-mod' a b); below = mod-lt a pb; only = λ Q R e l. let k = quotient (sym e) l in (sym (k .0), sym (k .1)) })
 
   binary64 : (direction a b : ℕ) → direction ≤ 3 → DividesBinary64 direction a b (binary64Of t direction a b)
   binary64 direction a b h =
-      rw (passed-last p (binary64Rungs direction), direction-clear direction h)
+      rw (passed-last p (binary64Rules direction), direction-clear direction h)
       (record { done = refl; meaning = ieee-through t p direction a b; only = λ x i. ieee-one direction a b i (ieee-through t p direction a b) })
 
   samples : (direction : ℕ) (currents sensitivities given : List ℕ) → direction ≤ 3 → length currents ≡ length sensitivities → length currents ≤ length given
@@ -36,7 +36,7 @@ module _ (t : List ℕ) (p : Passes t) where
 
   no-samples : (direction : ℕ) (given : List ℕ) → direction ≤ 3 → (samplesOf t direction [] [] given ≡ samplesValues 0 0) × (concentrationsOf t direction [] [] given ≡ given)
   unfolding joined listFrom
-  no-samples direction given h = rw (passed-last p (samplesRungs direction 0 0 (length given)), samples-clear direction 0 0 (length given) h refl (omega arith)) (refl, refl)
+  no-samples direction given h = rw (passed-last p (samplesRules direction 0 0 (length given)), samples-clear direction 0 0 (length given) h refl (omega arith)) (refl, refl)
 
   samples-example : SamplesExample t
   unfolding joined listFrom finiteRounded

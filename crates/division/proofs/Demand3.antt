@@ -1,7 +1,7 @@
 -- Demand 3, whole.
 use Rattle.laws.proofs.Basics.{_≡_, refl, sym, ap, _∙_, List, _↔_, ⊎-elim, ℕ, arith}
 use Rattle.selection.specs.Answer.{refusal, answerBy, outcomeNumbers, reportNumbers}
-use Rattle.selection.specs.Refusals.{ladder}
+use Rattle.selection.specs.Refusals.{firstRefusal}
 use Rattle.selection.specs.Computed.{cellOf, passedReport, reportOf, madeTable}
 use Rattle.selection.specs.Table.{Passes, ReportMeaning, Checked}
 use Rattle.selection.specs.declared.Admission.{Admission}
@@ -17,9 +17,9 @@ use Rattle.selection.proofs.MadeTables.{kept-passes}
 use Rattle.selection.proofs.BiasedPoints.{cell-checked}
 use Rattle.selection.proofs.RefusedExactly.{refused-exactly, cell-told}
 use Rattle.recurrence.proofs.RunDemand.{run-claim, run-same}
-use Rattle.division.specs.Whole.{wholeRungs, wholeZeros, wholeValues, wholeOf}
+use Rattle.division.specs.Whole.{wholeRules, wholeZeros, wholeValues, wholeOf}
 use Rattle.division.specs.WholeSteps.{wholeThrough}
-use Rattle.division.specs.Binary64.{binary64Rungs, binary64Of}
+use Rattle.division.specs.Binary64.{binary64Rules, binary64Of}
 use Rattle.division.specs.Demand3.{Demand3}
 use Rattle.division.proofs.WholeThrough.{whole-divides}
 use Rattle.division.proofs.Binary64Through.{binary64-through}
@@ -27,9 +27,9 @@ use Rattle.division.proofs.Calls.{whole-spans}
 use Rattle.division.proofs.SampleRuns.{samples-same}
 
 whole-same : (t u : List ℕ) → Passes t → Passes u → (a b : ℕ) → wholeOf t a b ≡ wholeOf u a b
-whole-same t u p q a b = rw (passed-last p (wholeRungs a b), passed-last q (wholeRungs a b)) (go (ladder (wholeRungs a b)) refl)
+whole-same t u p q a b = rw (passed-last p (wholeRules a b), passed-last q (wholeRules a b)) (go (firstRefusal (wholeRules a b)) refl)
   where
-    go : (r : Admission) → ladder (wholeRungs a b) ≡ r → answerBy wholeZeros (wholeValues (wholeThrough t a b)) r ≡ answerBy wholeZeros (wholeValues (wholeThrough u a b)) r
+    go : (r : Admission) → firstRefusal (wholeRules a b) ≡ r → answerBy wholeZeros (wholeValues (wholeThrough t a b)) r ≡ answerBy wholeZeros (wholeValues (wholeThrough u a b)) r
     go Admitted e =
         let s = whole-spans a b e in
         ap wholeValues (whole-divides t a b p (s .0) (s .1) (s .2) ∙ sym (whole-divides u a b q (s .0) (s .1) (s .2)))
@@ -37,7 +37,7 @@ whole-same t u p q a b = rw (passed-last p (wholeRungs a b), passed-last q (whol
 
 binary64-same : (t u : List ℕ) → Passes t → Passes u → (direction a b : ℕ) → binary64Of t direction a b ≡ binary64Of u direction a b
 binary64-same t u p q direction a b =
-    rw (passed-last p (binary64Rungs direction), passed-last q (binary64Rungs direction), binary64-through t direction a b p, binary64-through u direction a b q) refl
+    rw (passed-last p (binary64Rules direction), passed-last q (binary64Rules direction), binary64-through t direction a b p, binary64-through u direction a b q) refl
 
 -- no refusal is the answer to a table that passes
 passed : (t : List ℕ) (a : Report) → Checked t a → (reportNumbers a .refusal ≡ refusal 0 0) ↔ Passes t

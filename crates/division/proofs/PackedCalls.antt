@@ -3,13 +3,13 @@ use Rattle.laws.proofs.Basics.{_≡_, refl, ap, List, [], _∷_, _⊎_, ⊎-eli
 use Rattle.laws.proofs.Division.{le-or-lt}
 use Rattle.selection.specs.Answer.{refusal, answerBy}
 use Rattle.selection.specs.Computed.{madeTable}
-use Rattle.selection.specs.Refusals.{Rung, below, same, eitherOf, number, First, Wrongs, rank, ladder, Refuses}
+use Rattle.selection.specs.Refusals.{Rule, below, same, eitherOf, number, First, Wrongs, rank, firstRefusal, Refuses}
 use Rattle.selection.specs.declared.Admission.{Admission}
 use Rattle.selection.proofs.Counts.{Decides, first-below}
-use Rattle.selection.proofs.Ladders.{Ladder, holds-decides, first-one, refuses, rung-holds, rung-past}
+use Rattle.selection.proofs.Rules.{WellFormed, holds-decides, first-one, refuses, rule-holds, rule-past}
 use Rattle.division.specs.Whole.{wholeOf}
 use Rattle.division.specs.declared.packed.PackedAnswer.{PackedAnswer}
-use Rattle.division.specs.Packed.{packedNumber, Decimal, operandByte, Above9, isAbove9, firstAbove9, packedRungs, packedZeros, packedValues, packedOf}
+use Rattle.division.specs.Packed.{packedNumber, Decimal, operandByte, Above9, isAbove9, firstAbove9, packedRules, packedZeros, packedValues, packedOf}
 
 above-decides : (b : ℕ) → Decides (Above9 b) (isAbove9 b)
 above-decides b = holds-decides (eitherOf (below 9 (b / 16)) (below 9 (b % 16)))
@@ -18,9 +18,9 @@ decimal-none : {bs : List ℕ} → Decimal bs → (i : ℕ) → i < 8 → Above9
 decimal-none d i h = ⊎-elim (λ x. omega (arith, d .high i h)) (λ x. omega (arith, d .low i h))
 
 module _ (xs ys : List ℕ) where
-  packed-ladder : Ladder (packedRungs xs ys)
-  unfolding packedRungs rank
-  packed-ladder = record { sound = ((λ k h. above-decides (operandByte xs ys k)), λ _. (tt, λ _. tt)); in-order = tt }
+  packed-rules : WellFormed (packedRules xs ys)
+  unfolding packedRules rank
+  packed-rules = record { sound = ((λ k h. above-decides (operandByte xs ys k)), λ _. (tt, λ _. tt)); in-order = tt }
 
   search : ((firstAbove9 xs ys ≡ 16) × ((i : ℕ) → i < 16 → Above9 (operandByte xs ys i) → ⊥)) ⊎ ((firstAbove9 xs ys < 16) × First (λ i. Above9 (operandByte xs ys i)) (firstAbove9 xs ys))
   search = first-below (λ i. isAbove9 (operandByte xs ys i)) 16 (λ k h. above-decides (operandByte xs ys k))
@@ -47,30 +47,30 @@ module _ (xs ys : List ℕ) where
   answer : Admission → PackedAnswer
   answer = answerBy packedZeros (packedValues (wholeOf madeTable (packedNumber xs) (packedNumber ys)))
 
-  later : List Rung
+  later : List Rule
   later = number 5 (same (packedNumber ys) 0) ∷ []
 
   pub byte-refused : (p : ℕ) → p ≡ firstAbove9 xs ys → p < 16 → packedOf xs ys ≡ packedZeros (refusal 15 p)
-  unfolding packedRungs
+  unfolding packedRules
   byte-refused p e h = rw (← e, lt-ltb p 16 h) refl
 
   module _ (none : 16 ≤ firstAbove9 xs ys) where
-    past-bytes : ladder (packedRungs xs ys) ≡ ladder later
-    unfolding packedRungs later
+    past-bytes : firstRefusal (packedRules xs ys) ≡ firstRefusal later
+    unfolding packedRules later
     past-bytes = rw (le-ltb (firstAbove9 xs ys) 16 none) refl
 
     pub zero-refused : packedNumber ys ≡ 0 → packedOf xs ys ≡ packedZeros (refusal 5 0)
     unfolding answer later
-    zero-refused h = ap answer (past-bytes ∙ rung-holds 5 0 (same (packedNumber ys) 0) [] h)
+    zero-refused h = ap answer (past-bytes ∙ rule-holds 5 0 (same (packedNumber ys) 0) [] h)
 
     pub none-refused : (packedNumber ys ≡ 0 → ⊥) → packedOf xs ys ≡ packedValues (wholeOf madeTable (packedNumber xs) (packedNumber ys))
     unfolding answer later
-    none-refused h = ap answer (past-bytes ∙ rung-past 5 0 (same (packedNumber ys) 0) [] h)
+    none-refused h = ap answer (past-bytes ∙ rule-past 5 0 (same (packedNumber ys) 0) [] h)
 
   -- ---- for demand 1
 
-  pub packed-refuses : Refuses (Wrongs (packedRungs xs ys)) (λ x. x .refusal) packedZeros (packedOf xs ys)
-  packed-refuses = refuses packed-ladder (λ x. x .refusal) packedZeros (packedValues (wholeOf madeTable (packedNumber xs) (packedNumber ys))) refl (λ f. refl) refl
+  pub packed-refuses : Refuses (Wrongs (packedRules xs ys)) (λ x. x .refusal) packedZeros (packedOf xs ys)
+  packed-refuses = refuses packed-rules (λ x. x .refusal) packedZeros (packedValues (wholeOf madeTable (packedNumber xs) (packedNumber ys))) refl (λ f. refl) refl
 
   byte-first : (p : ℕ) → p < 16 → Above9 (operandByte xs ys p) → ((i : ℕ) → i < p → Above9 (operandByte xs ys i) → ⊥) → packedOf xs ys ≡ packedZeros (refusal 15 p)
   byte-first p h a before = byte-refused p (⊎-elim (λ x. absurd (x .1 p h a)) (λ x. first-one (record { here = a; before = before }) (x .1)) search) h

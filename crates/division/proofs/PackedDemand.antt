@@ -8,7 +8,7 @@ use Rattle.selection.specs.Refusals.{firstFrom}
 use Rattle.division.specs.Whole.{wholeOf}
 use Rattle.division.proofs.Demand2.{demand-2}
 use Rattle.division.specs.Demand2.{Divides}
-use Rattle.division.specs.Packed.{numberTo, packedNumber, Packed, packedBytes, packedRungs, packedValues, packedOf}
+use Rattle.division.specs.Packed.{numberTo, packedNumber, Packed, packedBytes, packedRules, packedValues, packedOf}
 use Rattle.division.specs.PackedDemand.{OnePacked, DividesPacked, PackedExamples, PackedDemand}
 use Rattle.division.proofs.PackedBytes.{number-below, bytes-back, bytes-packed, number-back}
 use Rattle.division.proofs.PackedCalls.{decimal-past, none-refused}
@@ -39,7 +39,7 @@ module _ (xs ys : List ℕ) (px : Packed xs) (py : Packed ys) (some : 0 < packed
       })
 
 examples : PackedExamples
-unfolding numberTo packedRungs firstFrom listFrom
+unfolding numberTo packedRules firstFrom listFrom
 examples =
     let k = demand-2 .kept .whole 9876543210123456 7654321 (lit< tt) (lit< tt) (lit< tt) .only 1290322578 4563918 refl (lit< tt) in
     record {

@@ -1,8 +1,8 @@
 -- Ratios are compared rightly.
 use Rattle.laws.proofs.Basics.{_≡_, refl, sym, ap, _∙_, ⊎-elim, ℕ, _*_, _/_, _%_, _≤_, _<_, arith}
 use native.Mathlib.Nat.{lt-trans, mul-le-mul-right, le-of-mul-le-mul-right, mod-lt}
-use Rattle.selection.proofs.Ladders.{not-below}
-use Rattle.division.specs.Ratios.{Ratios, Compares, FoundIn, ratiosRungs, comparisonOf, comparedOf, comparisonNumbers}
+use Rattle.selection.proofs.Rules.{not-below}
+use Rattle.division.specs.Ratios.{Ratios, Compares, FoundIn, ratiosRules, comparisonOf, comparedOf, comparisonNumbers}
 use Rattle.division.specs.RatioDemand.{ComparesRatios, reversedComparison, RatioDemand}
 use Rattle.division.specs.declared.ratio.Comparison.{Comparison}
 use Rattle.division.specs.declared.ratio.Comparison.the-variants.{Less, Equal, Greater}
@@ -98,7 +98,7 @@ chained a b c d e f r s h k g =
     omega (arith, through a b c d e f (r .d-some) (not-greater a b c d r h) (not-greater c d e f s k), compared a b e f w .meaning .greater .0 g)
 
 pub ratio-demand : RatioDemand
-unfolding ratiosRungs
+unfolding ratiosRules
 ratio-demand = record {
   compared = compared;
   less = λ a b c d r h. ap comparisonNumbers (compared a b c d r .meaning .less .1 h);

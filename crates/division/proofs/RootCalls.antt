@@ -1,15 +1,15 @@
 -- What the code of the roots asks.
 use Rattle.laws.proofs.Basics.{_≡_, refl, sym, ap, subst, _∙_, Bool, true, false, cond, inl, inr, ℕ, min, _+_, _*_, _/_, _%_, _^_, _≤_, _<_, arith, lt-leb}
 use native.Mathlib.Nat.{mod-eq-of-lt}
-use Rattle.selection.specs.Refusals.{rank, ladder}
-use Rattle.selection.proofs.Ladders.{Ladder, not-most, clear}
+use Rattle.selection.specs.Refusals.{rank, firstRefusal}
+use Rattle.selection.proofs.Rules.{WellFormed, not-most, clear}
 use Rattle.selection.specs.declared.Admission.the-variants.{Admitted}
 use Rattle.division.specs.Format.{magnitude, negative, classOf}
 use Rattle.division.specs.Significands.{significandOf, FiniteNonzero}
 use Rattle.division.specs.Rounding.{modeOf}
 use Rattle.division.specs.Computed.{roundedResult, orRounded}
 use Rattle.division.specs.RootSteps.{DigitsTaken, finiteRoot, rootOfClass, rootByClass, rootOf}
-use Rattle.division.specs.RootCalls.{rootRungs}
+use Rattle.division.specs.RootCalls.{rootRules}
 use Rattle.division.specs.declared.rounding.Mode.{Mode}
 use Rattle.division.specs.declared.format.Binary64Result.{Binary64Result}
 use Rattle.division.specs.declared.format.Class.{Class}
@@ -76,14 +76,14 @@ by-root-class direction p k e = sym (ap (orRounded (finiteRoot direction (magnit
 
 -- ---- the refusal of a whole number
 
-pub root-ladder : (a : ℕ) → Ladder (rootRungs a)
-unfolding rootRungs rank
-root-ladder a = record { sound = (tt, λ _. tt); in-order = tt }
+pub root-rules : (a : ℕ) → WellFormed (rootRules a)
+unfolding rootRules rank
+root-rules a = record { sound = (tt, λ _. tt); in-order = tt }
 
-pub root-span : (a : ℕ) → ladder (rootRungs a) ≡ Admitted → a < 2 ^ 60
-unfolding rootRungs
-root-span a e = not-most (λ h. clear (root-ladder a) e 4 0 (inl (refl, (refl, h))))
+pub root-span : (a : ℕ) → firstRefusal (rootRules a) ≡ Admitted → a < 2 ^ 60
+unfolding rootRules
+root-span a e = not-most (λ h. clear (root-rules a) e 4 0 (inl (refl, (refl, h))))
 
-pub root-clear : (a : ℕ) → a < 2 ^ 60 → ladder (rootRungs a) ≡ Admitted
-unfolding rootRungs
+pub root-clear : (a : ℕ) → a < 2 ^ 60 → firstRefusal (rootRules a) ≡ Admitted
+unfolding rootRules
 root-clear a h = simp (lt-leb (2 ^ 60) a h)

@@ -10,23 +10,23 @@ use lib.Signed.{_<ℤ_}
 use Rattle.selection.specs.Answer.{refusal, refusalOf, cellNumbers, cellZeros, reportNumbers, reportZeros}
 use Rattle.selection.specs.declared.Refusal.{Refusal}
 use Rattle.selection.specs.declared.numbers.ReportNumbers.{ReportNumbers}
-use Rattle.selection.specs.Refusals.{Wrongs, ladder, rank, FirstRefusal, RefusedBy, Refuses}
-use Rattle.selection.specs.Cell.{LeastWitness, cellRungs, digit}
-use Rattle.selection.specs.Maker.{limitsRungs, limitsZeros, makeRungs}
-use Rattle.selection.specs.Table.{BadAt, Tally, tableRungs}
+use Rattle.selection.specs.Refusals.{Wrongs, firstRefusal, rank, FirstRefusal, RefusedBy, Refuses}
+use Rattle.selection.specs.Cell.{LeastWitness, cellRules, digit}
+use Rattle.selection.specs.Maker.{limitsRules, limitsZeros, makeRules}
+use Rattle.selection.specs.Table.{BadAt, Tally, tableRules}
 use Rattle.selection.specs.Computed.{cellOf, rowLimitsOf, makeOf, madeBuffer, madeTable, reportOf, repairOf, repairedOf, changedOf}
-use Rattle.selection.specs.Repair.{repairRungs, repairZeros}
+use Rattle.selection.specs.Repair.{repairRules, repairZeros}
 use Rattle.recurrence.specs.Recurrence.{Operands}
 use Rattle.selection.specs.Word.{signed}
-use Rattle.recurrence.specs.Run.{runRungs, runZeros, runOf, bufferOf}
-use Rattle.recurrence.specs.Step.{stepRungs, stepZeros, stepOf}
-use Rattle.recurrence.specs.Visits.{visitsRungs, visitsAnswer, visitsLeft}
-use Rattle.division.specs.Whole.{wholeRungs, wholeZeros, wholeOf}
-use Rattle.division.specs.Binary64.{binary64Rungs, binary64Zeros, binary64Of}
-use Rattle.division.specs.Samples.{samplesRungs, samplesZeros, samplesOf, concentrationsOf}
-use Rattle.division.specs.Packed.{packedNumber, Decimal, packedRungs, packedZeros, packedOf}
-use Rattle.division.specs.Ratios.{ratiosRungs, comparisonZeros, comparisonNumbers, comparedOf}
-use Rattle.division.specs.RootCalls.{rootRungs, rootZeros, rootWholeOf, rootBinary64Of}
+use Rattle.recurrence.specs.Run.{runRules, runZeros, runOf, bufferOf}
+use Rattle.recurrence.specs.Step.{stepRules, stepZeros, stepOf}
+use Rattle.recurrence.specs.Visits.{visitsRules, visitsAnswer, visitsLeft}
+use Rattle.division.specs.Whole.{wholeRules, wholeZeros, wholeOf}
+use Rattle.division.specs.Binary64.{binary64Rules, binary64Zeros, binary64Of}
+use Rattle.division.specs.Samples.{samplesRules, samplesZeros, samplesOf, concentrationsOf}
+use Rattle.division.specs.Packed.{packedNumber, Decimal, packedRules, packedZeros, packedOf}
+use Rattle.division.specs.Ratios.{ratiosRules, comparisonZeros, comparisonNumbers, comparedOf}
+use Rattle.division.specs.RootCalls.{rootRules, rootZeros, rootWholeOf, rootBinary64Of}
 
 -- what the check's refusal 10 at the place p carries: the number of bad cells, the first of them, its witness
 pub record Carries (t : List ℕ) (p : ℕ) (x : ReportNumbers) : Type 0 where
@@ -36,9 +36,9 @@ pub record Carries (t : List ℕ) (p : ℕ) (x : ReportNumbers) : Type 0 where
 
 -- the check: zeros besides under 8 and 9
 pub record CheckRefuses (t : List ℕ) (x : ReportNumbers) : Type 0 where
-  pub by : RefusedBy (Wrongs (tableRungs t)) (x .refusal)
-  pub besides : (n p : ℕ) → n < 10 → FirstRefusal (Wrongs (tableRungs t)) n p → x ≡ reportZeros (refusal n p)
-  pub carries : (p : ℕ) → FirstRefusal (Wrongs (tableRungs t)) 10 p → Carries t p x
+  pub by : RefusedBy (Wrongs (tableRules t)) (x .refusal)
+  pub besides : (n p : ℕ) → n < 10 → FirstRefusal (Wrongs (tableRules t)) n p → x ≡ reportZeros (refusal n p)
+  pub carries : (p : ℕ) → FirstRefusal (Wrongs (tableRules t)) 10 p → Carries t p x
 
 -- a call that refuses by C and is lent a list to write, b before and c after
 pub record RefusesLent {X : Type 0} (C : ℕ → ℕ → Type 0) (refused : X → Refusal) (zeros : Refusal → X) (x : X) (b c : List ℕ) : Type 0 where
@@ -111,31 +111,31 @@ pub record Demand1 : Type 0 where
   pub order-15 : rank 15 < rank 5
   pub order-16 : (rank 2 < rank 16) × (rank 16 < rank 7)
   pub conditions : Conditions
-  pub check-cell : (r c b : ℕ) → Refuses (Wrongs (cellRungs r c b)) (λ x. x .refusal) cellZeros (cellNumbers (cellOf r c b))
-  pub row-limits : (r : ℕ) → Refuses (Wrongs (limitsRungs r)) (λ x. x .refusal) limitsZeros (rowLimitsOf r)
-  pub make-table : (s : List ℕ) → RefusedBy (Wrongs (makeRungs (length s))) (makeOf s)
-  pub make-buffer : (s : List ℕ) (n p : ℕ) → FirstRefusal (Wrongs (makeRungs (length s))) n p → madeBuffer s ≡ s
-  pub repair : (t rs cs : List ℕ) → Refuses (Wrongs (repairRungs (length t) (length rs) (length cs))) (λ x. x .refusal) repairZeros (repairOf t rs cs)
-  pub repair-buffers : (t rs cs : List ℕ) (n p : ℕ) → FirstRefusal (Wrongs (repairRungs (length t) (length rs) (length cs))) n p → (repairedOf t rs cs ≡ rs) × (changedOf t rs cs ≡ cs)
+  pub check-cell : (r c b : ℕ) → Refuses (Wrongs (cellRules r c b)) (λ x. x .refusal) cellZeros (cellNumbers (cellOf r c b))
+  pub row-limits : (r : ℕ) → Refuses (Wrongs (limitsRules r)) (λ x. x .refusal) limitsZeros (rowLimitsOf r)
+  pub make-table : (s : List ℕ) → RefusedBy (Wrongs (makeRules (length s))) (makeOf s)
+  pub make-buffer : (s : List ℕ) (n p : ℕ) → FirstRefusal (Wrongs (makeRules (length s))) n p → madeBuffer s ≡ s
+  pub repair : (t rs cs : List ℕ) → Refuses (Wrongs (repairRules (length t) (length rs) (length cs))) (λ x. x .refusal) repairZeros (repairOf t rs cs)
+  pub repair-buffers : (t rs cs : List ℕ) (n p : ℕ) → FirstRefusal (Wrongs (repairRules (length t) (length rs) (length cs))) n p → (repairedOf t rs cs ≡ rs) × (changedOf t rs cs ≡ cs)
   pub check-table : (t : List ℕ) → CheckRefuses t (reportNumbers (reportOf t))
   -- what the calls below make of a table that they are lent
-  pub admit : (t : List ℕ) → RefusedBy (Wrongs (tableRungs t)) (refusalOf (ladder (tableRungs t)))
-  pub run : (t : List ℕ) (N D n : ℕ) (b : List ℕ) (place : ℕ) → RunRefuses (Wrongs (runRungs N D n (length b) place ++ tableRungs t)) t N D n b place
-  pub step : (s k D : ℕ) (t : List ℕ) → Refuses (Wrongs (stepRungs s k D ++ tableRungs t)) (λ x. x .refusal) stepZeros (stepOf s k D t)
-  pub visits : (t : List ℕ) (k n : ℕ) (v : List ℕ) → RefusedBy (Wrongs (visitsRungs k n (length v) ++ tableRungs t)) (visitsAnswer t k n v)
-  pub visits-list : (t : List ℕ) (k n : ℕ) (v : List ℕ) (m p : ℕ) → FirstRefusal (Wrongs (visitsRungs k n (length v) ++ tableRungs t)) m p → visitsLeft t k n v ≡ v
-  pub whole : (t : List ℕ) (a b : ℕ) → Refuses (Wrongs (wholeRungs a b ++ tableRungs t)) (λ x. x .refusal) wholeZeros (wholeOf t a b)
-  pub binary64 : (t : List ℕ) (direction a b : ℕ) → Refuses (Wrongs (binary64Rungs direction ++ tableRungs t)) (λ x. x .refusal) binary64Zeros (binary64Of t direction a b)
+  pub admit : (t : List ℕ) → RefusedBy (Wrongs (tableRules t)) (refusalOf (firstRefusal (tableRules t)))
+  pub run : (t : List ℕ) (N D n : ℕ) (b : List ℕ) (place : ℕ) → RunRefuses (Wrongs (runRules N D n (length b) place ++ tableRules t)) t N D n b place
+  pub step : (s k D : ℕ) (t : List ℕ) → Refuses (Wrongs (stepRules s k D ++ tableRules t)) (λ x. x .refusal) stepZeros (stepOf s k D t)
+  pub visits : (t : List ℕ) (k n : ℕ) (v : List ℕ) → RefusedBy (Wrongs (visitsRules k n (length v) ++ tableRules t)) (visitsAnswer t k n v)
+  pub visits-list : (t : List ℕ) (k n : ℕ) (v : List ℕ) (m p : ℕ) → FirstRefusal (Wrongs (visitsRules k n (length v) ++ tableRules t)) m p → visitsLeft t k n v ≡ v
+  pub whole : (t : List ℕ) (a b : ℕ) → Refuses (Wrongs (wholeRules a b ++ tableRules t)) (λ x. x .refusal) wholeZeros (wholeOf t a b)
+  pub binary64 : (t : List ℕ) (direction a b : ℕ) → Refuses (Wrongs (binary64Rules direction ++ tableRules t)) (λ x. x .refusal) binary64Zeros (binary64Of t direction a b)
   pub samples : (t : List ℕ) (direction : ℕ) (currents sensitivities given : List ℕ)
-      → RefusesLent (Wrongs (samplesRungs direction (length currents) (length sensitivities) (length given) ++ tableRungs t)) (λ x. x .refusal) samplesZeros (samplesOf t direction currents sensitivities given) given (concentrationsOf t direction currents sensitivities given)
+      → RefusesLent (Wrongs (samplesRules direction (length currents) (length sensitivities) (length given) ++ tableRules t)) (λ x. x .refusal) samplesZeros (samplesOf t direction currents sensitivities given) given (concentrationsOf t direction currents sensitivities given)
   -- over the kept table no table is refused
-  pub run-kept : (N D n : ℕ) (b : List ℕ) (place : ℕ) → RunRefuses (Wrongs (runRungs N D n (length b) place)) madeTable N D n b place
-  pub whole-kept : (a b : ℕ) → Refuses (Wrongs (wholeRungs a b)) (λ x. x .refusal) wholeZeros (wholeOf madeTable a b)
-  pub binary64-kept : (direction a b : ℕ) → Refuses (Wrongs (binary64Rungs direction)) (λ x. x .refusal) binary64Zeros (binary64Of madeTable direction a b)
+  pub run-kept : (N D n : ℕ) (b : List ℕ) (place : ℕ) → RunRefuses (Wrongs (runRules N D n (length b) place)) madeTable N D n b place
+  pub whole-kept : (a b : ℕ) → Refuses (Wrongs (wholeRules a b)) (λ x. x .refusal) wholeZeros (wholeOf madeTable a b)
+  pub binary64-kept : (direction a b : ℕ) → Refuses (Wrongs (binary64Rules direction)) (λ x. x .refusal) binary64Zeros (binary64Of madeTable direction a b)
   -- packed numbers are divided over the kept table
-  pub packed : (xs ys : List ℕ) → Refuses (Wrongs (packedRungs xs ys)) (λ x. x .refusal) packedZeros (packedOf xs ys)
+  pub packed : (xs ys : List ℕ) → Refuses (Wrongs (packedRules xs ys)) (λ x. x .refusal) packedZeros (packedOf xs ys)
   -- ratios are compared over the kept table
-  pub compare-ratios : (a b c d : ℕ) → Refuses (Wrongs (ratiosRungs a b c d)) (λ x. x .refusal) comparisonZeros (comparisonNumbers (comparedOf a b c d))
+  pub compare-ratios : (a b c d : ℕ) → Refuses (Wrongs (ratiosRules a b c d)) (λ x. x .refusal) comparisonZeros (comparisonNumbers (comparedOf a b c d))
   -- roots use no table
-  pub root-whole : (a : ℕ) → Refuses (Wrongs (rootRungs a)) (λ x. x .refusal) rootZeros (rootWholeOf a)
-  pub root-binary64 : (direction p : ℕ) → Refuses (Wrongs (binary64Rungs direction)) (λ x. x .refusal) binary64Zeros (rootBinary64Of direction p)
+  pub root-whole : (a : ℕ) → Refuses (Wrongs (rootRules a)) (λ x. x .refusal) rootZeros (rootWholeOf a)
+  pub root-binary64 : (direction p : ℕ) → Refuses (Wrongs (binary64Rules direction)) (λ x. x .refusal) binary64Zeros (rootBinary64Of direction p)

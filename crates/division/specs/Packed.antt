@@ -9,7 +9,7 @@ use lib.ListN.{length, getD, replicate}
 use Rattle.laws.specs.Lists.{listFrom}
 use Rattle.selection.specs.Answer.{refusal, answerBy}
 use Rattle.selection.specs.Computed.{madeTable}
-use Rattle.selection.specs.Refusals.{Rung, same, firstFrom, number, numberFirst, ladder}
+use Rattle.selection.specs.Refusals.{Rule, same, firstFrom, number, numberFirst, firstRefusal}
 use Rattle.selection.specs.declared.Refusal.{Refusal}
 use Rattle.division.specs.Whole.{wholeOf}
 use Rattle.division.specs.declared.whole.WholeAnswer.{WholeAnswer}
@@ -66,8 +66,8 @@ abbrev pub firstAbove9 : List ℕ → List ℕ → ℕ
 firstAbove9 xs ys = firstFrom (λ i. isAbove9 (operandByte xs ys i)) 0 16
 
 -- what is refused of the dividend xs and the divisor ys. 15: a half byte is above 9, place: the first such byte's index. 5: the divisor is 0
-unfoldable pub packedRungs : List ℕ → List ℕ → List Rung
-packedRungs xs ys = numberFirst 15 (λ i. Above9 (operandByte xs ys i)) (λ i. isAbove9 (operandByte xs ys i)) 16 ∷ number 5 (same (packedNumber ys) 0) ∷ []
+unfoldable pub packedRules : List ℕ → List ℕ → List Rule
+packedRules xs ys = numberFirst 15 (λ i. Above9 (operandByte xs ys i)) (λ i. isAbove9 (operandByte xs ys i)) 16 ∷ number 5 (same (packedNumber ys) 0) ∷ []
 
 -- number and place of a refusal, and zeros
 abbrev pub packedZeros : Refusal → PackedAnswer
@@ -78,4 +78,4 @@ abbrev pub packedValues : WholeAnswer → PackedAnswer
 packedValues x = record { refusal = refusal 0 0; quotient = packedBytes (x .quotient); remainder = packedBytes (x .remainder) }
 
 abbrev pub packedOf : List ℕ → List ℕ → PackedAnswer
-packedOf xs ys = answerBy packedZeros (packedValues (wholeOf madeTable (packedNumber xs) (packedNumber ys))) (ladder (packedRungs xs ys))
+packedOf xs ys = answerBy packedZeros (packedValues (wholeOf madeTable (packedNumber xs) (packedNumber ys))) (firstRefusal (packedRules xs ys))

@@ -7,7 +7,7 @@ use Prim.Native.Nat.{ℕ, zero, suc, _*_, _/_, _%_, _^_, _<_}
 use lib.Dec.{ltb}
 use lib.IntN.{pos, negsuc}
 use Rattle.selection.specs.Answer.{refusal, answerBy}
-use Rattle.selection.specs.Refusals.{Rung, atMost, same, eitherOf, number, ladder}
+use Rattle.selection.specs.Refusals.{Rule, atMost, same, eitherOf, number, firstRefusal}
 use Rattle.selection.specs.declared.Refusal.{Refusal}
 use Rattle.division.specs.declared.ratio.Comparison.{Comparison}
 use Rattle.division.specs.declared.ratio.Comparison.the-variants.{Less, Equal, Greater, Refused}
@@ -49,8 +49,8 @@ FoundIn (suc n) a b c d x = Round (a / b) (a % b) (c / d) (c % d) x (FoundIn n d
 -- ---- the answer
 
 -- what is refused. 4: any of them is 2^60 or more. 5: b or d is 0
-unfoldable pub ratiosRungs : ℕ → ℕ → ℕ → ℕ → List Rung
-ratiosRungs a b c d =
+unfoldable pub ratiosRules : ℕ → ℕ → ℕ → ℕ → List Rule
+ratiosRules a b c d =
     number 4 (eitherOf (atMost (2 ^ 60) a) (eitherOf (atMost (2 ^ 60) b) (eitherOf (atMost (2 ^ 60) c) (atMost (2 ^ 60) d))))
     ∷ number 5 (eitherOf (same b 0) (same d 0))
     ∷ []
@@ -60,7 +60,7 @@ abbrev pub comparisonOf : ℕ → ℕ → Comparison
 comparisonOf m n = cond (ltb m n) Less (cond (ltb n m) Greater Equal)
 
 abbrev pub comparedOf : ℕ → ℕ → ℕ → ℕ → Comparison
-comparedOf a b c d = answerBy Refused (comparisonOf (a * d) (c * b)) (ladder (ratiosRungs a b c d))
+comparedOf a b c d = answerBy Refused (comparisonOf (a * d) (c * b)) (firstRefusal (ratiosRules a b c d))
 
 -- its numbers: the refusal's number (0: none) and place; -1 less, 0 equal, 1 greater, and 0 where it refuses
 abbrev pub comparisonZeros : Refusal → ComparisonNumbers

@@ -2,16 +2,16 @@
 use mathlib.Core.List.{List, [], _∷_}
 use Prim.Native.Nat.{ℕ, _-_, _*_, _^_}
 use Rattle.selection.specs.Answer.{refusal, answerBy}
-use Rattle.selection.specs.Refusals.{Rung, atMost, number, ladder}
+use Rattle.selection.specs.Refusals.{Rule, atMost, number, firstRefusal}
 use Rattle.selection.specs.declared.Refusal.{Refusal}
-use Rattle.division.specs.Binary64.{binary64Rungs, binary64Zeros, binary64Values}
+use Rattle.division.specs.Binary64.{binary64Rules, binary64Zeros, binary64Values}
 use Rattle.division.specs.RootSteps.{wholeRoot, rootOf}
 use Rattle.division.specs.declared.binary64.Binary64Answer.{Binary64Answer}
 use Rattle.division.specs.declared.root.RootAnswer.{RootAnswer}
 
 -- what is refused of a whole number. 4: a is 2^60 or more
-unfoldable pub rootRungs : ℕ → List Rung
-rootRungs a = number 4 (atMost (2 ^ 60) a) ∷ []
+unfoldable pub rootRules : ℕ → List Rule
+rootRules a = number 4 (atMost (2 ^ 60) a) ∷ []
 
 -- number and place of a refusal, and zeros
 abbrev pub rootZeros : Refusal → RootAnswer
@@ -23,7 +23,7 @@ rootValues a s = record { refusal = refusal 0 0; root = s; remainder = a - s * s
 
 -- the answers; a direction above 3 is refused as division refuses it
 abbrev pub rootWholeOf : ℕ → RootAnswer
-rootWholeOf a = answerBy rootZeros (rootValues a (wholeRoot a)) (ladder (rootRungs a))
+rootWholeOf a = answerBy rootZeros (rootValues a (wholeRoot a)) (firstRefusal (rootRules a))
 
 abbrev pub rootBinary64Of : ℕ → ℕ → Binary64Answer
-rootBinary64Of direction p = answerBy binary64Zeros (binary64Values (rootOf direction p)) (ladder (binary64Rungs direction))
+rootBinary64Of direction p = answerBy binary64Zeros (binary64Values (rootOf direction p)) (firstRefusal (binary64Rules direction))

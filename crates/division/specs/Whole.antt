@@ -2,16 +2,16 @@
 use mathlib.Core.List.{List, [], _∷_, _++_}
 use Prim.Native.Nat.{ℕ, _^_}
 use Rattle.selection.specs.Answer.{refusal, answerBy}
-use Rattle.selection.specs.Table.{tableRungs}
-use Rattle.selection.specs.Refusals.{Rung, atMost, same, eitherOf, number, ladder}
+use Rattle.selection.specs.Table.{tableRules}
+use Rattle.selection.specs.Refusals.{Rule, atMost, same, eitherOf, number, firstRefusal}
 use Rattle.selection.specs.declared.Refusal.{Refusal}
 use Rattle.division.specs.WholeSteps.{wholeThrough}
 use Rattle.division.specs.declared.whole.WholeResult.{WholeResult}
 use Rattle.division.specs.declared.whole.WholeAnswer.{WholeAnswer}
 
 -- what is refused of the arguments. 4: a or b is 2^60 or more. 5: b is 0
-unfoldable pub wholeRungs : ℕ → ℕ → List Rung
-wholeRungs a b = number 4 (eitherOf (atMost (2 ^ 60) a) (atMost (2 ^ 60) b)) ∷ number 5 (same b 0) ∷ []
+unfoldable pub wholeRules : ℕ → ℕ → List Rule
+wholeRules a b = number 4 (eitherOf (atMost (2 ^ 60) a) (atMost (2 ^ 60) b)) ∷ number 5 (same b 0) ∷ []
 
 -- number and place of a refusal, and zeros
 abbrev pub wholeZeros : Refusal → WholeAnswer
@@ -23,4 +23,4 @@ wholeValues x = record { refusal = refusal 0 0; quotient = x .quotient; remainde
 
 -- the answer: then 8, 9, 10, the table's
 abbrev pub wholeOf : List ℕ → ℕ → ℕ → WholeAnswer
-wholeOf t a b = answerBy wholeZeros (wholeValues (wholeThrough t a b)) (ladder (wholeRungs a b ++ tableRungs t))
+wholeOf t a b = answerBy wholeZeros (wholeValues (wholeThrough t a b)) (firstRefusal (wholeRules a b ++ tableRules t))

@@ -2,8 +2,8 @@
 ghost use mathlib.Core.Path.{_≡_};
 ghost use Prim.Native.Nat.{_*_};
 ghost use Rattle.selection.specs.Answer.{refusal};
-ghost use Rattle.selection.specs.Refusals.{ladder};
-ghost use Rattle.division.specs.Ratios.{Ratios, comparisonOf, ratiosRungs, comparedOf, comparisonNumbers};
+ghost use Rattle.selection.specs.Refusals.{firstRefusal};
+ghost use Rattle.division.specs.Ratios.{Ratios, comparisonOf, ratiosRules, comparedOf, comparisonNumbers};
 use crate::whole::OPERAND_END;
 use crate::whole::divide_kept;
 use selection::Admission;
@@ -62,7 +62,7 @@ fn comparison_of(a: u64, b: u64, c: u64, d: u64) -> Comparison
 
 // The first refusal.
 fn refusal_of(a: u64, b: u64, c: u64, d: u64) -> Admission
-    ensures { λ r. ⌜ r ≡ ladder (ratiosRungs a b c d) ⌝ }
+    ensures { λ r. ⌜ r ≡ firstRefusal (ratiosRules a b c d) ⌝ }
 {
     if OPERAND_END <= a {
         return refused(4);

@@ -2,11 +2,11 @@
 ghost use mathlib.Core.Path.{_≡_};
 ghost use mathlib.Core.Bool.{cond};
 ghost use Prim.Native.Nat.{ℕ, suc, _+_, _*_, _^_, _≤_, _<_};
-ghost use Rattle.selection.specs.Refusals.{ladder};
+ghost use Rattle.selection.specs.Refusals.{firstRefusal};
 ghost use Rattle.division.specs.Format.{magnitude};
 ghost use Rattle.division.specs.Significands.{FiniteNonzero};
 ghost use Rattle.division.specs.RootSteps.{DigitsTaken, wholeRoot, finiteRoot, unlessNegative, rootByClass, rootOf};
-ghost use Rattle.division.specs.RootCalls.{rootRungs, rootValues, rootWholeOf, rootBinary64Of};
+ghost use Rattle.division.specs.RootCalls.{rootRules, rootValues, rootWholeOf, rootBinary64Of};
 use crate::binary64::Binary64Answer;
 use crate::binary64::ByClass;
 use crate::binary64::with_sticky;
@@ -85,7 +85,7 @@ fn root_digits(radicand: u64, first: u64, last: u64) -> RootState
 }
 
 fn refusal_of(a: u64) -> Admission
-    ensures { λ r. ⌜ r ≡ ladder (rootRungs a) ⌝ }
+    ensures { λ r. ⌜ r ≡ firstRefusal (rootRules a) ⌝ }
 {
     if 0x1000_0000_0000_0000 <= a {
         return refused(4);

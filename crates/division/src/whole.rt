@@ -5,10 +5,10 @@ ghost use Prim.Native.Nat.{ℕ, _+_, _-_, _*_, _/_, _^_, _≤_, _<_};
 ghost use Rattle.selection.specs.Cell as Cell;
 ghost use Rattle.selection.specs.Computed.{madeTable};
 ghost use Rattle.selection.specs.Table.{Passes, rowBytes};
-ghost use Rattle.selection.specs.Refusals.{ladder};
+ghost use Rattle.selection.specs.Refusals.{firstRefusal};
 ghost use Rattle.recurrence.specs.Row.{Row};
 ghost use Rattle.division.specs.WholeSteps.{shiftTo, digitsAfter, shiftedRun, shiftedThrough, wholeThrough};
-ghost use Rattle.division.specs.Whole.{wholeRungs, wholeZeros, wholeValues, wholeOf};
+ghost use Rattle.division.specs.Whole.{wholeRules, wholeZeros, wholeValues, wholeOf};
 use recurrence::RunResult;
 use selection::Admission;
 use selection::Refusal;
@@ -98,7 +98,7 @@ pub(crate) fn divide_kept(a: u64, b: u64) -> WholeResult
 
 // The first refusal of the arguments alone.
 fn refusal_of(a: u64, b: u64) -> Admission
-    ensures { λ r. ⌜ r ≡ ladder (wholeRungs a b) ⌝ }
+    ensures { λ r. ⌜ r ≡ firstRefusal (wholeRules a b) ⌝ }
 {
     if OPERAND_END <= a {
         return refused(4);

@@ -3,14 +3,14 @@ use Rattle.laws.proofs.Basics.{_≡_, ap, List, ℕ, _≤_, lit≤}
 use Rattle.selection.specs.Table.{Passes}
 use Rattle.selection.proofs.Orders.{passed-last}
 use Rattle.division.specs.Computed.{finiteRounded, quotientOf}
-use Rattle.division.specs.Binary64.{binary64Rungs, binary64Values, binary64Of}
+use Rattle.division.specs.Binary64.{binary64Rules, binary64Values, binary64Of}
 use Rattle.division.proofs.Calls.{direction-clear}
 use Rattle.division.proofs.Binary64Through.{binary64-through}
 use Rattle.ieee.specs.FlagExamples.{FlagsThrough, FlagExamples}
 
 module _ (t : List ℕ) (p : Passes t) where
   computed : (a b direction : ℕ) → direction ≤ 3 → binary64Of t direction a b ≡ binary64Values (quotientOf direction a b)
-  computed a b direction h = rw (passed-last p (binary64Rungs direction), direction-clear direction h) (ap binary64Values (binary64-through t direction a b p))
+  computed a b direction h = rw (passed-last p (binary64Rules direction), direction-clear direction h) (ap binary64Values (binary64-through t direction a b p))
 
   flags-through : FlagsThrough t
   unfolding finiteRounded

@@ -15,7 +15,7 @@ use Rattle.division.specs.Binary64.{binary64Of, binary64Values}
 use Rattle.division.specs.Samples.{concentrationsOf}
 use Rattle.division.proofs.Demand2.{demand-2}
 use Rattle.ieee.specs.LanguageQuotient.{valueOf, one}
-use Rattle.ieee.specs.Directions.{quotientSign, Pinned, turned, mirrored}
+use Rattle.ieee.specs.Directions.{quotientSign, Pinned, negated, mirrored}
 use Rattle.ieee.specs.Ieee754.{answerValue, Sorted, OneSensitivity, IeeeThrough, NamedPatterns, Thirds, Ieee754}
 use Rattle.ieee.proofs.LanguageQuotient.{special-quotient, language-quotient}
 use Rattle.ieee.proofs.LanguageOrder.{SignedLe}
@@ -27,7 +27,7 @@ use Rattle.ieee.proofs.DirectionOrder.{directions-ordered, toward-zero}
 use Rattle.ieee.proofs.InexactFlag.{silent}
 use Rattle.ieee.proofs.ExactQuotients.{exact-quotient, over-one, over-itself}
 use Rattle.ieee.proofs.Signalling.{signals, silent-nan}
-use Rattle.ieee.proofs.SignSymmetry.{turned-neg, dividend-turned, divisor-turned}
+use Rattle.ieee.proofs.SignSymmetry.{negated-neg, dividend-negated, divisor-negated}
 use Rattle.ieee.proofs.BiggerStays.{bigger-stays}
 
 -- an answer without a refusal is its pattern and flags
@@ -87,8 +87,8 @@ module _ (t : List ℕ) (p : Passes t) where
     over-itself = λ d a l h. answer-is d a a l (over-itself d a (means d a a l) h);
     signalling = λ d a b l. signals d a b (means d a b l);
     quiet = λ d a b l. silent-nan d a b (means d a b l);
-    dividend-turned = λ d a b l w. let o = dividend-turned d a b l w (means d (turned a) b l) (means (mirrored d) a b (mirrored-span d)) in record { value = o .0; flags = o .1 };
-    divisor-turned = λ d a b l w. let o = divisor-turned d a b l w (means d a (turned b) l) (means (mirrored d) a b (mirrored-span d)) in record { value = o .0; flags = o .1 };
+    dividend-negated = λ d a b l w. let o = dividend-negated d a b l w (means d (negated a) b l) (means (mirrored d) a b (mirrored-span d)) in record { value = o .0; flags = o .1 };
+    divisor-negated = λ d a b l w. let o = divisor-negated d a b l w (means d a (negated b) l) (means (mirrored d) a b (mirrored-span d)) in record { value = o .0; flags = o .1 };
     bigger = bigger;
     sorted = sorted;
   }
@@ -104,7 +104,7 @@ largest p h =
 
 named : NamedPatterns
 unfolding ofBits le
-named = record { one-is = refl; infinity-is = refl; quiet-nan-is = refl; largest-is = (tt, largest); zeros-level = (tt, tt); turned-is = turned-neg }
+named = record { one-is = refl; infinity-is = refl; quiet-nan-is = refl; largest-is = (tt, largest); zeros-level = (tt, tt); negated-is = negated-neg }
 
 thirds : Thirds
 unfolding ofBits

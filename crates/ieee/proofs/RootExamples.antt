@@ -1,11 +1,11 @@
 -- The worked roots, computed.
 use Rattle.laws.proofs.Basics.{refl}
 use Rattle.division.specs.Computed.{finiteRounded}
-use Rattle.division.specs.Binary64.{binary64Rungs}
+use Rattle.division.specs.Binary64.{binary64Rules}
 use Rattle.ieee.specs.RootExamples.{RootExamples}
 
 pub root-examples : RootExamples
-unfolding finiteRounded binary64Rungs
+unfolding finiteRounded binary64Rules
 root-examples = record {
   four = (refl, refl, refl, refl);
   least = (refl, refl, refl, refl);

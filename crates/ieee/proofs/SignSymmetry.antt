@@ -12,34 +12,34 @@ use Rattle.division.proofs.Classes.{by-cases, nonzero-operand}
 use Rattle.division.proofs.Quotient.{quotient-increasing}
 use Rattle.division.proofs.RoundedOne.{rounded-one}
 use Rattle.ieee.specs.LanguageQuotient.{valueOf}
-use Rattle.ieee.specs.Directions.{turned, mirrored}
+use Rattle.ieee.specs.Directions.{negated, mirrored}
 use Rattle.ieee.proofs.LanguageReading.{by-fields}
 use Rattle.ieee.proofs.AnswerUnits.{rounded-word}
 
--- ---- a turned pattern
-turned-field : (p : ℕ) → field (turned p) ≡ field p
-turned-field p = omega arith
+-- ---- a negated pattern
+negated-field : (p : ℕ) → field (negated p) ≡ field p
+negated-field p = omega arith
 
-turned-fraction : (p : ℕ) → fraction (turned p) ≡ fraction p
-turned-fraction p = omega arith
+negated-fraction : (p : ℕ) → fraction (negated p) ≡ fraction p
+negated-fraction p = omega arith
 
-turned-word : (p : ℕ) → turned p < 2 ^ 64
-turned-word p = omega arith
+negated-word : (p : ℕ) → negated p < 2 ^ 64
+negated-word p = omega arith
 
-turned-sign : (p : ℕ) → p < 2 ^ 64 → negative (turned p) ≡ not (negative p)
-turned-sign p h = ⊎-elim
-    (λ (g : 2 ^ 63 ≤ p). rw (le-leb (2 ^ 63) p g, lt-leb (2 ^ 63) (turned p) (omega arith)))
-    (λ (g : p < 2 ^ 63). rw (lt-leb (2 ^ 63) p g, le-leb (2 ^ 63) (turned p) (omega arith)))
+negated-sign : (p : ℕ) → p < 2 ^ 64 → negative (negated p) ≡ not (negative p)
+negated-sign p h = ⊎-elim
+    (λ (g : 2 ^ 63 ≤ p). rw (le-leb (2 ^ 63) p g, lt-leb (2 ^ 63) (negated p) (omega arith)))
+    (λ (g : p < 2 ^ 63). rw (lt-leb (2 ^ 63) p g, le-leb (2 ^ 63) (negated p) (omega arith)))
     (le-or-lt (2 ^ 63) p)
 
-turned-magnitude : (p : ℕ) → magnitude (turned p) ≡ magnitude p
-turned-magnitude p = rw (turned-field p, turned-fraction p)
+negated-magnitude : (p : ℕ) → magnitude (negated p) ≡ magnitude p
+negated-magnitude p = rw (negated-field p, negated-fraction p)
 
-turned-class : (p : ℕ) → classOf (turned p) ≡ classOf p
-turned-class p = rw (turned-field p, turned-fraction p)
+negated-class : (p : ℕ) → classOf (negated p) ≡ classOf p
+negated-class p = rw (negated-field p, negated-fraction p)
 
-turned-signalling : (p : ℕ) → signalling (turned p) ≡ signalling p
-turned-signalling p = rw (turned-field p, turned-fraction p)
+negated-signalling : (p : ℕ) → signalling (negated p) ≡ signalling p
+negated-signalling p = rw (negated-field p, negated-fraction p)
 
 -- the logic's word for it
 fields-neg : (s : Bool) (x t : ℕ) → ofFields binary64 (not s) x t ≡ neg (ofFields binary64 s x t)
@@ -57,11 +57,11 @@ fields-neg s (suc x) t = go (eqb (suc x) 2047) (eqb t 0) (2 ^ 52 + t)
     go true false n = refl
     go false c n = numbers n
 
-pub turned-neg : (p : ℕ) → p < 2 ^ 64 → valueOf (turned p) ≡ neg (valueOf p)
-turned-neg p h =
-    by-fields (turned p)
-    ∙ ap (λ (s : Bool). ofFields binary64 s (field (turned p)) (fraction (turned p))) (turned-sign p h)
-    ∙ ap₂ (λ (x t : ℕ). ofFields binary64 (not (negative p)) x t) (turned-field p) (turned-fraction p)
+pub negated-neg : (p : ℕ) → p < 2 ^ 64 → valueOf (negated p) ≡ neg (valueOf p)
+negated-neg p h =
+    by-fields (negated p)
+    ∙ ap (λ (s : Bool). ofFields binary64 s (field (negated p)) (fraction (negated p))) (negated-sign p h)
+    ∙ ap₂ (λ (x t : ℕ). ofFields binary64 (not (negative p)) x t) (negated-field p) (negated-fraction p)
     ∙ fields-neg (negative p) (field p) (fraction p)
     ∙ ap neg (sym (by-fields p))
 
@@ -84,29 +84,29 @@ mirrored-zero (suc (suc (suc zero))) true l = refl
 mirrored-zero (suc (suc (suc zero))) false l = refl
 mirrored-zero (suc (suc (suc (suc d)))) s l = absurd (omega arith)
 
--- an answer with its sign bit turned
-abbrev turn : Binary64Result → Binary64Result
-turn x = record { pattern = turned (x .pattern); flags = x .flags }
+-- an answer with its sign bit negated
+abbrev negation : Binary64Result → Binary64Result
+negation x = record { pattern = negated (x .pattern); flags = x .flags }
 
-turned-bit : (s : Bool) (n : ℕ) → n < 2 ^ 63 → turned (signBit s + n) ≡ signBit (not s) + n
-turned-bit true n h = omega arith
-turned-bit false n h = omega arith
+negated-bit : (s : Bool) (n : ℕ) → n < 2 ^ 63 → negated (signBit s + n) ≡ signBit (not s) + n
+negated-bit true n h = omega arith
+negated-bit false n h = omega arith
 
-over-turned : (z s : Bool) → turned (signBit s + cond z largestFinite infinity) ≡ signBit (not s) + cond z largestFinite infinity
-over-turned true s = turned-bit s largestFinite (omega arith)
-over-turned false s = turned-bit s infinity (omega arith)
+over-negated : (z s : Bool) → negated (signBit s + cond z largestFinite infinity) ≡ signBit (not s) + cond z largestFinite infinity
+over-negated true s = negated-bit s largestFinite (omega arith)
+over-negated false s = negated-bit s infinity (omega arith)
 
-turned-rounded : (d : ℕ) → d ≤ 3 → (s : Bool) (scale : ℕ → ℕ → ℕ) (m : ℕ) (x : Binary64Result) → Rounded (mirrored d) s scale m x → Rounded d (not s) scale m (turn x)
-turned-rounded d l s scale m x u = record {
+negated-rounded : (d : ℕ) → d ≤ 3 → (s : Bool) (scale : ℕ → ℕ → ℕ) (m : ℕ) (x : Binary64Result) → Rounded (mirrored d) s scale m x → Rounded d (not s) scale m (negation x)
+negated-rounded d l s scale m x u = record {
   e = u .e;
   K = u .K;
   exponent = u .exponent;
   rounded = mirrored-rounds d s (scale (u .e)) m (u .K) l (u .rounded);
-  over = λ h. ap turn (u .over h) ∙ ap overflowing (over-turned (pointsToZero (mirrored d) s) s ∙ ap (λ (z : Bool). signBit (not s) + cond z largestFinite infinity) (mirrored-zero d s l));
-  word = λ h. turned-word (x .pattern);
-  value = λ h. turned-magnitude (x .pattern) ∙ u .value h;
-  sign = λ h. turned-sign (x .pattern) (u .word h) ∙ ap not (u .sign h);
-  finite = λ h. rw (turned-field (x .pattern)) (u .finite h);
+  over = λ h. ap negation (u .over h) ∙ ap overflowing (over-negated (pointsToZero (mirrored d) s) s ∙ ap (λ (z : Bool). signBit (not s) + cond z largestFinite infinity) (mirrored-zero d s l));
+  word = λ h. negated-word (x .pattern);
+  value = λ h. negated-magnitude (x .pattern) ∙ u .value h;
+  sign = λ h. negated-sign (x .pattern) (u .word h) ∙ ap not (u .sign h);
+  finite = λ h. rw (negated-field (x .pattern)) (u .finite h);
   flags = u .flags;
 }
   where
@@ -118,7 +118,7 @@ abbrev Opposite : Binary64Result → Binary64Result → Type 0
 Opposite x y = (valueOf (x .pattern) ≡ neg (valueOf (y .pattern))) × (x .flags ≡ y .flags)
 
 bit-neg : (s : Bool) (n : ℕ) → n < 2 ^ 63 → valueOf (signBit (not s) + n) ≡ neg (valueOf (signBit s + n))
-bit-neg s n h = ap valueOf (sym (turned-bit s n h)) ∙ turned-neg (signBit s + n) (fits s)
+bit-neg s n h = ap valueOf (sym (negated-bit s n h)) ∙ negated-neg (signBit s + n) (fits s)
   where
     fits : (s : Bool) → signBit s + n < 2 ^ 64
     fits true = omega arith
@@ -146,8 +146,8 @@ module _ (d a b a' b' : ℕ) (l : d ≤ 3) (o : Turned a b a' b') {x y : Binary6
   quotients h k =
       let s = signOf a b in
       let w : RoundedQuotient d (not s) (magnitude a) (magnitude b) x = rw (o .over, o .under, o .sign) at (u .quotient (rw (o .dividend) h) (rw (o .divisor) k)) in
-      let e = rounded-one d (not s) (quotientScale (magnitude b)) (quotient-increasing (magnitude b) (nonzero-operand b k .some)) (quotientPlace (magnitude a)) w (turned-rounded d l s _ _ y (v .quotient h k)) in
-      rw e (turned-neg (y .pattern) (rounded-word (v .quotient h k)), refl)
+      let e = rounded-one d (not s) (quotientScale (magnitude b)) (quotient-increasing (magnitude b) (nonzero-operand b k .some)) (quotientPlace (magnitude a)) w (negated-rounded d l s _ _ y (v .quotient h k)) in
+      rw e (negated-neg (y .pattern) (rounded-word (v .quotient h k)), refl)
 
   opposite : Opposite x y
   opposite = by-cases a b
@@ -158,25 +158,25 @@ module _ (d a b a' b' : ℕ) (l : d ≤ 3) (o : Turned a b a' b') {x y : Binary6
       (λ h. rw (v .zero h, u .zero (rw (o .dividend, o .divisor) h), o .sign) (zero-neg (signOf a b), refl))
       quotients
 
-left-turned : (s t : Bool) → not (Bool·beq (not s) t) ≡ not (not (Bool·beq s t))
-left-turned true true = refl
-left-turned true false = refl
-left-turned false true = refl
-left-turned false false = refl
+left-negated : (s t : Bool) → not (Bool·beq (not s) t) ≡ not (not (Bool·beq s t))
+left-negated true true = refl
+left-negated true false = refl
+left-negated false true = refl
+left-negated false false = refl
 
-right-turned : (s t : Bool) → not (Bool·beq s (not t)) ≡ not (not (Bool·beq s t))
-right-turned true true = refl
-right-turned true false = refl
-right-turned false true = refl
-right-turned false false = refl
+right-negated : (s t : Bool) → not (Bool·beq s (not t)) ≡ not (not (Bool·beq s t))
+right-negated true true = refl
+right-negated true false = refl
+right-negated false true = refl
+right-negated false false = refl
 
 module _ (d a b : ℕ) (l : d ≤ 3) {x y : Binary64Result} where
-  pub dividend-turned : a < 2 ^ 64 → Ieee d (turned a) b x → Ieee (mirrored d) a b y → Opposite x y
-  dividend-turned h =
-      opposite d a b (turned a) b l
-      (record { dividend = turned-class a; divisor = refl; over = turned-magnitude a; under = refl; signals = ap (λ (s : Bool). cond (s || signalling b) invalidFlag 0) (turned-signalling a); sign = ap (λ (s : Bool). not (Bool·beq s (negative b))) (turned-sign a h) ∙ left-turned (negative a) (negative b) })
+  pub dividend-negated : a < 2 ^ 64 → Ieee d (negated a) b x → Ieee (mirrored d) a b y → Opposite x y
+  dividend-negated h =
+      opposite d a b (negated a) b l
+      (record { dividend = negated-class a; divisor = refl; over = negated-magnitude a; under = refl; signals = ap (λ (s : Bool). cond (s || signalling b) invalidFlag 0) (negated-signalling a); sign = ap (λ (s : Bool). not (Bool·beq s (negative b))) (negated-sign a h) ∙ left-negated (negative a) (negative b) })
 
-  pub divisor-turned : b < 2 ^ 64 → Ieee d a (turned b) x → Ieee (mirrored d) a b y → Opposite x y
-  divisor-turned h =
-      opposite d a b a (turned b) l
-      (record { dividend = refl; divisor = turned-class b; over = refl; under = turned-magnitude b; signals = ap (λ (s : Bool). cond (signalling a || s) invalidFlag 0) (turned-signalling b); sign = ap (λ (s : Bool). not (Bool·beq (negative a) s)) (turned-sign b h) ∙ right-turned (negative a) (negative b) })
+  pub divisor-negated : b < 2 ^ 64 → Ieee d a (negated b) x → Ieee (mirrored d) a b y → Opposite x y
+  divisor-negated h =
+      opposite d a b a (negated b) l
+      (record { dividend = refl; divisor = negated-class b; over = refl; under = negated-magnitude b; signals = ap (λ (s : Bool). cond (signalling a || s) invalidFlag 0) (negated-signalling b); sign = ap (λ (s : Bool). not (Bool·beq (negative a) s)) (negated-sign b h) ∙ right-negated (negative a) (negative b) })

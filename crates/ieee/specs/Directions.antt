@@ -78,9 +78,9 @@ pub record Pinned (direction a b p : ℕ) : Type 0 where
 
 -- ---- signs
 
--- a 64-bit pattern with its sign bit turned
-abbrev pub turned : ℕ → ℕ
-turned p = (p + 2 ^ 63) % 2 ^ 64
+-- a 64-bit pattern with its sign bit negated
+abbrev pub negated : ℕ → ℕ
+negated p = (p + 2 ^ 63) % 2 ^ 64
 
 -- the directions, up and down exchanged
 abbrev pub mirrored : ℕ → ℕ

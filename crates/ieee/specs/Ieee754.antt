@@ -18,13 +18,13 @@ use Rattle.division.specs.Format.{infinity, largestFinite, quietNan}
 use Rattle.division.specs.Binary64.{binary64Of, binary64Values}
 use Rattle.division.specs.Samples.{concentrationsOf}
 use Rattle.ieee.specs.LanguageQuotient.{valueOf, one, LanguageQuotient}
-use Rattle.ieee.specs.Directions.{signIn, quotientSign, AtMostQuotient, AtLeastQuotient, IsQuotient, FiniteOver, Pinned, turned, mirrored}
+use Rattle.ieee.specs.Directions.{signIn, quotientSign, AtMostQuotient, AtLeastQuotient, IsQuotient, FiniteOver, Pinned, negated, mirrored}
 
 -- what an answer's pattern stands for
 abbrev pub answerValue : List ℕ → ℕ → ℕ → ℕ → Float
 answerValue t direction a b = valueOf (binary64Of t direction a b .pattern)
 
--- one value is the other with its sign turned, and the flags are the same
+-- one value is the other with its sign negated, and the flags are the same
 pub record Opposite (x y : Binary64Answer) : Type 0 where
   pub value : valueOf (x .pattern) ≡ neg (valueOf (y .pattern))
   pub flags : x .flags ≡ y .flags
@@ -66,8 +66,8 @@ pub record IeeeThrough (t : List ℕ) : Type 0 where
   pub signalling : (direction a b : ℕ) → direction ≤ 3 → Signals a ⊎ Signals b → binary64Of t direction a b .flags ≡ 16
   pub quiet : (direction a b : ℕ) → direction ≤ 3 → (valueOf a ≡ nan) ⊎ (valueOf b ≡ nan) → (Signals a → ⊥) → (Signals b → ⊥) → binary64Of t direction a b .flags ≡ 0
   -- turning an operand's sign turns the answer's, and exchanges up and down
-  pub dividend-turned : (direction a b : ℕ) → direction ≤ 3 → a < 2 ^ 64 → Opposite (binary64Of t direction (turned a) b) (binary64Of t (mirrored direction) a b)
-  pub divisor-turned : (direction a b : ℕ) → direction ≤ 3 → b < 2 ^ 64 → Opposite (binary64Of t direction a (turned b)) (binary64Of t (mirrored direction) a b)
+  pub dividend-negated : (direction a b : ℕ) → direction ≤ 3 → a < 2 ^ 64 → Opposite (binary64Of t direction (negated a) b) (binary64Of t (mirrored direction) a b)
+  pub divisor-negated : (direction a b : ℕ) → direction ≤ 3 → b < 2 ^ 64 → Opposite (binary64Of t direction a (negated b)) (binary64Of t (mirrored direction) a b)
   -- bigger stays bigger: over one divisor that is finite and above zero, of two finite dividends the greater never has the smaller answer; `le` counts zeros of either sign as equal
   pub bigger : (direction a b d : ℕ) → direction ≤ 3 → T (finite (valueOf a)) → T (finite (valueOf b)) → T (positive (valueOf d)) → T (le (valueOf a) (valueOf b))
       → T (le (answerValue t direction a d) (answerValue t direction b d))
@@ -82,7 +82,7 @@ pub record NamedPatterns : Type 0 where
   pub quiet-nan-is : valueOf quietNan ≡ nan
   pub largest-is : T (finite (valueOf largestFinite)) × ((p : ℕ) → T (finite (valueOf p)) → T (le (valueOf p) (valueOf largestFinite)))
   pub zeros-level : T (le (valueOf 0) (valueOf 0x8000_0000_0000_0000)) × T (le (valueOf 0x8000_0000_0000_0000) (valueOf 0))
-  pub turned-is : (p : ℕ) → p < 2 ^ 64 → valueOf (turned p) ≡ neg (valueOf p)
+  pub negated-is : (p : ℕ) → p < 2 ^ 64 → valueOf (negated p) ≡ neg (valueOf p)
 
 -- the relations can fail: two neighbours stand on the two sides of 1/3, and of -1/3 the other way round
 pub record Thirds : Type 0 where
@@ -90,8 +90,8 @@ pub record Thirds : Type 0 where
   pub not-over : AtLeastQuotient (valueOf 0x3FD5_5555_5555_5555) (valueOf one) (valueOf 0x4008_0000_0000_0000) → ⊥
   pub over : AtLeastQuotient (valueOf 0x3FD5_5555_5555_5556) (valueOf one) (valueOf 0x4008_0000_0000_0000)
   pub not-under : AtMostQuotient (valueOf 0x3FD5_5555_5555_5556) (valueOf one) (valueOf 0x4008_0000_0000_0000) → ⊥
-  pub minus-under : AtMostQuotient (valueOf 0xBFD5_5555_5555_5556) (valueOf (turned one)) (valueOf 0x4008_0000_0000_0000)
-  pub minus-not-under : AtMostQuotient (valueOf 0xBFD5_5555_5555_5555) (valueOf (turned one)) (valueOf 0x4008_0000_0000_0000) → ⊥
+  pub minus-under : AtMostQuotient (valueOf 0xBFD5_5555_5555_5556) (valueOf (negated one)) (valueOf 0x4008_0000_0000_0000)
+  pub minus-not-under : AtMostQuotient (valueOf 0xBFD5_5555_5555_5555) (valueOf (negated one)) (valueOf 0x4008_0000_0000_0000) → ⊥
 
 pub record Ieee754 : Type 0 where
   pub named : NamedPatterns

@@ -2,7 +2,7 @@
 use Rattle.laws.proofs.Basics.{_≡_, refl, _∙_, subst, sym, Bool, true, false, not, cond, ⊎-elim, List, [], _∷_, ℕ, zero, suc, _+_, _≤_, _<_, arith, needs, lt-ltb, le-ltb, le-leb, lt-leb, eq-eqb, ne-eqb, T, length, getD}
 use native.Mathlib.Nat.{add-zero, zero-add, add-suc, suc-add, le-of-suc-le-suc, not-suc-le-zero, eq-or-lt-of-le}
 
--- what code that climbs a ladder of tests asks at each way out: `search tests`
+-- what code that climbs a list of tests asks at each way out: `search tests`
 pub ruleset tests = (needs, lt-ltb, le-ltb, le-leb, lt-leb, eq-eqb, ne-eqb)
 
 -- a choice by a test, by its two cases

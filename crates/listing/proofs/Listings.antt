@@ -10,8 +10,8 @@ use Rattle.selection.specs.declared.table.Outcome.{Outcome}
 use Rattle.selection.specs.declared.table.Outcome.the-variants as O
 use Rattle.selection.specs.declared.table.Report.{Report}
 use Rattle.selection.proofs.Tables.{no-table}
-use Rattle.selection.proofs.Reports.{form-ladder, report-checked}
-use Rattle.selection.proofs.Ladders.{refusal-one}
+use Rattle.selection.proofs.Reports.{form-rules, report-checked}
+use Rattle.selection.proofs.Rules.{refusal-one}
 use Rattle.printing.specs.Text.{Appended, refusalText}
 use Rattle.printing.proofs.Texts.{appended-size, appended-take, appended-drop}
 use Rattle.listing.specs.Listing.{Lists, ListsRead, names, linesUpto, tableText, textFor, listingOf}
@@ -25,7 +25,7 @@ module _ (t : List ℕ) where
   answer-lists : (n : ℕ) (o : Outcome) → ReportMeaning t n o → Lists t (textFor t o)
   answer-lists n O.Passed w = table-lists (w .0 .table)
   answer-lists n (O.Bad b) w = table-lists (w .0)
-  answer-lists n (O.Refused f) w = record { table = λ h. no-table h (w .0); refused = λ g v. ap refusalText (refusal-one (form-ladder t) f g (w .0) v) }
+  answer-lists n (O.Refused f) w = record { table = λ h. no-table h (w .0); refused = λ g v. ap refusalText (refusal-one (form-rules t) f g (w .0) v) }
 
   pub lists : Lists t (listingOf t)
   unfolding listingOf

@@ -43,8 +43,8 @@ added u l = rw mod-add-mod (low (u + l / 2 ^ 55) (u * 2 ^ 55 + l) (omega arith))
     low : (v w : ℕ) → w / 2 ^ 55 ≡ v → w % 2 ^ 64 / 2 ^ 57 ≡ v % 512 / 4
     low v w e = omega arith
 
-turned : (a b x : ℕ) → (a % 512 + b % 512 + (x + 256) % 512) % 512 / 4 ≡ ((a + b + x) / 2 + 128) % 256 / 2
-turned a b x = rw (add-mod-mod, mod-sum a b (x + 256) 512) (half (a + b + x) (omega arith))
+quarter-mod : (a b x : ℕ) → (a % 512 + b % 512 + (x + 256) % 512) % 512 / 4 ≡ ((a + b + x) / 2 + 128) % 256 / 2
+quarter-mod a b x = rw (add-mod-mod, mod-sum a b (x + 256) 512) (half (a + b + x) (omega arith))
   where
     half : (t : ℕ) {u : ℕ} → u ≡ t + 256 → u % 512 / 4 ≡ (t / 2 + 128) % 256 / 2
     half t e = omega arith
@@ -54,7 +54,7 @@ pub ahead-code : (a b x k l : ℕ) → k ≤ 1 → l / 2 ^ 55 ≡ topBitsOf x
     → ((bitAnd (a % 2 ^ 62) (2 ^ 64 - 2 ^ 53) + bitAnd (b % 2 ^ 62) (2 ^ 64 - 2 ^ 53)) % 2 ^ 64 * 4 % 2 ^ 64 + l) % 2 ^ 64 / 2 ^ 57
     ≡ column (sum3 a b x * 4 % 2 ^ 64) ((maj3 a b x * 2 + k) * 4 % 2 ^ 64)
 ahead-code a b x k l h e =
-    rw (top a, top b, moved-up (a / 2 ^ 53) (b / 2 ^ 53), added, e, ahead a b x k h) (turned (a / 2 ^ 53) (b / 2 ^ 53) (x / 2 ^ 53))
+    rw (top a, top b, moved-up (a / 2 ^ 53) (b / 2 ^ 53), added, e, ahead a b x k h) (quarter-mod (a / 2 ^ 53) (b / 2 ^ 53) (x / 2 ^ 53))
 
 -- the top bits of each come to the top by its shift
 pub top-bits-at : (ms : List ℕ) (d : ℕ) → d ≤ 4 → allTopBits ms * 2 ^ (9 * d) % 2 ^ 64 / 2 ^ 55 ≡ topBitsOf (getD ms d 0)

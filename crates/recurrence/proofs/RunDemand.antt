@@ -5,7 +5,7 @@ use Rattle.laws.specs.Lists.{listFrom}
 use Rattle.laws.proofs.Diff.{diffs}
 use Rattle.laws.proofs.Lists.{list-length}
 use Rattle.selection.specs.Answer.{answerBy}
-use Rattle.selection.specs.Refusals.{ladder}
+use Rattle.selection.specs.Refusals.{firstRefusal}
 use Rattle.selection.specs.Cell.{row, column, digit}
 use Rattle.selection.specs.Table.{Passes}
 use Rattle.selection.specs.Allowed.{allowsOf}
@@ -15,7 +15,7 @@ use Rattle.selection.specs.declared.Admission.{Admission}
 use Rattle.selection.specs.declared.Admission.the-variants.{Admitted, Refused}
 use Rattle.selection.proofs.Orders.{passed-last}
 use Rattle.recurrence.specs.Recurrence.{Operands, residue, cellAt, nextOf, after, digitOf, digits, value, endRemainder, correctedQuotient, correctedRemainder, resultOf}
-use Rattle.recurrence.specs.Run.{longest, mostDigits, runRungs, written, runZeros, runValues, runOf}
+use Rattle.recurrence.specs.Run.{longest, mostDigits, runRules, written, runZeros, runValues, runOf}
 use Rattle.recurrence.specs.OnTheFly.{Renews, PairDemand, PairExample}
 use Rattle.recurrence.specs.Demand.{RunAnswered, RunClaim}
 use Rattle.recurrence.specs.declared.RunAnswer.{RunAnswer}
@@ -90,7 +90,7 @@ renews-step t p N D i = renews-next t (p .table .digits) (after t N D i)
 pub run-claim : (t : List ℕ) → Passes t → (N D n : ℕ) (b : List ℕ) (place : ℕ) → Operands N D → 1 ≤ n → n ≤ mostDigits → place + n ≤ length b → RunClaim t N D n b place
 unfolding resultOf
 run-claim t p N D n b place o h l r =
-    let g = passed-last p (runRungs N D n (length b) place) ∙ no-refusal N D n (length b) place o h l r in
+    let g = passed-last p (runRules N D n (length b) place) ∙ no-refusal N D n (length b) place o h l r in
     let S = invariant-after t N D p o n .0 in
     let k = invariant-after t N D p o n .1 in
     let e = result-parts t N D n S k h in
@@ -124,12 +124,12 @@ pair-example = record { one = (refl, refl); two = (refl, refl); three = (refl, r
 -- the same answer through every table that passes, whatever the arguments
 pub run-same : (t u : List ℕ) → Passes t → Passes u → (N D n : ℕ) (b : List ℕ) (place : ℕ) → runOf t N D n b place ≡ runOf u N D n b place
 run-same t u p q N D n b place =
-    let rs = runRungs N D n (length b) place in
-    ap (answer t) (passed-last p rs) ∙ go (ladder rs) refl ∙ sym (ap (answer u) (passed-last q rs))
+    let rs = runRules N D n (length b) place in
+    ap (answer t) (passed-last p rs) ∙ go (firstRefusal rs) refl ∙ sym (ap (answer u) (passed-last q rs))
   where
     answer : List ℕ → Admission → RunAnswer
     answer t = answerBy runZeros (runValues (resultOf t N D n))
 
-    go : (v : Admission) → ladder (runRungs N D n (length b) place) ≡ v → answer t v ≡ answer u v
+    go : (v : Admission) → firstRefusal (runRules N D n (length b) place) ≡ v → answer t v ≡ answer u v
     go Admitted e = let a = spans N D n (length b) place e in ap runValues (result-divides t N D n p (a .0) (a .1) ∙ sym (result-divides u N D n q (a .0) (a .1)))
     go (Refused f) e = refl

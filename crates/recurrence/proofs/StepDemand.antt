@@ -9,9 +9,9 @@ use Rattle.laws.proofs.Lists.{list-at}
 use Rattle.selection.specs.Answer.{refusal, answerBy}
 use Rattle.laws.specs.Lists.{listFrom}
 use Rattle.selection.specs.Cell.{row, column, digit}
-use Rattle.selection.specs.Table.{tableRungs, Passes}
+use Rattle.selection.specs.Table.{tableRules, Passes}
 use Rattle.selection.specs.Word.{signed, Within}
-use Rattle.selection.specs.Refusals.{ladder}
+use Rattle.selection.specs.Refusals.{firstRefusal}
 use Rattle.selection.specs.declared.Refusal.{Refusal}
 use Rattle.selection.specs.declared.Admission.{Admission}
 use Rattle.selection.specs.declared.Admission.the-variants.{Admitted, Refused}
@@ -21,7 +21,7 @@ use Rattle.selection.specs.Allowed.{allowsOf}
 use Rattle.selection.specs.Computed.{madeTable, madeOf}
 use Rattle.selection.proofs.MadeTables.{kept-passes}
 use Rattle.recurrence.specs.Recurrence.{State, Operands, cellAt, stepBy, stateFrom, nextOf, after, digitOf, digits}
-use Rattle.recurrence.specs.Step.{stepRungs, stepZeros, stepValues, stepOf, fedBack}
+use Rattle.recurrence.specs.Step.{stepRules, stepZeros, stepValues, stepOf, fedBack}
 use Rattle.recurrence.specs.StepDemand.{Stepped, FeedsRun, StepDemand, StepExample}
 use Rattle.recurrence.specs.declared.step.StepAnswer.{StepAnswer}
 use Rattle.recurrence.proofs.Steps.{residue-biased, InRange, range-of, table-digit-allowed, step-residue, step-in-range}
@@ -35,7 +35,7 @@ module _ (s k D : ℕ) (t : List ℕ) (ok : Passes t) (least : 2 ^ 60 ≤ D) (mo
   pub step-done : stepOf s k D t ≡ stepValues (nextOf t (stateFrom s k D))
   step-done =
       ap (answerBy stepZeros (stepValues (nextOf t (stateFrom s k D))))
-      (by-neither s k D (tableRungs t) (in-span s k D least most) (within s k D w) ∙ passed-last ok [])
+      (by-neither s k D (tableRules t) (in-span s k D least most) (within s k D w) ∙ passed-last ok [])
 
   in-range : InRange (stateFrom s k D)
   in-range =
@@ -105,7 +105,7 @@ module _ (t : List ℕ) (N D : ℕ) (ok : Passes t) (o : Operands N D) where
 
 -- what is refused is the same through every table that passes
 same : (t u : List ℕ) → Passes t → Passes u → (s k D : ℕ) → stepOf s k D t .refusal ≡ stepOf s k D u .refusal
-same t u p q s k D = let rs = stepRungs s k D in ap (told t) (passed-last p rs) ∙ go (ladder rs) ∙ sym (ap (told u) (passed-last q rs))
+same t u p q s k D = let rs = stepRules s k D in ap (told t) (passed-last p rs) ∙ go (firstRefusal rs) ∙ sym (ap (told u) (passed-last q rs))
   where
     told : List ℕ → Admission → Refusal
     told t v = answerBy stepZeros (stepValues (nextOf t (stateFrom s k D))) v .refusal
@@ -132,10 +132,10 @@ one : stepValues (nextOf madeTable (stateFrom 0x0123456789ABCDEF 0x0FEDCBA987654
 unfolding madeTable listFrom madeOf allowsOf nextOf digit
 one = refl
 
-nought : stepValues (nextOf madeTable (stateFrom 0xFEDCBA9876543210 0x023456789ABCDEF1 0x1234567890ABCDEF))
+digit-0 : stepValues (nextOf madeTable (stateFrom 0xFEDCBA9876543210 0x023456789ABCDEF1 0x1234567890ABCDEF))
     ≡ record { refusal = refusal 0 0; digit = pos 0; sum = 0xF3A3B383B3A3B384; carry = 0x10A090C090A09080 }
 unfolding madeTable listFrom madeOf allowsOf nextOf digit
-nought = refl
+digit-0 = refl
 
 minus-one : stepValues (nextOf madeTable (stateFrom 0xE123456789ABCDEF 0x0765432100FEDCBA 0x1FEDCBA987654321))
     ≡ record { refusal = refusal 0 0; digit = negsuc 0; sum = 0xE6AF37BC38C149D0; carry = 0x3B2A190C0F7E6D58 }
@@ -152,7 +152,7 @@ unfolding signed
 step-example = record {
   two = step-done _ _ _ madeTable kept-passes (omega arith) (omega arith) (near _ _ tt tt) ∙ two;
   one = step-done _ _ _ madeTable kept-passes (omega arith) (omega arith) (near _ _ tt tt) ∙ one;
-  zero = step-done _ _ _ madeTable kept-passes (omega arith) (omega arith) (near _ _ tt tt) ∙ nought;
+  zero = step-done _ _ _ madeTable kept-passes (omega arith) (omega arith) (near _ _ tt tt) ∙ digit-0;
   minus-one = step-done _ _ _ madeTable kept-passes (omega arith) (omega arith) (near _ _ tt tt) ∙ minus-one;
   minus-two = step-done _ _ _ madeTable kept-passes (omega arith) (omega arith) (near _ _ tt tt) ∙ minus-two;
 }

@@ -4,15 +4,15 @@ use lib.Signed.{clashℤ}
 use Rattle.laws.proofs.Diff.{diffs}
 use Rattle.laws.proofs.Tests.{by-cond}
 use Rattle.selection.specs.Answer.{refusal}
-use Rattle.selection.specs.Table.{tableRungs}
+use Rattle.selection.specs.Table.{tableRules}
 use Rattle.selection.specs.Word.{signed, Within}
-use Rattle.selection.specs.Refusals.{Condition, Rung, Holds, below, belowℤ, eitherOf, number, rank, ladder}
+use Rattle.selection.specs.Refusals.{Condition, Rule, Holds, below, belowℤ, eitherOf, number, rank, firstRefusal}
 use Rattle.selection.specs.declared.Admission.the-variants as A
 use Rattle.selection.proofs.BiasedPoints.{signed-diff}
-use Rattle.selection.proofs.Ladders.{Ladder, rung-holds, rung-past, clear, not-below}
+use Rattle.selection.proofs.Rules.{WellFormed, rule-holds, rule-past, clear, not-below}
 use Rattle.selection.proofs.Orders.{lent}
 use Rattle.recurrence.specs.FastRun.{distanceOf}
-use Rattle.recurrence.specs.Step.{stepRungs}
+use Rattle.recurrence.specs.Step.{stepRules}
 
 module _ (s k D : ℕ) where
   -- the two conditions
@@ -22,13 +22,13 @@ module _ (s k D : ℕ) where
   abbrev pub out-of-range : Condition
   out-of-range = eitherOf (belowℤ (pos 3 *ℤ signed (s + k)) (negℤ (pos (8 * D)))) (belowℤ (pos (8 * D)) (pos 3 *ℤ signed (s + k)))
 
-  pub step-ladder : Ladder (stepRungs s k D)
-  unfolding stepRungs rank
-  step-ladder = record { sound = (tt, λ _. (tt, λ _. tt)); in-order = tt }
+  pub step-rules : WellFormed (stepRules s k D)
+  unfolding stepRules rank
+  step-rules = record { sound = (tt, λ _. (tt, λ _. tt)); in-order = tt }
 
-  pub step-lent : (t : List ℕ) → Ladder (stepRungs s k D ++ tableRungs t)
-  unfolding stepRungs tableRungs rank
-  step-lent t = lent (stepRungs s k D) t step-ladder tt
+  pub step-lent : (t : List ℕ) → WellFormed (stepRules s k D ++ tableRules t)
+  unfolding stepRules tableRules rank
+  step-lent t = lent (stepRules s k D) t step-rules tt
 
   -- the code's test
   pub outside : 8 * D / 3 < distanceOf ((s + k) % 2 ^ 64) → Holds out-of-range
@@ -49,21 +49,21 @@ module _ (s k D : ℕ) where
   pub in-span : 2 ^ 60 ≤ D → D < 2 ^ 61 → Holds wrong-divisor → ⊥
   in-span l m = ⊎-elim (λ x. omega arith) (λ x. omega arith)
 
-  -- what the two rungs give, whatever comes after them
-  module _ (rest : List Rung) where
-    pub by-divisor : Holds wrong-divisor → ladder (stepRungs s k D ++ rest) ≡ A.Refused (refusal 3 0)
-    unfolding stepRungs
-    by-divisor h = rung-holds 3 0 wrong-divisor (number 14 out-of-range ∷ rest) h
+  -- what the two rules give, whatever comes after them
+  module _ (rest : List Rule) where
+    pub by-divisor : Holds wrong-divisor → firstRefusal (stepRules s k D ++ rest) ≡ A.Refused (refusal 3 0)
+    unfolding stepRules
+    by-divisor h = rule-holds 3 0 wrong-divisor (number 14 out-of-range ∷ rest) h
 
-    pub by-range : (Holds wrong-divisor → ⊥) → Holds out-of-range → ladder (stepRungs s k D ++ rest) ≡ A.Refused (refusal 14 0)
-    unfolding stepRungs
-    by-range n h = rung-past 3 0 wrong-divisor (number 14 out-of-range ∷ rest) n ∙ rung-holds 14 0 out-of-range rest h
+    pub by-range : (Holds wrong-divisor → ⊥) → Holds out-of-range → firstRefusal (stepRules s k D ++ rest) ≡ A.Refused (refusal 14 0)
+    unfolding stepRules
+    by-range n h = rule-past 3 0 wrong-divisor (number 14 out-of-range ∷ rest) n ∙ rule-holds 14 0 out-of-range rest h
 
-    pub by-neither : (Holds wrong-divisor → ⊥) → (Holds out-of-range → ⊥) → ladder (stepRungs s k D ++ rest) ≡ ladder rest
-    unfolding stepRungs
-    by-neither n m = rung-past 3 0 wrong-divisor (number 14 out-of-range ∷ rest) n ∙ rung-past 14 0 out-of-range rest m
+    pub by-neither : (Holds wrong-divisor → ⊥) → (Holds out-of-range → ⊥) → firstRefusal (stepRules s k D ++ rest) ≡ firstRefusal rest
+    unfolding stepRules
+    by-neither n m = rule-past 3 0 wrong-divisor (number 14 out-of-range ∷ rest) n ∙ rule-past 14 0 out-of-range rest m
 
   -- words and divisor without a refusal of their own
-  pub step-span : ladder (stepRungs s k D) ≡ A.Admitted → D < 2 ^ 61
-  unfolding stepRungs
-  step-span e = let a = clear step-ladder e in let m : D ≤ 2 ^ 61 - 1 = not-below (λ h. a 3 0 (inl (refl, (refl, inr h)))) in omega arith
+  pub step-span : firstRefusal (stepRules s k D) ≡ A.Admitted → D < 2 ^ 61
+  unfolding stepRules
+  step-span e = let a = clear step-rules e in let m : D ≤ 2 ^ 61 - 1 = not-below (λ h. a 3 0 (inl (refl, (refl, inr h)))) in omega arith

@@ -8,16 +8,16 @@ use Rattle.laws.proofs.Powers.{four-pow}
 use Rattle.selection.specs.Answer.{refusal, answerBy}
 use Rattle.selection.specs.Allowed.{allowsOf}
 use Rattle.selection.specs.Computed.{madeTable, madeOf}
-use Rattle.selection.specs.Table.{Passes, tableRungs}
-use Rattle.selection.specs.Refusals.{Condition, Rung, below, same, eitherOf, number, Wrongs, rank, ladder}
+use Rattle.selection.specs.Table.{Passes, tableRules}
+use Rattle.selection.specs.Refusals.{Condition, Rule, below, same, eitherOf, number, Wrongs, rank, firstRefusal}
 use Rattle.selection.specs.declared.Refusal.{Refusal}
 use Rattle.selection.specs.declared.Admission.{Admission}
 use Rattle.selection.specs.declared.Admission.the-variants.{Admitted, Refused}
-use Rattle.selection.proofs.Ladders.{Ladder, Meets, ladder-meets, not-below, clear, admits, first-is, refused-is, refuses, rung-holds, rung-past}
+use Rattle.selection.proofs.Rules.{WellFormed, Meets, rules-meet, not-below, clear, admits, first-is, refused-is, refuses, rule-holds, rule-past}
 use Rattle.selection.proofs.Orders.{lent, answered, passed-last}
 use Rattle.recurrence.specs.Recurrence.{cellAt, nextOf, after}
 use Rattle.recurrence.specs.Run.{mostDigits}
-use Rattle.recurrence.specs.Visits.{sumBelow, isAt, runVisits, visitsOf, VisitsClaim, visitsRungs, visitsAnswer, visitsLeft, Visits, Significant, OperandOnce, VisitsShown, VisitsDemand, VisitsExample}
+use Rattle.recurrence.specs.Visits.{sumBelow, isAt, runVisits, visitsOf, VisitsClaim, visitsRules, visitsAnswer, visitsLeft, Visits, Significant, OperandOnce, VisitsShown, VisitsDemand, VisitsExample}
 use Rattle.recurrence.specs.VisitSteps.{visitsByDivisors, visitsByPairs}
 use Rattle.recurrence.proofs.Sums.{sum-as, sum-all, sum-nothing, sum-zero, sum-swap, sum-at, at-here, at-other}
 use Rattle.recurrence.proofs.Visiting.{cell-below, unit-some, placed-span, pairs-most, product-most, few-bits, placed-bits, pairs-are}
@@ -72,19 +72,19 @@ visits-claim t k n =
 -- ---- the call
 
 module _ (k n len : ℕ) where
-  pub visits-ladder : Ladder (visitsRungs k n len)
-  unfolding visitsRungs rank
-  visits-ladder = record { sound = (tt, λ _. (tt, λ _. (tt, λ _. tt))); in-order = tt }
+  pub visits-rules : WellFormed (visitsRules k n len)
+  unfolding visitsRules rank
+  visits-rules = record { sound = (tt, λ _. (tt, λ _. (tt, λ _. tt))); in-order = tt }
 
-  pub visits-lent : (t : List ℕ) → Ladder (visitsRungs k n len ++ tableRungs t)
-  unfolding visitsRungs tableRungs rank
-  visits-lent t = lent (visitsRungs k n len) t visits-ladder tt
+  pub visits-lent : (t : List ℕ) → WellFormed (visitsRules k n len ++ tableRules t)
+  unfolding visitsRules tableRules rank
+  visits-lent t = lent (visitsRules k n len) t visits-rules tt
 
   -- arguments without a refusal of their own are in their spans
-  pub visits-spans : ladder (visitsRungs k n len) ≡ Admitted → (1 ≤ k) × (k ≤ 6) × (n ≤ 28) × (2048 ≤ len)
-  unfolding visitsRungs
+  pub visits-spans : firstRefusal (visitsRules k n len) ≡ Admitted → (1 ≤ k) × (k ≤ 6) × (n ≤ 28) × (2048 ≤ len)
+  unfolding visitsRules
   visits-spans e =
-      let a = clear visits-ladder e in (
+      let a = clear visits-rules e in (
         not-below (λ (h : k < 1). a 16 0 (inr (inl (refl, (refl, inl (omega arith)))))),
         not-below (λ h. a 16 0 (inr (inl (refl, (refl, inr h))))),
         (let l : n ≤ mostDigits = not-below (λ h. a 2 0 (inl (refl, (refl, inr h)))) in l),
@@ -92,8 +92,8 @@ module _ (k n len : ℕ) where
       )
 
 module _ (t : List ℕ) (k n : ℕ) (v : List ℕ) where
-  room : ((m p : ℕ) → Wrongs (visitsRungs k n (length v) ++ tableRungs t) m p → ⊥) → 2048 ≤ length v
-  unfolding visitsRungs
+  room : ((m p : ℕ) → Wrongs (visitsRules k n (length v) ++ tableRules t) m p → ⊥) → 2048 ≤ length v
+  unfolding visitsRules
   room a = not-below (λ h. a 7 0 (inr (inr (inl (refl, (refl, h))))))
 
   pub visits-right : Visits t k n v (visitsLeft t k n v) (visitsAnswer t k n v)
@@ -106,7 +106,7 @@ module _ (t : List ℕ) (k n : ℕ) (v : List ℕ) where
       }
 
   -- what the code asks: by the first refusal r
-  pub visits-told : {r : Admission} {w : List ℕ} {f : Refusal} → ladder (visitsRungs k n (length v) ++ tableRungs t) ≡ r
+  pub visits-told : {r : Admission} {w : List ℕ} {f : Refusal} → firstRefusal (visitsRules k n (length v) ++ tableRules t) ≡ r
       → f ≡ answerBy (λ f. f) (refusal 0 0) r → w ≡ answerBy (λ f. v) (filled (visitsOf t k n) 2048 v) r
       → (f ≡ visitsAnswer t k n v) × (w ≡ visitsLeft t k n v) × Visits t k n v w f
   visits-told e g h =
@@ -122,33 +122,33 @@ module _ (t : List ℕ) (k n : ℕ) (v : List ℕ) where
   wrong-bits : Condition
   wrong-bits = eitherOf (same k 0) (below 6 k)
 
-  -- the rungs after the second
-  later : List Rung
-  later = number 7 (below (length v) 2048) ∷ tableRungs t
+  -- the rules after the second
+  later : List Rule
+  later = number 7 (below (length v) 2048) ∷ tableRules t
 
   pub digits-refused : (n ≡ 0) ⊎ (28 < n) → visitsAnswer t k n v ≡ refusal 2 0
-  unfolding visitsRungs wrong-digits wrong-bits later
-  digits-refused h = ap (answerBy (λ f. f) (refusal 0 0)) (rung-holds 2 0 wrong-digits (number 16 wrong-bits ∷ later) h)
+  unfolding visitsRules wrong-digits wrong-bits later
+  digits-refused h = ap (answerBy (λ f. f) (refusal 0 0)) (rule-holds 2 0 wrong-digits (number 16 wrong-bits ∷ later) h)
 
   module _ (some : 1 ≤ n) (most : n ≤ 28) where
-    past-digits : ladder (visitsRungs k n (length v) ++ tableRungs t) ≡ ladder (number 16 wrong-bits ∷ later)
-    unfolding visitsRungs wrong-digits wrong-bits later
-    past-digits = rung-past 2 0 wrong-digits (number 16 wrong-bits ∷ later) (⊎-elim (λ x. omega arith) (λ x. omega arith))
+    past-digits : firstRefusal (visitsRules k n (length v) ++ tableRules t) ≡ firstRefusal (number 16 wrong-bits ∷ later)
+    unfolding visitsRules wrong-digits wrong-bits later
+    past-digits = rule-past 2 0 wrong-digits (number 16 wrong-bits ∷ later) (⊎-elim (λ x. omega arith) (λ x. omega arith))
 
     pub bits-refused : (k ≡ 0) ⊎ (6 < k) → visitsAnswer t k n v ≡ refusal 16 0
     unfolding wrong-bits
-    bits-refused h = ap (answerBy (λ f. f) (refusal 0 0)) (past-digits ∙ rung-holds 16 0 wrong-bits later h)
+    bits-refused h = ap (answerBy (λ f. f) (refusal 0 0)) (past-digits ∙ rule-holds 16 0 wrong-bits later h)
 
     pub list-refused : 1 ≤ k → k ≤ 6 → length v < 2048 → visitsAnswer t k n v ≡ refusal 7 0
     unfolding wrong-bits later
     list-refused h l r =
         ap (answerBy (λ f. f) (refusal 0 0))
-        (past-digits ∙ rung-past 16 0 wrong-bits later (⊎-elim (λ x. omega arith) (λ x. omega arith)) ∙ rung-holds 7 0 (below (length v) 2048) (tableRungs t) r)
+        (past-digits ∙ rule-past 16 0 wrong-bits later (⊎-elim (λ x. omega arith) (λ x. omega arith)) ∙ rule-holds 7 0 (below (length v) 2048) (tableRules t) r)
 
-    admitted : 1 ≤ k → k ≤ 6 → 2048 ≤ length v → Passes t → ladder (visitsRungs k n (length v) ++ tableRungs t) ≡ Admitted
+    admitted : 1 ≤ k → k ≤ 6 → 2048 ≤ length v → Passes t → firstRefusal (visitsRules k n (length v) ++ tableRules t) ≡ Admitted
     unfolding wrong-bits later
     admitted h l r p =
-        past-digits ∙ rung-past 16 0 wrong-bits later (⊎-elim (λ x. omega arith) (λ x. omega arith)) ∙ rung-past 7 0 (below (length v) 2048) (tableRungs t) (λ (x : length v < 2048). omega arith)
+        past-digits ∙ rule-past 16 0 wrong-bits later (⊎-elim (λ x. omega arith) (λ x. omega arith)) ∙ rule-past 7 0 (below (length v) 2048) (tableRules t) (λ (x : length v < 2048). omega arith)
         ∙ passed-last p []
 
     -- what is accepted, and what the list then shows
@@ -212,9 +212,9 @@ visits-demand = record {
 pub visits-one : {t : List ℕ} {k n : ℕ} {v w u : List ℕ} (f g : Refusal) → Visits t k n v w f → Visits t k n v u g → (w ≡ u) × (f ≡ g)
 visits-one {t} {k} {n} {v} {w} {u} f g x y =
     let c = visits-lent k n (length v) t in
-    (go (ladder (visitsRungs k n (length v) ++ tableRungs t)) (ladder-meets c _ refl), refused-is c f (x .refuses) ∙ sym (refused-is c g (y .refuses)))
+    (go (firstRefusal (visitsRules k n (length v) ++ tableRules t)) (rules-meet c _ refl), refused-is c f (x .refuses) ∙ sym (refused-is c g (y .refuses)))
   where
-    go : (r : Admission) → Meets (Wrongs (visitsRungs k n (length v) ++ tableRungs t)) r → w ≡ u
+    go : (r : Admission) → Meets (Wrongs (visitsRules k n (length v) ++ tableRules t)) r → w ≡ u
     go Admitted m = filled-one (x .counts m) (y .counts m)
     go (Refused f) m = x .keeps _ _ m ∙ sym (y .keeps _ _ m)
 

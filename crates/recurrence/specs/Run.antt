@@ -3,8 +3,8 @@ use mathlib.Core.List.{List, [], _∷_, _++_}
 use Prim.Native.Nat.{ℕ, _+_, _-_, _^_}
 use lib.ListN.{length, take, drop}
 use Rattle.selection.specs.Answer.{refusal, answerBy}
-use Rattle.selection.specs.Table.{tableRungs}
-use Rattle.selection.specs.Refusals.{Rung, below, same, eitherOf, number, ladder}
+use Rattle.selection.specs.Table.{tableRules}
+use Rattle.selection.specs.Refusals.{Rule, below, same, eitherOf, number, firstRefusal}
 use Rattle.selection.specs.declared.Refusal.{Refusal}
 use Rattle.recurrence.specs.Recurrence.{digits, resultOf}
 use Rattle.recurrence.specs.declared.RunResult.{RunResult}
@@ -19,8 +19,8 @@ abbrev pub mostDigits : ℕ
 mostDigits = 28
 
 -- what a run refuses of its arguments. 2: n is 0 or above the most that a caller may ask for. 3: D or N outside its span, from 2^60 to 2^61 - 1 and from 0 to 2^61 - 1. 7: the buffer ends before the last byte to write
-unfoldable pub runRungs : ℕ → ℕ → ℕ → ℕ → ℕ → List Rung
-runRungs N D n len place =
+unfoldable pub runRules : ℕ → ℕ → ℕ → ℕ → ℕ → List Rule
+runRules N D n len place =
     number 2 (eitherOf (same n 0) (below mostDigits n))
     ∷ number 3 (eitherOf (below D (2 ^ 60)) (eitherOf (below (2 ^ 61 - 1) D) (below (2 ^ 61 - 1) N)))
     ∷ number 7 (below len (place + n))
@@ -40,7 +40,7 @@ runValues x = record { refusal = refusal 0 0; quotient = x .quotient; remainder 
 
 -- the answer, and the buffer that held b: after the arguments' refusals the table's, 8, 9, 10
 abbrev pub runOf : List ℕ → ℕ → ℕ → ℕ → List ℕ → ℕ → RunAnswer
-runOf t N D n b place = answerBy runZeros (runValues (resultOf t N D n)) (ladder (runRungs N D n (length b) place ++ tableRungs t))
+runOf t N D n b place = answerBy runZeros (runValues (resultOf t N D n)) (firstRefusal (runRules N D n (length b) place ++ tableRules t))
 
 abbrev pub bufferOf : List ℕ → ℕ → ℕ → ℕ → List ℕ → ℕ → List ℕ
-bufferOf t N D n b place = answerBy (λ f. b) (written b place (digits t N D n) n) (ladder (runRungs N D n (length b) place ++ tableRungs t))
+bufferOf t N D n b place = answerBy (λ f. b) (written b place (digits t N D n) n) (firstRefusal (runRules N D n (length b) place ++ tableRules t))

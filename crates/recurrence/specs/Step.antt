@@ -4,16 +4,16 @@ use Prim.Native.Nat.{ℕ, zero, suc, _+_, _-_, _*_, _^_}
 use lib.IntN.{pos, negℤ, _*ℤ_}
 use Rattle.selection.specs.Answer.{refusal, answerBy}
 use Rattle.selection.specs.Cell.{digit}
-use Rattle.selection.specs.Table.{tableRungs}
-use Rattle.selection.specs.Refusals.{Rung, below, belowℤ, eitherOf, number, ladder}
+use Rattle.selection.specs.Table.{tableRules}
+use Rattle.selection.specs.Refusals.{Rule, below, belowℤ, eitherOf, number, firstRefusal}
 use Rattle.selection.specs.Word.{signed}
 use Rattle.selection.specs.declared.Refusal.{Refusal}
 use Rattle.recurrence.specs.Recurrence.{State, stateFrom, nextOf}
 use Rattle.recurrence.specs.declared.step.StepAnswer.{StepAnswer}
 
 -- what a step with PS = s, PC = k refuses of its arguments. 3: D outside its span, from 2^60 to 2^61 - 1. 14: with P read from both words, 3P is below −8D or above 8D
-unfoldable pub stepRungs : ℕ → ℕ → ℕ → List Rung
-stepRungs s k D =
+unfoldable pub stepRules : ℕ → ℕ → ℕ → List Rule
+stepRules s k D =
     number 3 (eitherOf (below D (2 ^ 60)) (below (2 ^ 61 - 1) D))
     ∷ number 14 (eitherOf (belowℤ (pos 3 *ℤ signed (s + k)) (negℤ (pos (8 * D)))) (belowℤ (pos (8 * D)) (pos 3 *ℤ signed (s + k))))
     ∷ []
@@ -28,7 +28,7 @@ stepValues p = record { refusal = refusal 0 0; digit = digit (p .digit); sum = p
 
 -- the answer: after the arguments' refusals the table's, 8, 9, 10; else the run's step
 abbrev pub stepOf : ℕ → ℕ → ℕ → List ℕ → StepAnswer
-stepOf s k D t = answerBy stepZeros (stepValues (nextOf t (stateFrom s k D))) (ladder (stepRungs s k D ++ tableRungs t))
+stepOf s k D t = answerBy stepZeros (stepValues (nextOf t (stateFrom s k D))) (firstRefusal (stepRules s k D ++ tableRules t))
 
 -- the answer of call i, counted from 0, to someone who begins at PS = N, PC = 0 and feeds each returned pair back
 unfoldable pub fedBack : List ℕ → ℕ → ℕ → ℕ → StepAnswer

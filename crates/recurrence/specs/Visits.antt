@@ -9,8 +9,8 @@ use lib.ListN.{length, getD}
 use Rattle.laws.specs.Lists.{filled, KeptFrom, FilledWith}
 use Rattle.selection.specs.Answer.{refusal, answerBy}
 use Rattle.selection.specs.Computed.{madeTable}
-use Rattle.selection.specs.Refusals.{Rung, below, same, eitherOf, number, Wrongs, FirstRefusal, RefusedBy, ladder}
-use Rattle.selection.specs.Table.{Passes, tableRungs}
+use Rattle.selection.specs.Refusals.{Rule, below, same, eitherOf, number, Wrongs, FirstRefusal, RefusedBy, firstRefusal}
+use Rattle.selection.specs.Table.{Passes, tableRules}
 use Rattle.selection.specs.declared.Refusal.{Refusal}
 use Rattle.recurrence.specs.Recurrence.{cellAt, after}
 use Rattle.recurrence.specs.Run.{mostDigits}
@@ -60,8 +60,8 @@ pub record VisitsClaim (t : List ℕ) (k n : ℕ) : Type 0 where
 -- ---- the call
 
 -- what is refused of the arguments. 2: n is 0 or above 28. 16: k is 0 or above 6. 7: the list is too short
-unfoldable pub visitsRungs : ℕ → ℕ → ℕ → List Rung
-visitsRungs k n len =
+unfoldable pub visitsRules : ℕ → ℕ → ℕ → List Rule
+visitsRules k n len =
     number 2 (eitherOf (same n 0) (below mostDigits n))
     ∷ number 16 (eitherOf (same k 0) (below 6 k))
     ∷ number 7 (below len 2048)
@@ -69,16 +69,16 @@ visitsRungs k n len =
 
 -- the answer, and what is left in the list that held v: after the arguments' refusals the table's, 8, 9, 10
 abbrev pub visitsAnswer : List ℕ → ℕ → ℕ → List ℕ → Refusal
-visitsAnswer t k n v = answerBy (λ f. f) (refusal 0 0) (ladder (visitsRungs k n (length v) ++ tableRungs t))
+visitsAnswer t k n v = answerBy (λ f. f) (refusal 0 0) (firstRefusal (visitsRules k n (length v) ++ tableRules t))
 
 abbrev pub visitsLeft : List ℕ → ℕ → ℕ → List ℕ → List ℕ
-visitsLeft t k n v = answerBy (λ f. v) (filled (visitsOf t k n) 2048 v) (ladder (visitsRungs k n (length v) ++ tableRungs t))
+visitsLeft t k n v = answerBy (λ f. v) (filled (visitsOf t k n) 2048 v) (firstRefusal (visitsRules k n (length v) ++ tableRules t))
 
 -- f is the answer, where the list held v and then holds w: the first 2,048 numbers are the visits of the cells, and the rest is kept
 pub record Visits (t : List ℕ) (k n : ℕ) (v w : List ℕ) (f : Refusal) : Type 0 where
-  pub refuses : RefusedBy (Wrongs (visitsRungs k n (length v) ++ tableRungs t)) f
-  pub keeps : (m p : ℕ) → FirstRefusal (Wrongs (visitsRungs k n (length v) ++ tableRungs t)) m p → w ≡ v
-  pub counts : ((m p : ℕ) → Wrongs (visitsRungs k n (length v) ++ tableRungs t) m p → ⊥) → FilledWith (visitsOf t k n) 2048 v w
+  pub refuses : RefusedBy (Wrongs (visitsRules k n (length v) ++ tableRules t)) f
+  pub keeps : (m p : ℕ) → FirstRefusal (Wrongs (visitsRules k n (length v) ++ tableRules t)) m p → w ≡ v
+  pub counts : ((m p : ℕ) → Wrongs (visitsRules k n (length v) ++ tableRules t) m p → ⊥) → FilledWith (visitsOf t k n) 2048 v w
 
 -- ---- the demand
 

@@ -11,7 +11,7 @@ ghost use mathlib.Core.Bool.{cond};
 ghost use mathlib.Core.List.{List};
 ghost use Prim.Native.Nat.{ℕ, _+_, _%_, _^_, _≤_, _<_};
 ghost use lib.ListN.{length, getD};
-ghost use Rattle.selection.specs.Refusals.{ladder};
+ghost use Rattle.selection.specs.Refusals.{firstRefusal};
 ghost use Rattle.selection.specs.Cell.{column};
 ghost use Rattle.selection.specs.Cell as Cell;
 ghost use Rattle.selection.specs.Table.{Passes, rowBytes};
@@ -19,7 +19,7 @@ ghost use Rattle.selection.specs.Computed.{madeTable};
 ghost use Rattle.recurrence.specs.CarrySave.{lowestCarry};
 ghost use Rattle.recurrence.specs.Recurrence.{Operands, appended, nextOf, stateFrom, digits, resultOf};
 ghost use Rattle.recurrence.specs.Row.{Row};
-ghost use Rattle.recurrence.specs.Run.{longest, runRungs, written, runZeros, runValues, runOf, bufferOf};
+ghost use Rattle.recurrence.specs.Run.{longest, runRules, written, runZeros, runValues, runOf, bufferOf};
 ghost use Rattle.recurrence.specs.FastRun.{withColumn, stateOf, multiplesOf, topBitsOf, allTopBits, DigitBytes, StepReady, renewed, resultFromWord};
 
 // The next column needs the bits 61 to 53 of a word: what is left of it by 2^62, without the bits below 2^53.
@@ -255,7 +255,7 @@ fn run_admitted(
 
 // The first refusal of the arguments alone.
 fn argument_refusal(dividend: u64, divisor: u64, n: usize, len: usize, place: usize) -> Admission
-    ensures { λ r. ⌜ r ≡ ladder (runRungs dividend divisor n len place) ⌝ }
+    ensures { λ r. ⌜ r ≡ firstRefusal (runRules dividend divisor n len place) ⌝ }
 {
     if n == 0 {
         return refused(2);

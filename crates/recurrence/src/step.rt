@@ -6,10 +6,10 @@ use selection::refused;
 use std::num::wrapping_add_u64;
 ghost use mathlib.Core.Path.{_≡_};
 ghost use Prim.Native.Nat.{_^_, _<_};
-ghost use Rattle.selection.specs.Refusals.{ladder};
+ghost use Rattle.selection.specs.Refusals.{firstRefusal};
 ghost use Rattle.selection.specs.Table.{Passes};
 ghost use Rattle.recurrence.specs.Recurrence.{nextOf, stateFrom};
-ghost use Rattle.recurrence.specs.Step.{stepRungs, stepZeros, stepValues, stepOf};
+ghost use Rattle.recurrence.specs.Step.{stepRules, stepZeros, stepValues, stepOf};
 ghost use Rattle.recurrence.specs.FastRun.{withColumn, stateOf, distanceOf};
 
 // The answer, as C sees it: the refusal (0: none) and its place, the digit, from -2 to 2, and the next two words, zeros where the step is refused.
@@ -33,7 +33,7 @@ fn distance(word: u64) -> u64
 
 // The first refusal of a step's words and divisor. Three times the remainder is never formed: it would leave 64 bits.
 fn refusal_of(sum: u64, carry: u64, divisor: u64) -> Admission
-    ensures { λ r. ⌜ r ≡ ladder (stepRungs sum carry divisor) ⌝ }
+    ensures { λ r. ⌜ r ≡ firstRefusal (stepRules sum carry divisor) ⌝ }
 {
     if divisor < crate::DIVISOR_LEAST {
         return refused(3);

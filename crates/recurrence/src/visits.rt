@@ -7,11 +7,11 @@ ghost use mathlib.Core.List.{List};
 ghost use Prim.Native.Nat.{ℕ, _+_, _*_, _-_, _^_, _≤_, _<_};
 ghost use lib.ListN.{length};
 ghost use Rattle.laws.specs.Lists.{filled};
-ghost use Rattle.selection.specs.Refusals.{ladder};
+ghost use Rattle.selection.specs.Refusals.{firstRefusal};
 ghost use Rattle.selection.specs.Cell as Cell;
 ghost use Rattle.selection.specs.Table.{Passes, rowBytes};
 ghost use Rattle.recurrence.specs.Row.{Row};
-ghost use Rattle.recurrence.specs.Visits.{visitsRungs, runVisits, visitsOf, visitsAnswer, visitsLeft, Visits};
+ghost use Rattle.recurrence.specs.Visits.{visitsRules, runVisits, visitsOf, visitsAnswer, visitsLeft, Visits};
 ghost use Rattle.recurrence.specs.VisitSteps.{Added, Room, Placed, visitsByDivisors, visitsByPairs};
 use crate::MOST_DIGITS;
 use crate::RunState;
@@ -104,7 +104,7 @@ fn visit_all(table: &[u8], bits: u64, digits: usize, visits: &mut [u32])
 
 // The first refusal of the arguments alone.
 fn refusal_of(bits: u64, digits: usize, len: usize) -> Admission
-    ensures { λ r. ⌜ r ≡ ladder (visitsRungs bits digits len) ⌝ }
+    ensures { λ r. ⌜ r ≡ firstRefusal (visitsRules bits digits len) ⌝ }
 {
     if digits == 0 {
         return refused(2);

@@ -6,16 +6,16 @@ use lib.Seq.{take-all}
 use Rattle.laws.specs.Lists.{listFrom, filled}
 use Rattle.laws.proofs.Lists.{list-length, fill-all}
 use Rattle.selection.specs.Answer.{refusal, answerBy}
-use Rattle.selection.specs.Refusals.{ladder}
+use Rattle.selection.specs.Refusals.{firstRefusal}
 use Rattle.selection.specs.Allowed.{isReplaced}
 use Rattle.selection.specs.Table.{Passes}
 use Rattle.selection.specs.Computed.{countBelow, repairedByte, repairOf, repairedOf}
-use Rattle.selection.specs.Repair.{repairRungs, repairZeros}
+use Rattle.selection.specs.Repair.{repairRules, repairZeros}
 use Rattle.selection.specs.declared.Refusal.{Refusal}
 use Rattle.selection.specs.declared.Admission.{Admission}
 use Rattle.selection.specs.declared.Admission.the-variants.{Admitted}
 use Rattle.selection.specs.declared.repair.RepairAnswer.{RepairAnswer}
-use Rattle.selection.proofs.Ladders.{equal}
+use Rattle.selection.proofs.Rules.{equal}
 use Rattle.selection.proofs.RepairAnswers.{repair-admits, length-refused, repair-told}
 use Rattle.selection.proofs.RepairDemand.{repair-demand}
 use Rattle.printing.specs.Text.{decimalUpto, decimalOf, refusalText}
@@ -28,7 +28,7 @@ cells-more t u k = rw add-one
 
 -- the call, by the table alone
 module _ (t rs cs : List ℕ) (h : length t ≡ 2048) (r : length rs ≡ 2048) (c : length cs ≡ 2048) where
-  admitted : ladder (repairRungs (length t) (length rs) (length cs)) ≡ Admitted
+  admitted : firstRefusal (repairRules (length t) (length rs) (length cs)) ≡ Admitted
   admitted = repair-admits _ _ _ (record { repaired-room = omega arith; changed-room = omega arith; size = h })
 
   table-is : repairedOf t rs cs ≡ listFrom (repairedByte t) 0 2048

@@ -6,17 +6,17 @@ use Rattle.laws.proofs.Tests.{by-cond}
 use Rattle.laws.proofs.Diff.{diff, diffs, diff-sub, diff-eq}
 use Rattle.laws.proofs.Division.{le-or-lt}
 use Rattle.selection.specs.Word.{signed, Within}
-use Rattle.selection.specs.Cell.{earlierSpan, PointUnder, Point, Keeps, Allows, Against, IsCell, cellRungs, CellChecked, CellMeaning, digit}
+use Rattle.selection.specs.Cell.{earlierSpan, PointUnder, Point, Keeps, Allows, Against, IsCell, cellRules, CellChecked, CellMeaning, digit}
 use Rattle.selection.specs.Multiples.{Finding, multiplesOf, testOf, cellVerdictOf}
 use Rattle.selection.specs.Multiples.Finding.{NoWitness, LeastAt}
 use Rattle.selection.specs.Answer.{answerBy}
-use Rattle.selection.specs.Refusals.{Wrongs, ladder, rank, FirstRefusal}
+use Rattle.selection.specs.Refusals.{Wrongs, firstRefusal, rank, FirstRefusal}
 use Rattle.selection.specs.declared.Admission.{Admission}
 use Rattle.selection.specs.declared.Admission.the-variants as A
 use Rattle.selection.specs.Computed.{cellOf}
 use Rattle.selection.specs.declared.CellVerdict.{CellVerdict}
 use Rattle.selection.specs.declared.CellVerdict.the-variants.{Allowed, Disallowed, Refused}
-use Rattle.selection.proofs.Ladders.{Ladder, Meets, ladder-meets, not-below}
+use Rattle.selection.proofs.Rules.{WellFormed, Meets, rules-meet, not-below}
 use Rattle.selection.proofs.Breaking.{BiasedPointUnder, BiasedPoint, Low, High, Breaks, IsLeast}
 use Rattle.selection.proofs.Tested.{test-right}
 
@@ -112,19 +112,19 @@ module _ (r c b : ℕ) (known : IsCell r c b) where
         }),
   )
 
-pub cell-ladder : (r c b : ℕ) → Ladder (cellRungs r c b)
+pub cell-rules : (r c b : ℕ) → WellFormed (cellRules r c b)
 unfolding rank
-cell-ladder r c b = record { sound = (tt, λ _. (tt, λ _. tt)); in-order = tt }
+cell-rules r c b = record { sound = (tt, λ _. (tt, λ _. tt)); in-order = tt }
 
 -- what is not refused is a cell and a digit
-pub is-cell : {r c b : ℕ} → ((n p : ℕ) → Wrongs (cellRungs r c b) n p → ⊥) → IsCell r c b
+pub is-cell : {r c b : ℕ} → ((n p : ℕ) → Wrongs (cellRules r c b) n p → ⊥) → IsCell r c b
 is-cell a = record { row = not-below (λ h. a 1 0 (inl (refl, (refl, inl h)))); column = not-below (λ h. a 1 0 (inl (refl, (refl, inr h)))); byte = not-below (λ h. a 9 _ (inr (inl (refl, (refl, h))))) }
 
 -- the computed verdict is document 01's
 pub cell-checked : (r c b : ℕ) → CellChecked r c b (cellOf r c b)
-cell-checked r c b = record { means = go (ladder (cellRungs r c b)) (ladder-meets (cell-ladder r c b) _ refl) }
+cell-checked r c b = record { means = go (firstRefusal (cellRules r c b)) (rules-meet (cell-rules r c b) _ refl) }
   where
-    go : (v : Admission) → Meets (Wrongs (cellRungs r c b)) v → CellMeaning r c b (answerBy Refused (cellVerdictOf (testOf (multiplesOf r) c b)) v)
+    go : (v : Admission) → Meets (Wrongs (cellRules r c b)) v → CellMeaning r c b (answerBy Refused (cellVerdictOf (testOf (multiplesOf r) c b)) v)
     go A.Admitted m = let k = is-cell m in result-means r c b k (testOf (multiplesOf r) c b) (test-right k)
     go (A.Refused f) m = m
 
@@ -138,7 +138,7 @@ cell-known {r} {c} {b} k = simp (le-ltb 15 r (k .row), le-ltb 127 c (k .column),
 pub verdict-checked : {r c b : ℕ} {h : Finding} → IsCell r c b → h ≡ testOf (multiplesOf r) c b → (cellVerdictOf h ≡ cellOf r c b) × CellChecked r c b (cellVerdictOf h)
 verdict-checked {r} {c} {b} k e = answers r c b (ap cellVerdictOf e ∙ sym (cell-known k))
 
-pub known-not-refused : {r c b n p : ℕ} {X : Type 0} → IsCell r c b → FirstRefusal (Wrongs (cellRungs r c b)) n p → X
+pub known-not-refused : {r c b n p : ℕ} {X : Type 0} → IsCell r c b → FirstRefusal (Wrongs (cellRules r c b)) n p → X
 known-not-refused k u = absurd (⊎-elim (λ l. ⊎-elim (λ x. omega (arith, k .row)) (λ x. omega (arith, k .column)) (l .1 .1)) (⊎-elim (λ l. omega (arith, k .byte, l .1 .1)) (λ z. z)) (u .holds))
 
 pub not-allowed : {r c D : ℕ} {q : ℤ} {P : ℤ} → Against r c q D P → Allows r c q → ⊥

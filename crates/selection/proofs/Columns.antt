@@ -6,7 +6,7 @@ use Rattle.laws.proofs.Tests.{by-cond}
 use Rattle.laws.proofs.Diff.{diff, diffs, by-diff, diff-sub, diff-eq}
 use Rattle.laws.proofs.Words.{same-mod}
 use Rattle.selection.specs.Word.{signed}
-use Rattle.selection.specs.Cell.{InRow, InColumnUnder, InColumn, span, row, column, estimate, leftOut}
+use Rattle.selection.specs.Cell.{InRow, InColumnUnder, InColumn, span, row, column, estimate, truncationError}
 use Rattle.selection.proofs.BiasedPoints.{signed-diff}
 
 -- a divisor in its span lies in its row, which is one of sixteen
@@ -25,17 +25,17 @@ pub column-estimate : (s k : ℕ) → pos (column s k) ≡ estimate s k +ℤ pos
 column-estimate s k = rw (estimate-diff s k) (simp diffs (omega arith))
 
 -- P is t·2^57 + e modulo 2^64, read as signed, for the e that the estimate leaves out of the two words
-pub left-out : (s k : ℕ) → signed (s + k) ≡ signed ((column s k + 64) * 2 ^ 57 + leftOut s k)
-left-out s k =
+pub truncation-error : (s k : ℕ) → signed (s + k) ≡ signed ((column s k + 64) * 2 ^ 57 + truncationError s k)
+truncation-error s k =
     let n = s / 2 ^ 56 + k / 2 ^ 56 in
     let c = column s k in
-    let e = leftOut s k in
+    let e = truncationError s k in
     let m : n + 128 ≡ 256 * ((n + 128) / 256) + 2 * c + n % 2 = omega arith in
     signed-diff (s + k) ∙ ap (λ (n : ℕ). diff n (2 ^ 63)) (same-mod (s + k + 2 ^ 63) ((c + 64) * 2 ^ 57 + e + 2 ^ 63) (2 ^ 64) 1 ((n + 128) / 256) (omega arith)) ∙ sym (signed-diff ((c + 64) * 2 ^ 57 + e))
 
 -- so the partial remainder of two words lies in their column
 pub column-of : (s k : ℕ) → InColumn (column s k) (signed (s + k))
-column-of s k = record { e = leftOut s k; small = omega arith; is = left-out s k }
+column-of s k = record { e = truncationError s k; small = omega arith; is = truncation-error s k }
 
 -- P in a column, in document 01's wording over the integers: P is (c - 64)·2^57 + e but for a multiple of 2^64, and a signed number of 64 bits
 pub record ExactColumn (m c : ℕ) (P : ℤ) : Type 0 where
@@ -88,5 +88,5 @@ column-all c e hc he =
     let u : s % 2 ^ 56 ≡ x % 2 ^ 56 = omega arith in
     let v : k % 2 ^ 56 ≡ k = omega arith in
     let f : column s k ≡ c = ap₂ (λ (m n : ℕ). (m + n + 128) % 256 / 2) a b ∙ turn c (x / 2 ^ 56) hc (omega arith) in
-    let g : leftOut s k ≡ e = omega (arith, a, b, u, v) in
-    (s, k, omega arith, omega arith, f, left-out s k ∙ ap₂ (λ (m n : ℕ). signed ((m + 64) * 2 ^ 57 + n)) f g)
+    let g : truncationError s k ≡ e = omega (arith, a, b, u, v) in
+    (s, k, omega arith, omega arith, f, truncation-error s k ∙ ap₂ (λ (m n : ℕ). signed ((m + 64) * 2 ^ 57 + n)) f g)

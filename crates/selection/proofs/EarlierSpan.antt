@@ -6,16 +6,16 @@ use Rattle.laws.proofs.Diff.{diff}
 use Rattle.laws.proofs.Words.{same-mod}
 use Rattle.selection.specs.Word.{signed}
 use Rattle.selection.specs.Cell.{earlierSpan, PointUnder, digit}
-use Rattle.selection.specs.Table.{tableRungs, Passes, PassesUnder}
+use Rattle.selection.specs.Table.{tableRules, Passes, PassesUnder}
 use Rattle.selection.specs.Allowed.{allowsOf}
 use Rattle.selection.specs.Answer.{refusal, reportNumbers, reportZeros}
 use Rattle.selection.specs.Computed.{madeOf, madeTable, reportOf}
-use Rattle.selection.specs.Refusals.{ladder}
+use Rattle.selection.specs.Refusals.{firstRefusal}
 use Rattle.selection.specs.declared.Admission.the-variants.{Admitted}
-use Rattle.selection.specs.Burned.{earlierColumn, earlierLeftOut, LeavesOut, BurnedTables}
+use Rattle.selection.specs.Burned.{earlierColumn, earlierTruncationError, TruncatesBy, BurnedTables}
 use Rattle.selection.proofs.BiasedPoints.{signed-diff}
 use Rattle.selection.proofs.EarlierKept.{earlier-kept-passes}
-use Rattle.selection.proofs.Reports.{report-passed, passes-admitted, admission-ladder}
+use Rattle.selection.proofs.Reports.{report-passed, passes-admitted, admission-rules}
 
 module _ {m n : ℕ} (h : n ≤ m) where
   -- a smaller greatest e leaves fewer points, and allows what was allowed
@@ -32,8 +32,8 @@ burned-passes p = passes-narrower (omega arith) p
 pub burned-told : {t : List ℕ} → PassesUnder earlierSpan t → reportNumbers (reportOf t) ≡ reportZeros (refusal 0 0)
 burned-told p = report-passed (burned-passes p)
 
-pub burned-admitted : {t : List ℕ} → PassesUnder earlierSpan t → ladder (tableRungs t) ≡ Admitted
-burned-admitted {t} p = sym (admission-ladder t) ∙ passes-admitted (burned-passes p)
+pub burned-admitted : {t : List ℕ} → PassesUnder earlierSpan t → firstRefusal (tableRules t) ≡ Admitted
+burned-admitted {t} p = sym (admission-rules t) ∙ passes-admitted (burned-passes p)
 
 -- the made table holds 0 in row 1, column 68. Under the earlier span e goes up to 2^58 - 2 there, and P to 6·2^57 - 2, which is above 2D/3 at the row's least D
 corner : PointUnder earlierSpan 1 68 (17 * 2 ^ 56) (pos (6 * 2 ^ 57 - 2))
@@ -46,15 +46,15 @@ made-fails-earlier p = p .allowed 196 (lit< tt) _ _ corner .high .le
 
 -- ---- document 01's estimate
 
-earlier-left-out : (s k : ℕ) → signed (s + k) ≡ signed ((earlierColumn s k + 64) * 2 ^ 57 + earlierLeftOut s k)
-earlier-left-out s k =
+earlier-truncation-error : (s k : ℕ) → signed (s + k) ≡ signed ((earlierColumn s k + 64) * 2 ^ 57 + earlierTruncationError s k)
+earlier-truncation-error s k =
     let n = s / 2 ^ 57 + k / 2 ^ 57 in
     let c = earlierColumn s k in
-    let e = earlierLeftOut s k in
+    let e = earlierTruncationError s k in
     let m : n + 64 ≡ 128 * ((n + 64) / 128) + c = omega arith in
     signed-diff (s + k) ∙ ap (λ (n : ℕ). diff n (2 ^ 63)) (same-mod (s + k + 2 ^ 63) ((c + 64) * 2 ^ 57 + e + 2 ^ 63) (2 ^ 64) 1 ((n + 64) / 128) (omega arith)) ∙ sym (signed-diff ((c + 64) * 2 ^ 57 + e))
 
-earlier-occurs : (c e : ℕ) → c ≤ 127 → e ≤ earlierSpan → LeavesOut c e
+earlier-occurs : (c e : ℕ) → c ≤ 127 → e ≤ earlierSpan → TruncatesBy c e
 earlier-occurs c e hc he =
     let x = min e (2 ^ 57 - 1) in
     let t = (c + 64) % 128 in
@@ -62,11 +62,11 @@ earlier-occurs c e hc he =
     let k = e - x in
     let a : s / 2 ^ 57 ≡ t = omega arith in
     let b : k / 2 ^ 57 ≡ 0 = omega arith in
-    record { sum = s; carry = k; words = (omega arith, omega arith); column = ap₂ (λ (m n : ℕ). (m + n + 64) % 128) a b ∙ omega arith; left-out = omega arith }
+    record { sum = s; carry = k; words = (omega arith, omega arith); column = ap₂ (λ (m n : ℕ). (m + n + 64) % 128) a b ∙ omega arith; truncation-error = omega arith }
 
 pub burned-tables : BurnedTables
 burned-tables = record {
-  estimate = earlier-left-out;
+  estimate = earlier-truncation-error;
   at-most = λ s k. omega arith;
   occurs = earlier-occurs;
   passes = λ t. burned-passes;

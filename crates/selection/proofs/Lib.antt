@@ -24,7 +24,7 @@ pub mod EarlierSpan
 pub mod EarlierKept
 pub mod CellCases
 pub mod Verdicts
-pub mod Ladders
+pub mod Rules
 pub mod Orders
 pub mod RepairCells
 pub mod RepairRows

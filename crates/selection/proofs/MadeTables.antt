@@ -2,19 +2,19 @@
 use Rattle.laws.proofs.Basics.{_≡_, refl, sym, ap, subst, _∙_, List, _++_, inl, ℕ, _+_, _/_, _%_, _≤_, _<_, arith, length, drop, lt-ltb, le-ltb}
 use native.Mathlib.Nat.{zero-add}
 use Rattle.laws.proofs.Lists.{list-length, list-at}
-use Rattle.selection.specs.Maker.{Made, MadeTable, Limits, limitsRungs, limitsZeros, makeRungs, Limited, Makes}
+use Rattle.selection.specs.Maker.{Made, MadeTable, Limits, limitsRules, limitsZeros, makeRules, Limited, Makes}
 use Rattle.selection.specs.Answer.{refusal, answerBy}
 use Rattle.selection.specs.Refusals.{Wrongs, RefusedBy}
 use Rattle.selection.specs.declared.Refusal.{Refusal}
 use Rattle.selection.specs.declared.Admission.{Admission}
 use Rattle.selection.specs.declared.maker.RowLimits.{RowLimits}
-use Rattle.selection.proofs.Ladders.{Ladder, not-below, first-is, admits, refuses}
+use Rattle.selection.proofs.Rules.{WellFormed, not-below, first-is, admits, refuses}
 use Rattle.laws.specs.Lists.{filled}
 use Rattle.selection.specs.Computed.{madeAt, limitsOf, rowLimitsOf, madeTable, madeBuffer, makeOf}
 use Rattle.selection.specs.Table.{Passes}
 use Rattle.selection.proofs.Making.{made-right, limits-right}
 use Rattle.selection.proofs.KeptLaws.{made-passes}
-use Rattle.selection.proofs.UniqueMade.{byte-one, made-one, limits-ladder, make-ladder}
+use Rattle.selection.proofs.UniqueMade.{byte-one, made-one, limits-rules, make-rules}
 
 -- the computed table is the made table
 pub made-table-is : MadeTable madeTable
@@ -43,11 +43,11 @@ made-at h m = byte-one m (made-right _ _ (omega arith) (omega arith))
 -- what the maker's code asks: t is what it leaves, and that is the answer
 pub make-answer : (s t : List ℕ) (f : Refusal) → f ≡ makeOf s → t ≡ madeBuffer s → (f ≡ makeOf s) × (t ≡ madeBuffer s) × Makes s t f
 make-answer s t f e g =
-    let c = make-ladder (length s) in (
+    let c = make-rules (length s) in (
       e,
       g,
       record {
-        refuses = subst (RefusedBy (Wrongs (makeRungs (length s)))) (sym e) (refuses c (λ f. f) (λ f. f) (refusal 0 0) refl (λ f. refl) refl .by);
+        refuses = subst (RefusedBy (Wrongs (makeRules (length s)))) (sym e) (refuses c (λ f. f) (λ f. f) (refusal 0 0) refl (λ f. refl) refl .by);
         keeps = λ n p x. g ∙ ap (answerBy (λ f. s) (madeTable ++ drop 2048 s)) (first-is c n p x);
         makes = λ a. (madeTable, made-table-is, g ∙ ap (answerBy (λ f. s) (madeTable ++ drop 2048 s)) (admits c a));
       },
@@ -70,8 +70,8 @@ limits-told r e = (
   }),
 )
   where
-    c : Ladder (limitsRungs r)
-    c = limits-ladder r
+    c : WellFormed (limitsRules r)
+    c = limits-rules r
 
     done : RowLimits
     done = record { refusal = refusal 0 0; limits = limitsOf r }

@@ -1,31 +1,31 @@
 -- What a call makes of its arguments' refusal and the table's.
 use Rattle.laws.proofs.Basics.{_≡_, refl, sym, ap, _∙_, List, _++_, ℕ, arith, T}
 use Rattle.selection.specs.Answer.{firstOf, answerBy}
-use Rattle.selection.specs.Table.{tableRungs, Passes}
+use Rattle.selection.specs.Table.{tableRules, Passes}
 use Rattle.selection.specs.Computed.{madeTable}
-use Rattle.selection.specs.Refusals.{Rung, ladder}
+use Rattle.selection.specs.Refusals.{Rule, firstRefusal}
 use Rattle.selection.specs.declared.Refusal.{Refusal}
 use Rattle.selection.specs.declared.Admission.{Admission}
 use Rattle.selection.specs.declared.Admission.the-variants.{Admitted, Refused}
-use Rattle.selection.proofs.Ladders.{Ladder, ranked, ladder-append, sound-append}
+use Rattle.selection.proofs.Rules.{WellFormed, ranked, rules-append, sound-append}
 use Rattle.selection.proofs.MadeTables.{kept-passes}
-use Rattle.selection.proofs.Reports.{admitted-passes, passes-admitted, admission-ladder, table-ladder}
+use Rattle.selection.proofs.Reports.{admitted-passes, passes-admitted, admission-rules, table-rules}
 
--- the table's rungs after a call's own
-pub lent : (rs : List Rung) (t : List ℕ) → Ladder rs → T (ranked 0 (rs ++ tableRungs t)) → Ladder (rs ++ tableRungs t)
-lent rs t c o = record { sound = sound-append rs (tableRungs t) (c .sound) (table-ladder t .sound); in-order = o }
+-- the table's rules after a call's own
+pub lent : (rs : List Rule) (t : List ℕ) → WellFormed rs → T (ranked 0 (rs ++ tableRules t)) → WellFormed (rs ++ tableRules t)
+lent rs t c o = record { sound = sound-append rs (tableRules t) (c .sound) (table-rules t .sound); in-order = o }
 
 -- no table that passes is refused
-pub passed-last : {t : List ℕ} → Passes t → (rs : List Rung) → ladder (rs ++ tableRungs t) ≡ ladder rs
-passed-last {t} p rs = ladder-append rs (tableRungs t) ∙ ap (firstOf (ladder rs)) (sym (admission-ladder t) ∙ passes-admitted p) ∙ last (ladder rs)
+pub passed-last : {t : List ℕ} → Passes t → (rs : List Rule) → firstRefusal (rs ++ tableRules t) ≡ firstRefusal rs
+passed-last {t} p rs = rules-append rs (tableRules t) ∙ ap (firstOf (firstRefusal rs)) (sym (admission-rules t) ∙ passes-admitted p) ∙ last (firstRefusal rs)
   where
     last : (v : Admission) → firstOf v Admitted ≡ v
     last Admitted = refl
     last (Refused f) = refl
 
 -- of a call that has admitted its arguments, of refusal v, and the table t
-pub admitted-both : (t : List ℕ) {v a : Admission} → a ≡ firstOf v (ladder (tableRungs t)) → a ≡ Admitted → (v ≡ Admitted) × Passes t
-admitted-both t {v} e g = let k = both v (ladder (tableRungs t)) (sym e ∙ g) in (k .0, admitted-passes (admission-ladder t ∙ k .1))
+pub admitted-both : (t : List ℕ) {v a : Admission} → a ≡ firstOf v (firstRefusal (tableRules t)) → a ≡ Admitted → (v ≡ Admitted) × Passes t
+admitted-both t {v} e g = let k = both v (firstRefusal (tableRules t)) (sym e ∙ g) in (k .0, admitted-passes (admission-rules t ∙ k .1))
   where
     both : (v w : Admission) → firstOf v w ≡ Admitted → (v ≡ Admitted) × (w ≡ Admitted)
     both Admitted w e = (refl, e)
@@ -36,8 +36,8 @@ pub answered : {X : Type 0} (zeros : Refusal → X) (done : X) {v u : Admission}
 answered zeros done e h = h ∙ sym (ap (answerBy zeros done) e)
 
 -- the first refusal of a call with a lent table, and of one over the kept table
-pub first-lent : (rs : List Rung) (t : List ℕ) {a w u : Admission} → w ≡ firstOf a (ladder (tableRungs t)) → a ≡ ladder rs → w ≡ u → ladder (rs ++ tableRungs t) ≡ u
-first-lent rs t e f g = ladder-append rs (tableRungs t) ∙ sym (ap (λ (v : Admission). firstOf v (ladder (tableRungs t))) f) ∙ sym e ∙ g
+pub first-lent : (rs : List Rule) (t : List ℕ) {a w u : Admission} → w ≡ firstOf a (firstRefusal (tableRules t)) → a ≡ firstRefusal rs → w ≡ u → firstRefusal (rs ++ tableRules t) ≡ u
+first-lent rs t e f g = rules-append rs (tableRules t) ∙ sym (ap (λ (v : Admission). firstOf v (firstRefusal (tableRules t))) f) ∙ sym e ∙ g
 
-pub first-kept : (rs : List Rung) {a u : Admission} → a ≡ ladder rs → a ≡ u → ladder (rs ++ tableRungs madeTable) ≡ u
+pub first-kept : (rs : List Rule) {a u : Admission} → a ≡ firstRefusal rs → a ≡ u → firstRefusal (rs ++ tableRules madeTable) ≡ u
 first-kept rs e g = passed-last kept-passes rs ∙ sym e ∙ g

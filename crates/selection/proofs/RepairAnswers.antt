@@ -3,16 +3,16 @@ use Rattle.laws.proofs.Basics.{_≡_, refl, sym, ap, ap₂, _∙_, List, [], _�
 use Rattle.laws.specs.Lists.{filled}
 use Rattle.laws.proofs.Lists.{fill-at, fill-kept, kept-one}
 use Rattle.selection.specs.Answer.{refusal, answerBy}
-use Rattle.selection.specs.Refusals.{below, differ, eitherOf, number, Wrongs, ladder, rank}
+use Rattle.selection.specs.Refusals.{below, differ, eitherOf, number, Wrongs, firstRefusal, rank}
 use Rattle.selection.specs.Allowed.{isReplaced}
 use Rattle.selection.specs.Computed.{countBelow, repairedByte, changeMark, repairOf, repairedOf, changedOf}
-use Rattle.selection.specs.Repair.{DifferAt, Repaired, repairRungs, repairZeros, RepairAccepts, Repairs, RepairClaim}
+use Rattle.selection.specs.Repair.{DifferAt, Repaired, repairRules, repairZeros, RepairAccepts, Repairs, RepairClaim}
 use Rattle.selection.specs.declared.Refusal.{Refusal}
 use Rattle.selection.specs.declared.Admission.{Admission}
 use Rattle.selection.specs.declared.Admission.the-variants.{Admitted, Refused}
 use Rattle.selection.specs.declared.repair.RepairAnswer.{RepairAnswer}
 use Rattle.selection.proofs.Counts.{Decides, count-tally}
-use Rattle.selection.proofs.Ladders.{Ladder, Meets, ladder-meets, not-below, equal, clear, admits, first-is, refuses, rung-holds, rung-past}
+use Rattle.selection.proofs.Rules.{WellFormed, Meets, rules-meet, not-below, equal, clear, admits, first-is, refuses, rule-holds, rule-past}
 use Rattle.selection.proofs.Orders.{answered}
 use Rattle.selection.proofs.UniqueReport.{tally-one}
 use Rattle.selection.proofs.RepairCells.{replaced-decides, cell-repaired, changed-replaced, replaced-changed, repaired-one, repaired-claim}
@@ -20,24 +20,24 @@ use Rattle.selection.proofs.RepairCells.{replaced-decides, cell-repaire
 -- ---- refusals
 
 module _ (len r c : ℕ) where
-  pub repair-ladder : Ladder (repairRungs len r c)
-  unfolding repairRungs rank
-  repair-ladder = record { sound = (tt, λ _. (tt, λ _. tt)); in-order = tt }
+  pub repair-rules : WellFormed (repairRules len r c)
+  unfolding repairRules rank
+  repair-rules = record { sound = (tt, λ _. (tt, λ _. tt)); in-order = tt }
 
   -- nothing is refused exactly if all is accepted
-  pub repair-accepts : ladder (repairRungs len r c) ≡ Admitted → RepairAccepts len r c
-  unfolding repairRungs
+  pub repair-accepts : firstRefusal (repairRules len r c) ≡ Admitted → RepairAccepts len r c
+  unfolding repairRules
   repair-accepts e =
-      let k = clear repair-ladder e in
+      let k = clear repair-rules e in
       record {
         repaired-room = not-below (λ h. k 7 0 (inl (refl, (refl, inl h))));
         changed-room = not-below (λ h. k 7 0 (inl (refl, (refl, inr h))));
         size = equal len 2048 (λ n. k 8 0 (inr (inl (refl, (refl, n)))));
       }
 
-  pub repair-admits : RepairAccepts len r c → ladder (repairRungs len r c) ≡ Admitted
-  unfolding repairRungs
-  repair-admits a = admits repair-ladder (λ n p. ⊎-elim (λ x. ⊎-elim (λ h. omega (arith, a .repaired-room)) (λ h. omega (arith, a .changed-room)) (x .1 .1)) (⊎-elim (λ x. x .1 .1 (a .size)) (λ z. z)))
+  pub repair-admits : RepairAccepts len r c → firstRefusal (repairRules len r c) ≡ Admitted
+  unfolding repairRules
+  repair-admits a = admits repair-rules (λ n p. ⊎-elim (λ x. ⊎-elim (λ h. omega (arith, a .repaired-room)) (λ h. omega (arith, a .changed-room)) (x .1 .1)) (⊎-elim (λ x. x .1 .1 (a .size)) (λ z. z)))
 
 -- ---- the call
 
@@ -59,7 +59,7 @@ module _ (t rs cs : List ℕ) where
 
   pub repairs-right : Repairs t rs cs (repairedOf t rs cs) (changedOf t rs cs) (repairOf t rs cs)
   repairs-right =
-      let l = repair-ladder (length t) (length rs) (length cs) in
+      let l = repair-rules (length t) (length rs) (length cs) in
       record {
         refuses = refuses l (λ y. y .refusal) repairZeros (record { refusal = refusal 0 0; count = countBelow (isReplaced t) 2048 }) refl (λ f. refl) refl;
         keeps = λ n p x. let e = first-is l n p x in rw e (refl, refl);
@@ -67,7 +67,7 @@ module _ (t rs cs : List ℕ) where
       }
 
   -- what the code asks: by the first refusal v
-  pub repair-answer : {v : Admission} {a b : List ℕ} {x : RepairAnswer} → ladder (repairRungs (length t) (length rs) (length cs)) ≡ v
+  pub repair-answer : {v : Admission} {a b : List ℕ} {x : RepairAnswer} → firstRefusal (repairRules (length t) (length rs) (length cs)) ≡ v
       → x ≡ answerBy repairZeros (record { refusal = refusal 0 0; count = countBelow (isReplaced t) 2048 }) v
       → a ≡ answerBy (λ f. rs) (filled (repairedByte t) 2048 rs) v
       → b ≡ answerBy (λ f. cs) (filled (changeMark t) 2048 cs) v
@@ -80,15 +80,15 @@ module _ (t rs cs : List ℕ) where
 
 -- the conditions in numbers: where one holds and none before it, the call refuses so
 pub short-refused : (t rs cs : List ℕ) → (length rs < 2048) ⊎ (length cs < 2048) → repairOf t rs cs ≡ repairZeros (refusal 7 0)
-unfolding repairRungs
-short-refused t rs cs h = ap (answerBy repairZeros _) (rung-holds 7 0 (eitherOf (below (length rs) 2048) (below (length cs) 2048)) (number 8 (differ (length t) 2048) ∷ []) h)
+unfolding repairRules
+short-refused t rs cs h = ap (answerBy repairZeros _) (rule-holds 7 0 (eitherOf (below (length rs) 2048) (below (length cs) 2048)) (number 8 (differ (length t) 2048) ∷ []) h)
 
 pub length-refused : (t rs cs : List ℕ) → 2048 ≤ length rs → 2048 ≤ length cs → (length t ≡ 2048 → ⊥) → repairOf t rs cs ≡ repairZeros (refusal 8 0)
-unfolding repairRungs
+unfolding repairRules
 length-refused t rs cs hr hc h =
     ap (answerBy repairZeros _)
-    (rung-past 7 0 (eitherOf (below (length rs) 2048) (below (length cs) 2048)) (number 8 (differ (length t) 2048) ∷ []) (⊎-elim (λ x. omega arith) (λ x. omega arith))
-    ∙ rung-holds 8 0 (differ (length t) 2048) [] h)
+    (rule-past 7 0 (eitherOf (below (length rs) 2048) (below (length cs) 2048)) (number 8 (differ (length t) 2048) ∷ []) (⊎-elim (λ x. omega arith) (λ x. omega arith))
+    ∙ rule-holds 8 0 (differ (length t) 2048) [] h)
 
 -- and where none does, it refuses nothing
 pub repair-told : (t rs cs : List ℕ) → length t ≡ 2048 → 2048 ≤ length rs → 2048 ≤ length cs → repairOf t rs cs .refusal ≡ refusal 0 0
@@ -99,7 +99,7 @@ repair-told t rs cs e hr hc =
 -- a repair that is not refused: it passes, and no passing table is nearer
 pub repair-claim : {t rs cs a b : List ℕ} (x : RepairAnswer) → Repairs t rs cs a b x → x .refusal ≡ refusal 0 0 → RepairClaim t a (x .count)
 repair-claim {t} {rs} {cs} x r e =
-    let a = repair-accepts (length t) (length rs) (length cs) (admits (repair-ladder (length t) (length rs) (length cs)) (r .refuses .by .none .0 e)) in
+    let a = repair-accepts (length t) (length rs) (length cs) (admits (repair-rules (length t) (length rs) (length cs)) (r .refuses .by .none .0 e)) in
     repaired-claim (a .repaired-room) (a .size) (r .repairs a)
 
 -- ---- no other answer fits
@@ -110,12 +110,12 @@ lists-one {t} {rs} {cs} {a} {b} {c} {d} {m} {n} x y =
     (e, kept-one (x .changed-kept) (y .changed-kept) (λ k h. repaired-one t k h (x .cell k h) (y .cell k h) .1), tally-one (rw e at (x .count)) (y .count))
 
 pub repairs-one : {t rs cs a b c d : List ℕ} (f g : RepairAnswer) → Repairs t rs cs a b f → Repairs t rs cs c d g → (a ≡ c) × (b ≡ d) × (f ≡ g)
-repairs-one {t} {rs} {cs} {a} {b} {c} {d} f g x y = go (ladder (repairRungs (length t) (length rs) (length cs))) refl (ladder-meets (repair-ladder (length t) (length rs) (length cs)) _ refl)
+repairs-one {t} {rs} {cs} {a} {b} {c} {d} f g x y = go (firstRefusal (repairRules (length t) (length rs) (length cs))) refl (rules-meet (repair-rules (length t) (length rs) (length cs)) _ refl)
   where
     make : Refusal → ℕ → RepairAnswer
     make r n = record { refusal = r; count = n }
 
-    go : (v : Admission) → ladder (repairRungs (length t) (length rs) (length cs)) ≡ v → Meets (Wrongs (repairRungs (length t) (length rs) (length cs))) v → (a ≡ c) × (b ≡ d) × (f ≡ g)
+    go : (v : Admission) → firstRefusal (repairRules (length t) (length rs) (length cs)) ≡ v → Meets (Wrongs (repairRules (length t) (length rs) (length cs))) v → (a ≡ c) × (b ≡ d) × (f ≡ g)
     go Admitted e m =
         let k = repair-accepts (length t) (length rs) (length cs) e in
         let l = lists-one (x .repairs k) (y .repairs k) in

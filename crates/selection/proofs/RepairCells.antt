@@ -12,7 +12,7 @@ use Rattle.selection.specs.Repair.{ReplacedAt, DifferAt, RepairedAt, Rep
 use Rattle.selection.proofs.BiasedPoints.{not-allowed, allows-unless}
 use Rattle.selection.proofs.Counts.{Decides, decides-yes, decides-no, count-tally}
 use Rattle.selection.proofs.Allowed.{cell-decides}
-use Rattle.selection.proofs.Ladders.{not-below, equal}
+use Rattle.selection.proofs.Rules.{not-below, equal}
 use Rattle.selection.proofs.Making.{made-right}
 use Rattle.selection.proofs.Tables.{table-of}
 use Rattle.selection.proofs.UniqueMade.{byte-one}

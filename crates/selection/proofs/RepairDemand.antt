@@ -8,8 +8,8 @@ use Rattle.laws.proofs.Lists.{list-at, fill-at, fill-length}
 use Rattle.selection.specs.Answer.{refusal, answerBy}
 use Rattle.selection.specs.Allowed.{allowsOf, isReplaced}
 use Rattle.selection.specs.Computed.{countBelow, madeAt, madeTable, repairedByte, changeMark, repairOf}
-use Rattle.selection.specs.Refusals.{ladder}
-use Rattle.selection.specs.Repair.{ReplacedAt, repairRungs, repairZeros}
+use Rattle.selection.specs.Refusals.{firstRefusal}
+use Rattle.selection.specs.Repair.{ReplacedAt, repairRules, repairZeros}
 use Rattle.selection.specs.declared.Admission.{Admission}
 use Rattle.selection.specs.declared.Admission.the-variants.{Admitted}
 use Rattle.selection.specs.declared.repair.RepairAnswer.{RepairAnswer}
@@ -152,7 +152,7 @@ example = record {
     size : length lent ≡ 2048
     size = length-replicate {A = ℕ} 2048 7
 
-    admitted : ladder (repairRungs (length readBack) (length lent) (length lent)) ≡ Admitted
+    admitted : firstRefusal (repairRules (length readBack) (length lent) (length lent)) ≡ Admitted
     admitted = repair-admits _ _ _ (record { repaired-room = omega (arith, size); changed-room = omega (arith, size); size = simp length-set made-size })
 
     answer : Admission → RepairAnswer

@@ -2,9 +2,9 @@
 use Rattle.laws.proofs.Basics.{_≡_, refl, sym, subst, ap, ap₂, _∙_, List, [], _∷_, _⊎_, inl, inr, ⊎-elim, ℕ, _+_, _*_, _/_, _%_, _≤_, _<_, arith, ltb, ltb→lt, nltb→le, lt-ltb, length, getD}
 use native.Mathlib.Nat.{not-le-of-lt}
 use Rattle.laws.proofs.Tests.{by-cond}
-use Rattle.selection.specs.Refusals.{First, Wrongs, firstFrom, numberFirst, ladder, rank}
+use Rattle.selection.specs.Refusals.{First, Wrongs, firstFrom, numberFirst, firstRefusal, rank}
 use Rattle.selection.specs.Cell.{Allows, CellChecked, digit}
-use Rattle.selection.specs.Table.{Table, BadAt, Passes, formRungs, Checked, ReportMeaning, tableRungs}
+use Rattle.selection.specs.Table.{Table, BadAt, Passes, formRules, Checked, ReportMeaning, tableRules}
 use Rattle.selection.specs.Allowed.{aboveFour, isBad}
 use Rattle.selection.specs.Computed.{cellOf, countBelow, badReport, reportAt, passedReport, refusedReport, tableReport, reportOf}
 use Rattle.selection.specs.Answer.{refusal, outcomeNumbers, reportNumbers, reportZeros, admission, admissionOf, firstOf, answerBy}
@@ -20,7 +20,7 @@ use Rattle.selection.proofs.BiasedPoints.{not-allowed, known-not-refuse
 use Rattle.selection.proofs.Counts.{less-decides, count-tally, first-below}
 use Rattle.selection.proofs.Allowed.{bad-decides}
 use Rattle.selection.proofs.Tables.{table-of, no-table, cell-at, cell-row, cell-column, first-bad-of}
-use Rattle.selection.proofs.Ladders.{Ladder, Meets, ladder-meets, first-is, admits, ladder-append, equal}
+use Rattle.selection.proofs.Rules.{WellFormed, Meets, rules-meet, first-is, admits, rules-append, equal}
 
 module _ (t : List ℕ) where
   above-first : let f = firstFrom (aboveFour t) 0 2048 in ((f ≡ 2048) × ((k : ℕ) → k < 2048 → 4 < getD t k 0 → ⊥)) ⊎ ((f < 2048) × First (λ k. 4 < getD t k 0) f)
@@ -49,12 +49,12 @@ module _ (t : List ℕ) where
       go k h f (Disallowed w) j = record { means = (a, count-tally (isBad t) 2048 (bad-decides a), first-bad-of h f (j .means .1)) }
       go k h f (Refused r) j = known-not-refused (cell-at a k h) (j .means)
 
-pub form-ladder : (t : List ℕ) → Ladder (formRungs t)
+pub form-rules : (t : List ℕ) → WellFormed (formRules t)
 unfolding rank
-form-ladder t = record { sound = (tt, λ _. ((λ k h. less-decides 4 (getD t k 0)), λ _. tt)); in-order = tt }
+form-rules t = record { sound = (tt, λ _. ((λ k h. less-decides 4 (getD t k 0)), λ _. tt)); in-order = tt }
 
--- what no rung of the form refuses is a table
-form-table : (t : List ℕ) → ((n p : ℕ) → Wrongs (formRungs t) n p → ⊥) → Table t
+-- what no rule of the form refuses is a table
+form-table : (t : List ℕ) → ((n p : ℕ) → Wrongs (formRules t) n p → ⊥) → Table t
 form-table t a = table-of t (equal (length t) 2048 (λ n. a 8 0 (inl (refl, (refl, n))))) (⊎-elim (λ l. l .1) (λ r. absurd (a 9 _ (inr (inl (refl, r))))) (above-first t))
 
 -- the report of a first bad cell, by its row and its column
@@ -72,9 +72,9 @@ module _ (t : List ℕ) where
 -- the computed report is the check's answer
 pub report-checked : (t : List ℕ) → Checked t (reportOf t)
 unfolding reportOf
-report-checked t = go (ladder (formRungs t)) (ladder-meets (form-ladder t) _ refl)
+report-checked t = go (firstRefusal (formRules t)) (rules-meet (form-rules t) _ refl)
   where
-    go : (v : Admission) → Meets (Wrongs (formRungs t)) v → Checked t (answerBy refusedReport (tableReport t) v)
+    go : (v : Admission) → Meets (Wrongs (formRules t)) v → Checked t (answerBy refusedReport (tableReport t) v)
     go (A.Refused f) m = record { means = (m, refl) }
     go A.Admitted m =
         let a = form-table t m in
@@ -109,25 +109,25 @@ admitted-passes {t} e = go (reportOf t .outcome) (report-checked t .means) e
     go (O.Bad b) w e = absurd (let z : _≡_ {A = ℕ} 0 1 = cc in omega arith)
     go (O.Refused f) w e = absurd (let z : _≡_ {A = ℕ} 0 1 = cc in omega arith)
 
--- what the check's answer admits is what the rungs of a table give
-pub table-ladder : (t : List ℕ) → Ladder (tableRungs t)
-unfolding tableRungs rank
-table-ladder t = record {
+-- what the check's answer admits is what the rules of a table give
+pub table-rules : (t : List ℕ) → WellFormed (tableRules t)
+unfolding tableRules rank
+table-rules t = record {
   sound = (tt, λ a. ((λ k h. less-decides 4 (getD t k 0)), λ b. (bad-decides (form-table t (λ n p. ⊎-elim (λ x. a p (x .1)) (⊎-elim (λ x. b p (x .1)) (λ z. z)))), λ _. tt)));
   in-order = tt;
 }
 
-pub admission-ladder : (t : List ℕ) → admission (reportOf t) ≡ ladder (tableRungs t)
-unfolding tableRungs
-admission-ladder t = go (reportOf t .outcome) (report-checked t .means)
+pub admission-rules : (t : List ℕ) → admission (reportOf t) ≡ firstRefusal (tableRules t)
+unfolding tableRules
+admission-rules t = go (reportOf t .outcome) (report-checked t .means)
   where
-    go : (o : Outcome) → ReportMeaning t (reportOf t .count) o → admissionOf o ≡ ladder (tableRungs t)
-    go O.Passed w = sym (admits (table-ladder t) (λ n p. ⊎-elim (λ x. x .1 .1 (w .0 .table .size)) (⊎-elim (λ x. not-le-of-lt (x .1 .1 .here) (w .0 .table .digits p)) (⊎-elim (λ x. not-allowed (x .1 .1 .here .against) (w .0 .allowed p (x .1 .0))) (λ z. z)))))
-    go (O.Bad b) w = sym (first-is (table-ladder t) _ _ (record {
+    go : (o : Outcome) → ReportMeaning t (reportOf t .count) o → admissionOf o ≡ firstRefusal (tableRules t)
+    go O.Passed w = sym (admits (table-rules t) (λ n p. ⊎-elim (λ x. x .1 .1 (w .0 .table .size)) (⊎-elim (λ x. not-le-of-lt (x .1 .1 .here) (w .0 .table .digits p)) (⊎-elim (λ x. not-allowed (x .1 .1 .here .against) (w .0 .allowed p (x .1 .0))) (λ z. z)))))
+    go (O.Bad b) w = sym (first-is (table-rules t) _ _ (record {
       holds = inr (inr (inl (refl, (omega (arith, w .2 .row, w .2 .column), w .2 .first))));
       before = λ m q l. ⊎-elim (λ x. x .1 .1 (w .0 .size)) (⊎-elim (λ x. not-le-of-lt (x .1 .1 .here) (w .0 .digits q)) (⊎-elim (λ x. omega (arith, ap rank (x .0))) (λ z. z)));
     }))
-    go (O.Refused f) w = sym (ladder-append (formRungs t) (numberFirst 10 (BadAt t) (isBad t) 2048 ∷ []) ∙ ap (λ (v : Admission). firstOf v (ladder (numberFirst 10 (BadAt t) (isBad t) 2048 ∷ []))) (first-is (form-ladder t) _ _ (w .0)))
+    go (O.Refused f) w = sym (rules-append (formRules t) (numberFirst 10 (BadAt t) (isBad t) 2048 ∷ []) ∙ ap (λ (v : Admission). firstOf v (firstRefusal (numberFirst 10 (BadAt t) (isBad t) 2048 ∷ []))) (first-is (form-rules t) _ _ (w .0)))
 
 -- the digit of a table that passes, at a row and a column
 pub passes-at : {t : List ℕ} → Passes t → (r c : ℕ) → r ≤ 15 → c ≤ 127 → Allows r c (digit (getD t (128 * r + c) 0))

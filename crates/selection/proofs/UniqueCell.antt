@@ -6,8 +6,8 @@ use Rattle.selection.specs.Cell.{LeastWitness, CellChecked}
 use Rattle.selection.specs.declared.Witness.{Witness}
 use Rattle.selection.specs.declared.CellVerdict.{CellVerdict}
 use Rattle.selection.specs.declared.CellVerdict.the-variants as C
-use Rattle.selection.proofs.BiasedPoints.{of-point, cell-ladder, known-not-refused, not-allowed}
-use Rattle.selection.proofs.Ladders.{refusal-one}
+use Rattle.selection.proofs.BiasedPoints.{of-point, cell-rules, known-not-refused, not-allowed}
+use Rattle.selection.proofs.Rules.{refusal-one}
 
 module _ {r c : ℕ} {q : ℤ} (hr : r ≤ 15) (hc : c ≤ 127) where
   one-divisor : {D D' : ℕ} {P P' : ℤ} → LeastWitness r c q D P → LeastWitness r c q D' P' → D ≡ D'
@@ -39,4 +39,4 @@ cell-checked-one (C.Disallowed v) (C.Disallowed w) j k = ap C.Disallowed (one-wi
 cell-checked-one (C.Disallowed v) (C.Refused f) j k = known-not-refused (j .means .0) (k .means)
 cell-checked-one (C.Refused f) C.Allowed j k = known-not-refused (k .means .0) (j .means)
 cell-checked-one (C.Refused f) (C.Disallowed w) j k = known-not-refused (k .means .0) (j .means)
-cell-checked-one {r} {c} {b} (C.Refused f) (C.Refused g) j k = ap C.Refused (refusal-one (cell-ladder r c b) f g (j .means) (k .means))
+cell-checked-one {r} {c} {b} (C.Refused f) (C.Refused g) j k = ap C.Refused (refusal-one (cell-rules r c b) f g (j .means) (k .means))

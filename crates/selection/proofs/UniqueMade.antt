@@ -4,11 +4,11 @@ use native.Mathlib.Nat.{le-antisymm, lt-of-not-le, le-of-lt, le-of-suc-le-suc, e
 use native.Mathlib.Decide.{decLe}
 use lib.Seq.{ext-getD}
 use Rattle.laws.proofs.Tests.{upto-at, up-to-four}
-use Rattle.selection.specs.Maker.{Made, MadeTable, stepAt, Limits, limitsRungs, makeRungs, Limited, Makes}
-use Rattle.selection.specs.Refusals.{Wrongs, ladder, rank}
+use Rattle.selection.specs.Maker.{Made, MadeTable, stepAt, Limits, limitsRules, makeRules, Limited, Makes}
+use Rattle.selection.specs.Refusals.{Wrongs, firstRefusal, rank}
 use Rattle.selection.specs.declared.Admission.{Admission}
 use Rattle.selection.specs.declared.Admission.the-variants.{Admitted, Refused}
-use Rattle.selection.proofs.Ladders.{Ladder, Meets, ladder-meets, refused-is}
+use Rattle.selection.proofs.Rules.{WellFormed, Meets, rules-meet, refused-is}
 use Rattle.selection.specs.declared.Refusal.{Refusal}
 use Rattle.selection.specs.declared.maker.RowLimits.{RowLimits}
 
@@ -95,29 +95,29 @@ limits-one {r} {l} {m} h k = ext-getD 0 l m (h .six ∙ sym (k .six)) (λ i g. s
           | no n ↦ absurd (not-before k h i (omega arith) (sym e) (lt-of-not-le n))
         ]
 
-pub limits-ladder : (r : ℕ) → Ladder (limitsRungs r)
+pub limits-rules : (r : ℕ) → WellFormed (limitsRules r)
 unfolding rank
-limits-ladder r = record { sound = (tt, λ _. tt); in-order = tt }
+limits-rules r = record { sound = (tt, λ _. tt); in-order = tt }
 
 pub limited-one : {r : ℕ} (a b : RowLimits) → Limited r a → Limited r b → a ≡ b
-limited-one {r} a b x y = go (ladder (limitsRungs r)) (ladder-meets (limits-ladder r) _ refl)
+limited-one {r} a b x y = go (firstRefusal (limitsRules r)) (rules-meet (limits-rules r) _ refl)
   where
     mk : Refusal → List ℕ → RowLimits
     mk f l = record { refusal = f; limits = l }
 
-    go : (v : Admission) → Meets (Wrongs (limitsRungs r)) v → a ≡ b
+    go : (v : Admission) → Meets (Wrongs (limitsRules r)) v → a ≡ b
     go Admitted m = ap₂ mk (x .refuses .by .none .1 m ∙ sym (y .refuses .by .none .1 m)) (limits-one (x .limits m) (y .limits m))
     go (Refused f) m = x .refuses .besides _ _ m ∙ sym (y .refuses .besides _ _ m)
 
 -- ---- the maker
 
-pub make-ladder : (len : ℕ) → Ladder (makeRungs len)
+pub make-rules : (len : ℕ) → WellFormed (makeRules len)
 unfolding rank
-make-ladder len = record { sound = (tt, λ _. tt); in-order = tt }
+make-rules len = record { sound = (tt, λ _. tt); in-order = tt }
 
 pub makes-one : {s t u : List ℕ} (f g : Refusal) → Makes s t f → Makes s u g → (t ≡ u) × (f ≡ g)
-makes-one {s} {t} {u} f g x y = (go (ladder (makeRungs (length s))) (ladder-meets (make-ladder (length s)) _ refl), refused-is (make-ladder (length s)) f (x .refuses) ∙ sym (refused-is (make-ladder (length s)) g (y .refuses)))
+makes-one {s} {t} {u} f g x y = (go (firstRefusal (makeRules (length s))) (rules-meet (make-rules (length s)) _ refl), refused-is (make-rules (length s)) f (x .refuses) ∙ sym (refused-is (make-rules (length s)) g (y .refuses)))
   where
-    go : (v : Admission) → Meets (Wrongs (makeRungs (length s))) v → t ≡ u
+    go : (v : Admission) → Meets (Wrongs (makeRules (length s))) v → t ≡ u
     go Admitted m = let k = x .makes m in let l = y .makes m in k .2 ∙ ap (λ (m : List ℕ). m ++ drop 2048 s) (made-one (k .1) (l .1)) ∙ sym (l .2)
     go (Refused f) m = x .keeps _ _ m ∙ sym (y .keeps _ _ m)

@@ -8,9 +8,9 @@ use Rattle.selection.specs.declared.table.Outcome.the-variants.{Passed, 
 use Rattle.selection.specs.declared.table.Report.{Report}
 use Rattle.selection.specs.declared.table.BadCell.{BadCell}
 use Rattle.selection.specs.declared.Witness.{Witness}
-use Rattle.selection.proofs.Ladders.{first-one, refusal-one}
+use Rattle.selection.proofs.Rules.{first-one, refusal-one}
 use Rattle.selection.proofs.Tables.{no-table}
-use Rattle.selection.proofs.Reports.{form-ladder}
+use Rattle.selection.proofs.Reports.{form-rules}
 use Rattle.selection.proofs.UniqueCell.{one-witness}
 
 pub tally-one : {P : ℕ → Type 0} {m i j : ℕ} → Tally P m i → Tally P m j → i ≡ j
@@ -60,7 +60,7 @@ means-one t m n (Bad a) (Bad b) h k = (tally-one (h .1) (k .1), ap Bad (bad-one 
 means-one t m n (Bad b) (Refused f) h k = no-table (h .0) (k .0)
 means-one t m n (Refused f) Passed h k = no-table (k .0 .table) (h .0)
 means-one t m n (Refused f) (Bad b) h k = no-table (k .0) (h .0)
-means-one t m n (Refused f) (Refused g) h k = (h .1 ∙ sym (k .1), ap Refused (refusal-one (form-ladder t) f g (h .0) (k .0)))
+means-one t m n (Refused f) (Refused g) h k = (h .1 ∙ sym (k .1), ap Refused (refusal-one (form-rules t) f g (h .0) (k .0)))
 
 -- no two answers to one table
 pub checked-one : {t : List ℕ} (a b : Report) → Checked t a → Checked t b → a ≡ b

@@ -1,8 +1,8 @@
 -- What the answers to a table and to a cell tell a caller, by their cases.
 use Rattle.laws.proofs.Basics.{_≡_, refl, sym, subst, List, [], _∷_, ℕ, _≤_, ap, _∙_, _⊎_, ⊎-elim, _<_, _+_, _*_, arith}
 use Rattle.selection.specs.Answer.{refusal, answerBy, cellNumbers, cellZeros}
-use Rattle.selection.specs.Refusals.{Wrongs, ladder, Refuses, below, eitherOf, numberAt}
-use Rattle.selection.specs.Cell.{cellRungs, CellChecked, CellMeaning}
+use Rattle.selection.specs.Refusals.{Wrongs, firstRefusal, Refuses, below, eitherOf, numberAt}
+use Rattle.selection.specs.Cell.{cellRules, CellChecked, CellMeaning}
 use Rattle.selection.specs.Multiples.{Finding, multiplesOf, testOf, cellVerdictOf}
 use Rattle.selection.specs.Multiples.Finding.{NoWitness, LeastAt}
 use Rattle.selection.specs.Computed.{cellOf}
@@ -16,8 +16,8 @@ use Rattle.selection.specs.declared.table.BadCell.{BadCell}
 use Rattle.selection.specs.declared.table.Outcome.{Outcome}
 use Rattle.selection.specs.declared.table.Outcome.the-variants as O
 use Rattle.selection.specs.declared.table.Report.{Report}
-use Rattle.selection.proofs.BiasedPoints.{cell-ladder, known-not-refused}
-use Rattle.selection.proofs.Ladders.{refuses, rung-holds, rung-past}
+use Rattle.selection.proofs.BiasedPoints.{cell-rules, known-not-refused}
+use Rattle.selection.proofs.Rules.{refuses, rule-holds, rule-past}
 
 -- the check's answer, by its case
 outcome-says : {t : List ℕ} {a : Report} {o : Outcome} → Checked t a → a .outcome ≡ o → ReportMeaning t (a .count) o
@@ -37,11 +37,11 @@ verdict-says {r} {c} {b} j e = subst (CellMeaning r c b) e (j .means)
 pub never-refused : {r c b : ℕ} {v : CellVerdict} {f : Refusal} {X : Type 0} → r ≤ 15 → c ≤ 127 → b ≤ 4 → CellChecked r c b v → v ≡ C.Refused f → X
 never-refused hr hc hb j e = known-not-refused (record { row = hr; column = hc; byte = hb }) (verdict-says j e)
 
--- a single cell refuses by its rungs, with zeros besides
+-- a single cell refuses by its rules, with zeros besides
 module _ (r c b : ℕ) where
-  pub cell-refuses : Refuses (Wrongs (cellRungs r c b)) (λ x. x .refusal) cellZeros (cellNumbers (cellOf r c b))
-  cell-refuses = subst (Refuses (Wrongs (cellRungs r c b)) (λ x. x .refusal) cellZeros) (sym (numbers (ladder (cellRungs r c b))))
-      (refuses (cell-ladder r c b) (λ x. x .refusal) cellZeros (cellNumbers (cellVerdictOf (testOf (multiplesOf r) c b))) (none (testOf (multiplesOf r) c b)) (λ f. refl) refl)
+  pub cell-refuses : Refuses (Wrongs (cellRules r c b)) (λ x. x .refusal) cellZeros (cellNumbers (cellOf r c b))
+  cell-refuses = subst (Refuses (Wrongs (cellRules r c b)) (λ x. x .refusal) cellZeros) (sym (numbers (firstRefusal (cellRules r c b))))
+      (refuses (cell-rules r c b) (λ x. x .refusal) cellZeros (cellNumbers (cellVerdictOf (testOf (multiplesOf r) c b))) (none (testOf (multiplesOf r) c b)) (λ f. refl) refl)
     where
       numbers : (v : Admission) → cellNumbers (answerBy C.Refused (cellVerdictOf (testOf (multiplesOf r) c b)) v) ≡ answerBy cellZeros (cellNumbers (cellVerdictOf (testOf (multiplesOf r) c b))) v
       numbers A.Admitted = refl
@@ -53,9 +53,9 @@ module _ (r c b : ℕ) where
 
   -- and these are its two refusals in numbers
   pub cell-row-column : (15 < r) ⊎ (127 < c) → cellNumbers (cellOf r c b) ≡ cellZeros (refusal 1 0)
-  cell-row-column h = ap (λ (v : Admission). cellNumbers (answerBy C.Refused (cellVerdictOf (testOf (multiplesOf r) c b)) v)) (rung-holds 1 0 (eitherOf (below 15 r) (below 127 c)) (numberAt 9 (128 * r + c) (below 4 b) ∷ []) h)
+  cell-row-column h = ap (λ (v : Admission). cellNumbers (answerBy C.Refused (cellVerdictOf (testOf (multiplesOf r) c b)) v)) (rule-holds 1 0 (eitherOf (below 15 r) (below 127 c)) (numberAt 9 (128 * r + c) (below 4 b) ∷ []) h)
 
   pub cell-byte : r ≤ 15 → c ≤ 127 → 4 < b → cellNumbers (cellOf r c b) ≡ cellZeros (refusal 9 (128 * r + c))
   cell-byte hr hc h =
       ap (λ (v : Admission). cellNumbers (answerBy C.Refused (cellVerdictOf (testOf (multiplesOf r) c b)) v))
-      (rung-past 1 0 (eitherOf (below 15 r) (below 127 c)) (numberAt 9 (128 * r + c) (below 4 b) ∷ []) (⊎-elim (λ x. omega arith) (λ x. omega arith)) ∙ rung-holds 9 (128 * r + c) (below 4 b) [] h)
+      (rule-past 1 0 (eitherOf (below 15 r) (below 127 c)) (numberAt 9 (128 * r + c) (below 4 b) ∷ []) (⊎-elim (λ x. omega arith) (λ x. omega arith)) ∙ rule-holds 9 (128 * r + c) (below 4 b) [] h)

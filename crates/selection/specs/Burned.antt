@@ -5,9 +5,9 @@ use Prim.Native.Nat.{ℕ, _+_, _*_, _/_, _%_, _^_, _≤_, _<_}
 use lib.IntN.{pos}
 use Rattle.selection.specs.Word.{signed}
 use Rattle.selection.specs.Cell.{earlierSpan}
-use Rattle.selection.specs.Table.{tableRungs, Passes, PassesUnder}
+use Rattle.selection.specs.Table.{tableRules, Passes, PassesUnder}
 use Rattle.selection.specs.Answer.{refusal, reportNumbers}
-use Rattle.selection.specs.Refusals.{ladder}
+use Rattle.selection.specs.Refusals.{firstRefusal}
 use Rattle.selection.specs.Computed.{madeTable, reportOf}
 use Rattle.selection.specs.EarlierKept.{earlierKept}
 use Rattle.selection.specs.declared.Admission.the-variants.{Admitted}
@@ -16,26 +16,26 @@ use Rattle.selection.specs.declared.Admission.the-variants.{Admitted}
 abbrev pub earlierColumn : ℕ → ℕ → ℕ
 earlierColumn s k = (s / 2 ^ 57 + k / 2 ^ 57 + 64) % 128
 
-abbrev pub earlierLeftOut : ℕ → ℕ → ℕ
-earlierLeftOut s k = s % 2 ^ 57 + k % 2 ^ 57
+abbrev pub earlierTruncationError : ℕ → ℕ → ℕ
+earlierTruncationError s k = s % 2 ^ 57 + k % 2 ^ 57
 
 -- two words of the column c, of which e is left out
-pub record LeavesOut (c e : ℕ) : Type 0 where
+pub record TruncatesBy (c e : ℕ) : Type 0 where
   pub sum : ℕ
   pub carry : ℕ
   pub words : (sum < 2 ^ 64) × (carry < 2 ^ 64)
   pub column : earlierColumn sum carry ≡ c
-  pub left-out : earlierLeftOut sum carry ≡ e
+  pub truncation-error : earlierTruncationError sum carry ≡ e
 
 pub record BurnedTables : Type 0 where
   -- P is t·2^57 + e, read as signed, and e goes from 0 to `earlierSpan`: no farther, and every such e occurs in every column
-  pub estimate : (s k : ℕ) → signed (s + k) ≡ signed ((earlierColumn s k + 64) * 2 ^ 57 + earlierLeftOut s k)
-  pub at-most : (s k : ℕ) → earlierLeftOut s k ≤ earlierSpan
-  pub occurs : (c e : ℕ) → c ≤ 127 → e ≤ earlierSpan → LeavesOut c e
+  pub estimate : (s k : ℕ) → signed (s + k) ≡ signed ((earlierColumn s k + 64) * 2 ^ 57 + earlierTruncationError s k)
+  pub at-most : (s k : ℕ) → earlierTruncationError s k ≤ earlierSpan
+  pub occurs : (c e : ℕ) → c ≤ 127 → e ≤ earlierSpan → TruncatesBy c e
   -- every table that passed under that span passes: the check refuses nothing of it, and no other call turns it away
   pub passes : (t : List ℕ) → PassesUnder earlierSpan t → Passes t
   pub told : (t : List ℕ) → PassesUnder earlierSpan t → reportNumbers (reportOf t) ≡ record { refusal = refusal 0 0; count = 0; row = 0; column = 0; divisor = 0; remainder = pos 0 }
-  pub admitted : (t : List ℕ) → PassesUnder earlierSpan t → ladder (tableRungs t) ≡ Admitted
+  pub admitted : (t : List ℕ) → PassesUnder earlierSpan t → firstRefusal (tableRules t) ≡ Admitted
   -- the table that was kept passed so; the one that is kept now does not
   pub kept-before : PassesUnder earlierSpan earlierKept
   pub not-kept-now : PassesUnder earlierSpan madeTable → ⊥

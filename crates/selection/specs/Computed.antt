@@ -9,12 +9,12 @@ use lib.Dec.{ltb}
 use lib.ListN.{length, getD, drop}
 use Rattle.laws.specs.Lists.{listFrom, filled}
 use Rattle.selection.specs.Answer.{refusal, answerBy}
-use Rattle.selection.specs.Cell.{cellRungs}
+use Rattle.selection.specs.Cell.{cellRules}
 use Rattle.selection.specs.Allowed.{allowsOf, isBad, isReplaced}
-use Rattle.selection.specs.Table.{formRungs}
-use Rattle.selection.specs.Maker.{limitsRungs, limitsZeros, makeRungs}
-use Rattle.selection.specs.Repair.{repairRungs, repairZeros}
-use Rattle.selection.specs.Refusals.{firstFrom, ladder}
+use Rattle.selection.specs.Table.{formRules}
+use Rattle.selection.specs.Maker.{limitsRules, limitsZeros, makeRules}
+use Rattle.selection.specs.Repair.{repairRules, repairZeros}
+use Rattle.selection.specs.Refusals.{firstFrom, firstRefusal}
 use Rattle.selection.specs.Multiples.{multiplesOf, testOf, cellVerdictOf}
 use Rattle.selection.specs.declared.Refusal.{Refusal}
 use Rattle.selection.specs.declared.CellVerdict.{CellVerdict}
@@ -26,7 +26,7 @@ use Rattle.selection.specs.declared.multiples.RowMultiples.{RowMultiples
 use Rattle.selection.specs.declared.repair.RepairAnswer.{RepairAnswer}
 
 abbrev pub cellOf : ℕ → ℕ → ℕ → CellVerdict
-cellOf r c b = answerBy Refused (cellVerdictOf (testOf (multiplesOf r) c b)) (ladder (cellRungs r c b))
+cellOf r c b = answerBy Refused (cellVerdictOf (testOf (multiplesOf r) c b)) (firstRefusal (cellRules r c b))
 
 -- the first allowed of 0, -1, 1, -2 and 2, as a byte
 unfoldable pub madeOf : ℕ → ℕ → ℕ
@@ -44,10 +44,10 @@ madeTable = listFrom madeAt 0 2048
 
 -- what the maker leaves in a buffer that held s, and answers
 abbrev pub madeBuffer : List ℕ → List ℕ
-madeBuffer s = answerBy (λ f. s) (madeTable ++ drop 2048 s) (ladder (makeRungs (length s)))
+madeBuffer s = answerBy (λ f. s) (madeTable ++ drop 2048 s) (firstRefusal (makeRules (length s)))
 
 abbrev pub makeOf : List ℕ → Refusal
-makeOf s = answerBy (λ f. f) (refusal 0 0) (ladder (makeRungs (length s)))
+makeOf s = answerBy (λ f. f) (refusal 0 0) (firstRefusal (makeRules (length s)))
 
 -- the columns at which the made digits of a row change: -2 begins past the last column without a point, -1 and 0 past the last in which they are too low, 1 and 2 past
 -- the last in which 0 and 1 are not too high, and 0 again past the last column with a point
@@ -58,7 +58,7 @@ unfoldable pub limitsOf : ℕ → List ℕ
 limitsOf r = limitsBy (multiplesOf r)
 
 abbrev pub rowLimitsOf : ℕ → RowLimits
-rowLimitsOf r = answerBy limitsZeros (record { refusal = refusal 0 0; limits = limitsOf r }) (ladder (limitsRungs r))
+rowLimitsOf r = answerBy limitsZeros (record { refusal = refusal 0 0; limits = limitsOf r }) (firstRefusal (limitsRules r))
 
 -- how many numbers below m pass the test f
 unfoldable pub countBelow : (ℕ → Bool) → ℕ → ℕ
@@ -89,7 +89,7 @@ tableReport t =
 
 -- the check's answer
 unfoldable pub reportOf : List ℕ → Report
-reportOf t = answerBy refusedReport (tableReport t) (ladder (formRungs t))
+reportOf t = answerBy refusedReport (tableReport t) (firstRefusal (formRules t))
 
 -- the repair of cell k: the made digit for a byte that is above 4 or in a bad cell, and any other byte as it is; and the mark of a changed cell
 unfoldable pub repairedByte : List ℕ → ℕ → ℕ
@@ -104,10 +104,10 @@ FillsRow f r a b = (o : List ℕ) → a ≡ filled f (128 * r) o → b ≡ fille
 
 -- the answer to the table t, and what is left in the two buffers that held rs and cs
 abbrev pub repairOf : List ℕ → List ℕ → List ℕ → RepairAnswer
-repairOf t rs cs = answerBy repairZeros (record { refusal = refusal 0 0; count = countBelow (isReplaced t) 2048 }) (ladder (repairRungs (length t) (length rs) (length cs)))
+repairOf t rs cs = answerBy repairZeros (record { refusal = refusal 0 0; count = countBelow (isReplaced t) 2048 }) (firstRefusal (repairRules (length t) (length rs) (length cs)))
 
 abbrev pub repairedOf : List ℕ → List ℕ → List ℕ → List ℕ
-repairedOf t rs cs = answerBy (λ f. rs) (filled (repairedByte t) 2048 rs) (ladder (repairRungs (length t) (length rs) (length cs)))
+repairedOf t rs cs = answerBy (λ f. rs) (filled (repairedByte t) 2048 rs) (firstRefusal (repairRules (length t) (length rs) (length cs)))
 
 abbrev pub changedOf : List ℕ → List ℕ → List ℕ → List ℕ
-changedOf t rs cs = answerBy (λ f. cs) (filled (changeMark t) 2048 cs) (ladder (repairRungs (length t) (length rs) (length cs)))
+changedOf t rs cs = answerBy (λ f. cs) (filled (changeMark t) 2048 cs) (firstRefusal (repairRules (length t) (length rs) (length cs)))

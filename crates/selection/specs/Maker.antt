@@ -7,7 +7,7 @@ use Prim.Native.Nat.{ℕ, _+_, _-_, _/_, _%_, _≤_, _<_}
 use lib.Dec.{ltb}
 use lib.ListN.{length, getD, drop}
 use Rattle.selection.specs.Cell.{Allows, digit}
-use Rattle.selection.specs.Refusals.{Rung, below, number, Wrongs, FirstRefusal, RefusedBy, Refuses}
+use Rattle.selection.specs.Refusals.{Rule, below, number, Wrongs, FirstRefusal, RefusedBy, Refuses}
 use Rattle.selection.specs.declared.Refusal.{Refusal}
 use Rattle.selection.specs.declared.maker.RowLimits.{RowLimits}
 
@@ -39,19 +39,19 @@ pub record Limits (r : ℕ) (l : List ℕ) : Type 0 where
   pub steps : (c : ℕ) → c ≤ 127 → Made r c (stepAt l c)
 
 -- what the call for a row's limits refuses, which takes no column; and the maker, which writes 2,048 bytes from the buffer's start
-abbrev pub limitsRungs : ℕ → List Rung
-limitsRungs r = number 1 (below 15 r) ∷ []
+abbrev pub limitsRules : ℕ → List Rule
+limitsRules r = number 1 (below 15 r) ∷ []
 
-abbrev pub makeRungs : ℕ → List Rung
-makeRungs len = number 7 (below len 2048) ∷ []
+abbrev pub makeRules : ℕ → List Rule
+makeRules len = number 7 (below len 2048) ∷ []
 
 abbrev pub limitsZeros : Refusal → RowLimits
 limitsZeros f = record { refusal = f; limits = 0 ∷ 0 ∷ 0 ∷ 0 ∷ 0 ∷ 0 ∷ [] }
 
 -- a is the answer to the row r: its limits where nothing is refused
 pub record Limited (r : ℕ) (a : RowLimits) : Type 0 where
-  pub refuses : Refuses (Wrongs (limitsRungs r)) (λ x. x .refusal) limitsZeros a
-  pub limits : ((n p : ℕ) → Wrongs (limitsRungs r) n p → ⊥) → Limits r (a .limits)
+  pub refuses : Refuses (Wrongs (limitsRules r)) (λ x. x .refusal) limitsZeros a
+  pub limits : ((n p : ℕ) → Wrongs (limitsRules r) n p → ⊥) → Limits r (a .limits)
 
 -- t is the made table
 pub record MadeTable (t : List ℕ) : Type 0 where
@@ -60,6 +60,6 @@ pub record MadeTable (t : List ℕ) : Type 0 where
 
 -- f is the maker's answer, where the buffer held s and then holds t: s again, or the made table where nothing is refused
 pub record Makes (s t : List ℕ) (f : Refusal) : Type 0 where
-  pub refuses : RefusedBy (Wrongs (makeRungs (length s))) f
-  pub keeps : (n p : ℕ) → FirstRefusal (Wrongs (makeRungs (length s))) n p → t ≡ s
-  pub makes : ((n p : ℕ) → Wrongs (makeRungs (length s)) n p → ⊥) → (m : List ℕ) × MadeTable m × (t ≡ m ++ drop 2048 s)
+  pub refuses : RefusedBy (Wrongs (makeRules (length s))) f
+  pub keeps : (n p : ℕ) → FirstRefusal (Wrongs (makeRules (length s))) n p → t ≡ s
+  pub makes : ((n p : ℕ) → Wrongs (makeRules (length s)) n p → ⊥) → (m : List ℕ) × MadeTable m × (t ≡ m ++ drop 2048 s)

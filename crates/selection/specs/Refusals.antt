@@ -1,4 +1,4 @@
--- Who sends bad input: document 01's section of that name, in one order of all refusals. What a call refuses is a list of rungs: each call's stands with its answer.
+-- Who sends bad input: document 01's section of that name, in one order of all refusals. What a call refuses is a list of rules: each call's stands with its answer.
 use mathlib.Core.Path.{_≡_}
 use mathlib.Core.Bool.{Bool, cond, not, _||_}
 use mathlib.Core.List.{List, [], _∷_}
@@ -52,40 +52,40 @@ firstFrom f i (suc n) =
     let rest = firstFrom f (i + 1) n in
     cond (f i) i rest
 
--- ---- rungs
+-- ---- rules
 
 -- number k with place p, where c holds; or number k, where P holds of an index below m, as the test f tells: the place is the first
-pub data Rung : Type 1 where
-  numberAt : (k p : ℕ) → Condition → Rung
-  numberFirst : (k : ℕ) (P : ℕ → Type 0) (f : ℕ → Bool) (m : ℕ) → Rung
+pub data Rule : Type 1 where
+  numberAt : (k p : ℕ) → Condition → Rule
+  numberFirst : (k : ℕ) (P : ℕ → Type 0) (f : ℕ → Bool) (m : ℕ) → Rule
 
 -- the place is 0
-abbrev pub number : ℕ → Condition → Rung
+abbrev pub number : ℕ → Condition → Rule
 number k c = numberAt k 0 c
 
-abbrev pub numberOf : Rung → ℕ
+abbrev pub numberOf : Rule → ℕ
 numberOf (numberAt k p c) = k
 numberOf (numberFirst k P f m) = k
 
 -- its condition, at the place q
-abbrev pub Wrong : Rung → ℕ → Type 0
+abbrev pub Wrong : Rule → ℕ → Type 0
 Wrong (numberAt k p c) q = (q ≡ p) × Holds c
 Wrong (numberFirst k P f m) q = (q < m) × First P q
 
 -- what a call gives that has come to it
-abbrev pub given : Rung → Admission
+abbrev pub given : Rule → Admission
 given (numberAt k p c) = cond (holds c) (Refused (refusal k p)) Admitted
 given (numberFirst k P f m) = let j = firstFrom f 0 m in cond (ltb j m) (Refused (refusal k j)) Admitted
 
 -- what a call refuses: the condition of the number n holds, and p is its place
-abbrev pub Wrongs : List Rung → ℕ → ℕ → Type 0
+abbrev pub Wrongs : List Rule → ℕ → ℕ → Type 0
 Wrongs [] n p = ⊥
 Wrongs (r ∷ rs) n p = ((n ≡ numberOf r) × Wrong r p) ⊎ Wrongs rs n p
 
 -- the first refusal that is given
-abbrev pub ladder : List Rung → Admission
-ladder [] = Admitted
-ladder (r ∷ rs) = firstOf (given r) (ladder rs)
+abbrev pub firstRefusal : List Rule → Admission
+firstRefusal [] = Admitted
+firstRefusal (r ∷ rs) = firstOf (given r) (firstRefusal rs)
 
 -- ---- the order of the refusals
 

@@ -4,7 +4,7 @@ use mathlib.Core.List.{List, [], _∷_, _++_}
 use Prim.Native.Nat.{ℕ, suc, _+_, _*_, _/_, _%_, _≤_, _<_}
 use lib.IntN.{ℤ}
 use lib.ListN.{length, getD, take, drop}
-use Rattle.selection.specs.Refusals.{First, Rung, differ, number, numberFirst, Wrongs, FirstRefusal}
+use Rattle.selection.specs.Refusals.{First, Rule, differ, number, numberFirst, Wrongs, FirstRefusal}
 use Rattle.selection.specs.Allowed.{aboveFour, isBad}
 use Rattle.selection.specs.Cell.{span, AllowsUnder, Against, LeastWitness, digit}
 use Rattle.selection.specs.declared.table.Outcome.{Outcome}
@@ -41,15 +41,15 @@ pub data Tally (P : ℕ → Type 0) : ℕ → ℕ → Type 0 where
   other : {m n : ℕ} → (P m → ⊥) → Tally P m n → Tally P (suc m) n
 
 -- refused as no table: 8, length not 2,048; 9, a byte above 4, the place is the first such index
-abbrev pub formRungs : List ℕ → List Rung
-formRungs t = number 8 (differ (length t) 2048) ∷ numberFirst 9 (λ k. 4 < getD t k 0) (aboveFour t) 2048 ∷ []
+abbrev pub formRules : List ℕ → List Rule
+formRules t = number 8 (differ (length t) 2048) ∷ numberFirst 9 (λ k. 4 < getD t k 0) (aboveFour t) 2048 ∷ []
 
 -- what each call refuses that is lent a table, after its arguments: then 10, a bad cell; the place is the first
-unfoldable pub tableRungs : List ℕ → List Rung
-tableRungs t = formRungs t ++ (numberFirst 10 (BadAt t) (isBad t) 2048 ∷ [])
+unfoldable pub tableRules : List ℕ → List Rule
+tableRules t = formRules t ++ (numberFirst 10 (BadAt t) (isBad t) 2048 ∷ [])
 
 abbrev pub NoTable : List ℕ → ℕ → ℕ → Type 0
-NoTable t n p = FirstRefusal (Wrongs (formRungs t)) n p
+NoTable t n p = FirstRefusal (Wrongs (formRules t)) n p
 
 -- the first bad cell, with its witness
 pub record FirstBad (t : List ℕ) (r c D : ℕ) (P : ℤ) : Type 0 where

@@ -5,12 +5,12 @@ ghost use Prim.Native.Nat.{ℕ, _+_, _*_, _≤_, _<_};
 ghost use lib.Dec.{ltb, eqb};
 ghost use lib.ListN.{length, getD};
 ghost use Rattle.laws.specs.Lists.{filled};
-ghost use Rattle.selection.specs.Refusals.{ladder};
+ghost use Rattle.selection.specs.Refusals.{firstRefusal};
 ghost use Rattle.selection.specs.Allowed.{isReplaced};
 ghost use Rattle.selection.specs.Maker.{Limits, stepAt};
 ghost use Rattle.selection.specs.Multiples.{RowOf, allowsBy};
 ghost use Rattle.selection.specs.Computed.{countBelow, repairedByte, changeMark, FillsRow, repairOf, repairedOf, changedOf};
-ghost use Rattle.selection.specs.Repair.{repairRungs, Repairs};
+ghost use Rattle.selection.specs.Repair.{repairRules, Repairs};
 use crate::Admission;
 use crate::Refusal;
 use crate::maker::digit_at;
@@ -102,7 +102,7 @@ fn repair_rows(table: &[u8], repaired: &mut [u8], changed: &mut [u8]) -> u64
 
 // The first refusal, by the lengths of the table and of the two lists.
 fn refusal_of(table: usize, repaired: usize, changed: usize) -> Admission
-    ensures { λ r. ⌜ r ≡ ladder (repairRungs table repaired changed) ⌝ }
+    ensures { λ r. ⌜ r ≡ firstRefusal (repairRules table repaired changed) ⌝ }
 {
     if repaired < 2048 {
         return refused(7);

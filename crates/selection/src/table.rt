@@ -4,12 +4,12 @@ ghost use mathlib.Core.Bool.{true, cond};
 ghost use mathlib.Core.Logic.{_↔_};
 ghost use Prim.Native.Nat.{_+_, _*_, _≤_, _<_, min};
 ghost use lib.ListN.{length};
-ghost use Rattle.selection.specs.Refusals.{firstFrom, ladder};
+ghost use Rattle.selection.specs.Refusals.{firstFrom, firstRefusal};
 ghost use Rattle.selection.specs.Answer.{refusal, admission, firstOf};
 ghost use Rattle.selection.specs.Cell as Cell;
 ghost use Rattle.selection.specs.Allowed.{aboveFour, isBad, isBadIn};
 ghost use Rattle.selection.specs.Multiples.{RowOf};
-ghost use Rattle.selection.specs.Table.{tableRungs, Table, Checked};
+ghost use Rattle.selection.specs.Table.{tableRules, Table, Checked};
 ghost use Rattle.selection.specs.Computed.{countBelow, refusedReport, reportAt, tableReport, reportOf};
 use crate::Admission;
 use crate::CellVerdict;
@@ -250,7 +250,7 @@ fn admit_table(table: &[u8]) -> Admission
 
 // The refusal of a call that is lent a table: that of its other arguments, or else the table's.
 pub fn admit_after(arguments: Admission, table: &[u8]) -> Admission
-    ensures { λ r. ⌜ r ≡ firstOf arguments (ladder (tableRungs (now (table .entry)))) ⌝ }
+    ensures { λ r. ⌜ r ≡ firstOf arguments (firstRefusal (tableRules (now (table .entry)))) ⌝ }
 {
     match arguments {
         Admission::Refused(f) => Admission::Refused(f),

@@ -33,8 +33,8 @@ below z f h = go z f (rw (toZ-ofZ f) at h)
     go (negsuc n) f h = record { n = n; small = f .sfits; raised = ap (λ (x : ℤ). x +ℤ pos 1) (toZ-ofZ f) ∙ up n; size = sym (add-one n) }
 
 -- what is held after the sign is changed
-turned : {z : ℤ} (b : Below z) → pos 0 -ℤ held (held z +ℤ pos 1) ≡ pos (b .n)
-turned b = rw (b .raised, toZ-ofZ (opposite-fits (b .n) (b .small))) (+ℤ-idl _ ∙ negℤ-negℤ (pos (b .n)))
+negated : {z : ℤ} (b : Below z) → pos 0 -ℤ held (held z +ℤ pos 1) ≡ pos (b .n)
+negated b = rw (b .raised, toZ-ofZ (opposite-fits (b .n) (b .small))) (+ℤ-idl _ ∙ negℤ-negℤ (pos (b .n)))
 
 not-below : (z : ℤ) → SFits w64 z → ltZ (held z) (pos 0) ≡ false → T (nonNeg (held z)) × Fits w64 (natAbs (held z))
 not-below z f h = rw (toZ-ofZ f) (go z (rw (toZ-ofZ f) at h), fits-natAbs tt f)
@@ -50,16 +50,16 @@ add-result : tie.Need-add-result
 add-result c = let b = at c in rw (b .raised) (opposite-fits (b .n) (b .small))
 
 sub-result : tie.Need-sub-result
-sub-result c = let b = at c in rw (turned b) (record { sfits = b .small })
+sub-result c = let b = at c in rw (negated b) (record { sfits = b .small })
 
 cast-result : tie.Need-cast-result
-cast-result c = let b = at c in rw (turned b, toZ-ofZ (record { sfits = b .small })) (tt, omega (arith, b .small))
+cast-result c = let b = at c in rw (negated b, toZ-ofZ (record { sfits = b .small })) (tt, omega (arith, b .small))
 
 add-result-2 : tie.Need-add-result-2
-add-result-2 c = let b = at c in rw (turned b, toZ-ofZ (record { sfits = b .small })) (omega (arith, b .small))
+add-result-2 c = let b = at c in rw (negated b, toZ-ofZ (record { sfits = b .small })) (omega (arith, b .small))
 
 returns : tie.Need-returns
-returns c = let b = at c in rw (turned b, toZ-ofZ (record { sfits = b .small })) (sym (b .size))
+returns c = let b = at c in rw (negated b, toZ-ofZ (record { sfits = b .small })) (sym (b .size))
 
 cast-result-2 : tie.Need-cast-result-2
 cast-result-2 c = not-below _ (c .before .fits .number) (c .if1 .left)

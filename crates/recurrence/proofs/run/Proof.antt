@@ -1,7 +1,7 @@
 -- `run` meets its contract: the arguments' refusal, then the table's, else the run through the table.
 use Rattle.laws.proofs.Basics.{refl, sym, ap, _∙_, now, length, needs}
 use Rattle.selection.proofs.Orders.{admitted-both, first-lent}
-use Rattle.recurrence.specs.Run.{runRungs, runValues}
+use Rattle.recurrence.specs.Run.{runRules, runValues}
 use Rattle.recurrence.proofs.Refusals.{spans, run-answered}
 use Rattle.recurrence.proofs.run.Statement.{statement}
 use Rattle.recurrence.proofs.run.Tie as tie
@@ -16,7 +16,7 @@ returns : tie.Need-returns
 returns c =
     let a = c .before .before .before .before .before .before .before .before .args in
     run-answered (now (a .table)) (a .dividend) (a .divisor) (a .digits) (now (a .buffer)) (a .place)
-    (first-lent (runRungs (a .dividend) (a .divisor) (a .digits) (length (now (a .buffer))) (a .place)) _ (c .before .before .before .before .admit-after .ensures) (c .before .before .before .before .before .argument-refusal .ensures) (c .before .before .admission .given .1))
+    (first-lent (runRules (a .dividend) (a .divisor) (a .digits) (length (now (a .buffer))) (a .place)) _ (c .before .before .before .before .admit-after .ensures) (c .before .before .before .before .before .argument-refusal .ensures) (c .before .before .admission .given .1))
     (c .zeros .ensures, refl)
 
 returns-2 : tie.Need-returns-2
@@ -24,7 +24,7 @@ returns-2 c =
     let a = c .before .before .before .before .before .before .before .before .before .before .before .args in
     let r = c .before .before .before .run-admitted .ensures in
     run-answered (now (a .table)) (a .dividend) (a .divisor) (a .digits) (now (a .buffer)) (a .place)
-    (first-lent (runRungs (a .dividend) (a .divisor) (a .digits) (length (now (a .buffer))) (a .place)) _ (c .before .before .before .before .before .before .before .admit-after .ensures) (c .before .before .before .before .before .before .before .before .argument-refusal .ensures) (c .before .before .before .before .before .enum-told .given .1))
+    (first-lent (runRules (a .dividend) (a .divisor) (a .digits) (length (now (a .buffer))) (a .place)) _ (c .before .before .before .before .before .before .before .admit-after .ensures) (c .before .before .before .before .before .before .before .before .argument-refusal .ensures) (c .before .before .before .before .before .enum-told .given .1))
     (c .values .ensures ∙ ap runValues (r .1), r .0)
 
 pub run-spec : {M : Type 1} → statement M

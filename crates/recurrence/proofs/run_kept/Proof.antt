@@ -3,7 +3,7 @@ use Rattle.laws.proofs.Basics.{refl, sym, ap, _∙_, now, length, needs}
 use Rattle.selection.specs.Computed.{madeTable}
 use Rattle.selection.proofs.MadeTables.{kept-passes}
 use Rattle.selection.proofs.Orders.{first-kept}
-use Rattle.recurrence.specs.Run.{runRungs, runValues}
+use Rattle.recurrence.specs.Run.{runRules, runValues}
 use Rattle.recurrence.proofs.Refusals.{spans, run-answered}
 use Rattle.recurrence.proofs.Rows.{row-of-kept}
 use Rattle.recurrence.proofs.run_kept.Statement.{statement}
@@ -18,7 +18,7 @@ returns : tie.Need-returns
 returns c =
     let a = c .before .before .before .before .before .before .args in
     run-answered madeTable (a .dividend) (a .divisor) (a .digits) (now (a .buffer)) (a .place)
-    (first-kept (runRungs (a .dividend) (a .divisor) (a .digits) (length (now (a .buffer))) (a .place)) (c .before .before .before .before .argument-refusal .ensures) (c .before .before .admission .given .1))
+    (first-kept (runRules (a .dividend) (a .divisor) (a .digits) (length (now (a .buffer))) (a .place)) (c .before .before .before .before .argument-refusal .ensures) (c .before .before .admission .given .1))
     (c .zeros .ensures, refl)
 
 returns-2 : tie.Need-returns-2
@@ -27,7 +27,7 @@ returns-2 c =
     let e = c .before .before .before .before .before .before .before .before .before .argument-refusal .ensures in
     let g = c .before .before .before .before .before .before .before .enum-told .given .1 in
     let r = c .before .before .before .run-part .ensures madeTable kept-passes (c .before .before .before .before .before .before .kept-row .ensures) in
-    run-answered madeTable (a .dividend) (a .divisor) (a .digits) (now (a .buffer)) (a .place) (first-kept (runRungs (a .dividend) (a .divisor) (a .digits) (length (now (a .buffer))) (a .place)) e g) (c .values .ensures ∙ ap runValues (r .1), r .0)
+    run-answered madeTable (a .dividend) (a .divisor) (a .digits) (now (a .buffer)) (a .place) (first-kept (runRules (a .dividend) (a .divisor) (a .digits) (length (now (a .buffer))) (a .place)) e g) (c .values .ensures ∙ ap runValues (r .1), r .0)
 
 pub run-kept-spec : {M : Type 1} → statement M
 run-kept-spec =

@@ -2,7 +2,7 @@
 use Rattle.laws.proofs.Basics.{_≡_, refl, subst, sym, ap, _∙_, Bool, true, false, cond, List, ℕ, zero, suc, _+_, _-_, _≤_, add-one, arith, getD, needs}
 use native.Mathlib.Nat.{zero-add, suc-add}
 use Rattle.vectors.specs.Vectors.{isRoot, lineFits, formedUpto}
-use Rattle.vectors.proofs.Turned.{turned}
+use Rattle.vectors.proofs.NegatedTests.{negated-test}
 use Rattle.vectors.proofs.well_formed.Statement.{statement}
 use Rattle.vectors.proofs.well_formed.Tie as tie
 
@@ -44,10 +44,10 @@ told c = let l = c .before .before .before in c .line-fits .ensures ∙ ap (λ (
 returns : tie.Need-returns Inv-loop μ-loop
 returns c =
     let i = c .before .before .before .before .loop .i in
-    settled _ i (56 - (i + 1)) (omega arith) (turned _ (told (c .before)) (c .if1 .taken))
+    settled _ i (56 - (i + 1)) (omega arith) (negated-test _ (told (c .before)) (c .if1 .taken))
 
 loop-again : tie.Need-loop-again Inv-loop μ-loop
-loop-again c = (omega arith, one-more _ _ (c .before .before .before .before .loop .inv .1) (turned _ (told (c .before)) (c .if1 .left)))
+loop-again c = (omega arith, one-more _ _ (c .before .before .before .before .loop .inv .1) (negated-test _ (told (c .before)) (c .if1 .left)))
 
 returns-2 : tie.Need-returns-2 Inv-loop μ-loop
 returns-2 c = all-fit _ (omega arith) (c .before .loop .inv .1)

@@ -1,7 +1,7 @@
 -- `divide_whole` meets its contract: the arguments' refusal, then the table's, else the quotient through the table.
 use Rattle.laws.proofs.Basics.{sym, ap, _∙_, now, needs}
 use Rattle.selection.proofs.Orders.{admitted-both, answered, first-lent}
-use Rattle.division.specs.Whole.{wholeRungs, wholeZeros, wholeValues}
+use Rattle.division.specs.Whole.{wholeRules, wholeZeros, wholeValues}
 use Rattle.division.specs.WholeSteps.{wholeThrough}
 use Rattle.division.proofs.Calls.{whole-spans}
 use Rattle.division.proofs.whole.divide_whole.Statement.{statement}
@@ -17,13 +17,13 @@ returns : tie.Need-returns
 returns c =
     let x = c .before .before .before .before .before .before .before .args in
     answered wholeZeros (wholeValues (wholeThrough (now (x .table)) (x .a) (x .b)))
-    (first-lent (wholeRungs (x .a) (x .b)) _ (c .before .before .before .before .admit-after .ensures) (c .before .before .before .before .before .refusal-of .ensures) (c .before .before .admission .given .1)) (c .zeros .ensures)
+    (first-lent (wholeRules (x .a) (x .b)) _ (c .before .before .before .before .admit-after .ensures) (c .before .before .before .before .before .refusal-of .ensures) (c .before .before .admission .given .1)) (c .zeros .ensures)
 
 returns-2 : tie.Need-returns-2
 returns-2 c =
     let x = c .before .before .before .before .before .before .before .args in
     answered wholeZeros (wholeValues (wholeThrough (now (x .table)) (x .a) (x .b)))
-    (first-lent (wholeRungs (x .a) (x .b)) _ (c .before .before .before .before .admit-after .ensures) (c .before .before .before .before .before .refusal-of .ensures) (c .before .before .enum-told .given .1)) (c .values .ensures ∙ ap wholeValues (c .before .divide .ensures))
+    (first-lent (wholeRules (x .a) (x .b)) _ (c .before .before .before .before .admit-after .ensures) (c .before .before .before .before .before .refusal-of .ensures) (c .before .before .enum-told .given .1)) (c .values .ensures ∙ ap wholeValues (c .before .divide .ensures))
 
 pub divide-whole-spec : {M : Type 1} → statement M
 divide-whole-spec =

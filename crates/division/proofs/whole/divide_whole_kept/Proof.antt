@@ -2,7 +2,7 @@
 use Rattle.laws.proofs.Basics.{sym, ap, _∙_, needs}
 use Rattle.selection.specs.Computed.{madeTable}
 use Rattle.selection.proofs.Orders.{answered, first-kept}
-use Rattle.division.specs.Whole.{wholeRungs, wholeZeros, wholeValues}
+use Rattle.division.specs.Whole.{wholeRules, wholeZeros, wholeValues}
 use Rattle.division.specs.WholeSteps.{wholeThrough}
 use Rattle.division.proofs.Calls.{whole-spans}
 use Rattle.division.proofs.whole.divide_whole_kept.Statement.{statement}
@@ -15,13 +15,13 @@ returns : tie.Need-returns
 returns c =
     let x = c .before .before .before .before .before .args in
     answered wholeZeros (wholeValues (wholeThrough madeTable (x .a) (x .b)))
-    (first-kept (wholeRungs (x .a) (x .b)) (c .before .before .before .before .refusal-of .ensures) (c .before .before .admission .given .1)) (c .zeros .ensures)
+    (first-kept (wholeRules (x .a) (x .b)) (c .before .before .before .before .refusal-of .ensures) (c .before .before .admission .given .1)) (c .zeros .ensures)
 
 returns-2 : tie.Need-returns-2
 returns-2 c =
     let x = c .before .before .before .before .before .args in
     answered wholeZeros (wholeValues (wholeThrough madeTable (x .a) (x .b)))
-    (first-kept (wholeRungs (x .a) (x .b)) (c .before .before .before .before .refusal-of .ensures) (c .before .before .enum-told .given .1)) (c .values .ensures ∙ ap wholeValues (c .before .divide-kept .ensures))
+    (first-kept (wholeRules (x .a) (x .b)) (c .before .before .before .before .refusal-of .ensures) (c .before .before .enum-told .given .1)) (c .values .ensures ∙ ap wholeValues (c .before .divide-kept .ensures))
 
 pub divide-whole-kept-spec : {M : Type 1} → statement M
 divide-whole-kept-spec =

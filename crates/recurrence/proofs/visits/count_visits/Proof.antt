@@ -1,7 +1,7 @@
 -- `count_visits` meets its contract: the arguments' refusal, then the table's, else the visits.
 use Rattle.laws.proofs.Basics.{refl, sym, _∙_, now, length, needs}
 use Rattle.selection.proofs.Orders.{admitted-both, first-lent}
-use Rattle.recurrence.specs.Visits.{visitsRungs}
+use Rattle.recurrence.specs.Visits.{visitsRules}
 use Rattle.recurrence.proofs.VisitCounts.{visits-spans, visits-told}
 use Rattle.recurrence.proofs.visits.count_visits.Statement.{statement}
 use Rattle.recurrence.proofs.visits.count_visits.Tie as tie
@@ -16,14 +16,14 @@ returns : tie.Need-returns
 returns c =
     let a = c .before .before .before .before .before .before .before .args in
     visits-told (now (a .table)) (a .bits) (a .digits) (now (a .visits))
-    (first-lent (visitsRungs (a .bits) (a .digits) (length (now (a .visits)))) _ (c .before .before .before .admit-after .ensures) (c .before .before .before .before .refusal-of .ensures) (c .before .admission .given .1))
+    (first-lent (visitsRules (a .bits) (a .digits) (length (now (a .visits)))) _ (c .before .before .before .admit-after .ensures) (c .before .before .before .before .refusal-of .ensures) (c .before .admission .given .1))
     refl refl
 
 returns-2 : tie.Need-returns-2
 returns-2 c =
     let a = c .before .before .before .before .before .before .before .before .before .before .args in
     visits-told (now (a .table)) (a .bits) (a .digits) (now (a .visits))
-    (first-lent (visitsRungs (a .bits) (a .digits) (length (now (a .visits)))) _ (c .before .before .before .before .before .before .admit-after .ensures) (c .before .before .before .before .before .before .before .refusal-of .ensures) (c .before .before .before .before .enum-told .given .1))
+    (first-lent (visitsRules (a .bits) (a .digits) (length (now (a .visits)))) _ (c .before .before .before .before .before .before .admit-after .ensures) (c .before .before .before .before .before .before .before .refusal-of .ensures) (c .before .before .before .before .enum-told .given .1))
     refl (c .before .before .visit-all .ensures)
 
 pub count-visits-spec : {M : Type 1} → statement M

@@ -1,12 +1,12 @@
 -- `refusal_of` meets its contract: 2, then 16, then 7.
 use Rattle.laws.proofs.Basics.{needs}
 use Rattle.laws.proofs.Tests.{tests}
-use Rattle.recurrence.specs.Visits.{visitsRungs}
+use Rattle.recurrence.specs.Visits.{visitsRules}
 use Rattle.recurrence.proofs.visits.refusal_of.Statement.{statement}
 use Rattle.recurrence.proofs.visits.refusal_of.Tie as tie
 
 pub refusal-of-spec : {M : Type 1} → statement M
-unfolding visitsRungs
+unfolding visitsRules
 refusal-of-spec =
     tie.close (tie.spec (λ c κs. search needs) (λ c. search tests) (λ c κs. search needs)
     (λ c. search tests) (λ c κs. search needs) (λ c. search tests) (λ c κs. search needs)
