@@ -4,16 +4,11 @@ use native.Mathlib.Nat.{div-add-mod', mod-lt, mul-assoc, eq-zero-or-pos}
 use lib.Pow.{pow-add}
 use Rattle.laws.proofs.Division.{le-or-lt}
 use Rattle.laws.proofs.Powers.{lifted}
+use Rattle.laws.specs.Shifts.{shiftTo}
 use Rattle.selection.specs.Table.{Passes}
 use Rattle.recurrence.specs.Recurrence.{Operands, resultOf}
 use Rattle.recurrence.proofs.RunDemand.{result-divides}
-use Rattle.division.specs.WholeSteps.{shiftTo}
-use Rattle.division.specs.Format.{magnitude, field, fraction, signOf}
-use Rattle.division.specs.Computed.{finiteQuotient, byClass, orRounded, quotientOf}
-use Rattle.division.specs.Binary64Steps.{sticky, ratioThrough, alignedOf, roundedQuotient, scaledThrough, binary64Through}
-use Rattle.division.specs.Significands.{significandOf, FiniteNonzero}
-use Rattle.division.specs.declared.binary64.ByClass.{ByClass}
-use Rattle.division.specs.declared.binary64.ByClass.the-variants.{Decided, Undecided}
+use Rattle.division.proofs.Binary64Names.{magnitude, field, fraction, signOf, finiteQuotient, byClass, orRounded, quotientOf, significandOf, FiniteNonzero, ByClass, Decided, Undecided, sticky, ratioThrough, alignedOf, roundedQuotient, scaledThrough, binary64Through}
 use Rattle.division.proofs.Sticky.{ratio-is, cut-high, cut-low}
 use Rattle.division.proofs.Quotient.{ScaledTo, AlignedTo, aligned-is}
 use Rattle.division.proofs.Classes.{quotient-operands}

@@ -1,18 +1,11 @@
 -- Binary64 division means what document 01 says, for every pair of operands and through every table that passes.
-use Rattle.laws.proofs.Basics.{_≡_, refl, sym, ap, ap₂, subst, _∙_, _⊎_, ⊎-elim, ℕ, zero, _-_, _^_, _<_, arith, lit≤, List, ne-eqb}
+use Rattle.laws.proofs.Basics.{_≡_, refl, sym, ap, ap₂, subst, _∙_, _⊎_, ⊎-elim, ℕ, zero, _-_, _^_, _≤_, _<_, arith, lit≤, List, ne-eqb}
 use native.Mathlib.Nat.{eq-zero-or-pos, lt-of-lt-of-le, mul-le-mul-left, mul-lt-mul-of-pos-right}
 use lib.Pow.{pow-pos, pow-mono}
-use Rattle.division.specs.Format.{magnitude, field, classOf, signOf, quietNan}
-use Rattle.division.specs.Computed.{finiteQuotient, caseOf, nanFlags, decided, orRounded, quotientOf}
-use Rattle.division.specs.Binary64Steps.{binary64Through}
-use Rattle.division.specs.Ieee.{RoundedQuotient, Ieee}
-use Rattle.division.specs.declared.format.Class.{Class}
-use Rattle.division.specs.declared.format.Class.the-variants.{Zero, Subnormal, Normal, Infinite, Nan}
-use Rattle.division.specs.declared.format.Binary64Result.{Binary64Result}
-use Rattle.division.specs.declared.binary64.Case.{Case}
-use Rattle.division.specs.declared.binary64.Case.the-variants.{NotANumber, Invalid, ToInfinity, ByZero, ToZero, Finite}
+use Rattle.division.specs.Binary64.{binary64Of}
+use Rattle.division.proofs.Binary64Names.{magnitude, field, classOf, signOf, quietNan, finiteQuotient, caseOf, nanFlags, decided, orRounded, quotientOf, RoundedQuotient, Ieee, Class, Zero, Subnormal, Normal, Infinite, Nan, Binary64Result, Case, NotANumber, Invalid, ToInfinity, ByZero, ToZero, Finite}
 use Rattle.selection.specs.Table.{Passes}
-use Rattle.division.proofs.Binary64Through.{binary64-through}
+use Rattle.division.proofs.Answers.{binary64-answer}
 use Rattle.division.proofs.Classes.{by-nonzero, by-finite, nonzero-operand}
 use Rattle.laws.proofs.Division.{quotient}
 use Rattle.division.proofs.Quotient.{rounded-quotient}
@@ -65,5 +58,5 @@ ieee direction a b =
     }
 
 -- and so through every table that passes
-pub ieee-through : (t : List ℕ) → Passes t → (direction a b : ℕ) → Ieee direction a b (binary64Through t direction a b)
-ieee-through t p direction a b = subst (Ieee direction a b) (sym (binary64-through t direction a b p)) (ieee direction a b)
+pub ieee-through : (t : List ℕ) → Passes t → (direction a b : ℕ) → direction ≤ 3 → let x = binary64Of t direction a b in Ieee direction a b (record { pattern = x .pattern; flags = x .flags })
+ieee-through t p direction a b h = rw (binary64-answer t p direction a b h) (ieee direction a b)

@@ -1,8 +1,6 @@
 -- Of two answers that `Ieee` accepts for the same operands, one is the other: nothing of a quotient is left to chance.
 use Rattle.laws.proofs.Basics.{_≡_, sym, _∙_, ℕ}
-use Rattle.division.specs.Format.{magnitude, signOf}
-use Rattle.division.specs.Ieee.{quotientScale, quotientPlace, Ieee}
-use Rattle.division.specs.declared.format.Binary64Result.{Binary64Result}
+use Rattle.division.proofs.Binary64Names.{magnitude, signOf, quotientScale, quotientPlace, Ieee, Binary64Result}
 use Rattle.division.proofs.Classes.{nonzero-operand, by-cases}
 use Rattle.division.proofs.Quotient.{quotient-increasing}
 use Rattle.division.proofs.RoundedOne.{rounded-one}
@@ -15,4 +13,4 @@ ieee-one direction a b u v = by-cases a b
     (λ h k. u .by-zero h k ∙ sym (v .by-zero h k))
     (λ h k. u .infinite h k ∙ sym (v .infinite h k))
     (λ h. u .zero h ∙ sym (v .zero h))
-    (λ h k. rounded-one direction (signOf a b) (quotientScale (magnitude b)) (quotient-increasing (magnitude b) (nonzero-operand b k .some)) (quotientPlace (magnitude a)) (u .quotient h k) (v .quotient h k))
+    (λ h k. rounded-one _ (signOf a b) (quotientScale (magnitude b)) (quotient-increasing (magnitude b) (nonzero-operand b k .some)) (quotientPlace (magnitude a)) (u .quotient h k) (v .quotient h k))

@@ -1,19 +1,9 @@
 -- The binary64 root means what document 02 says, for every pattern, and nothing else means it; a root is never subnormal, never overflows and never ties.
 use Rattle.laws.proofs.Basics.{_≡_, refl, sym, ap, subst, _∙_, Bool, true, false, inl, inr, ⊎-elim, ℕ, min, _+_, _-_, _*_, _/_, _%_, _^_, _≤_, _<_, arith, eqb, lt-ltb, ne-eqb}
+use Rattle.laws.proofs.Tests.{cond-in}
 use native.Mathlib.Nat.{le-trans, le-of-eq, le-of-mul-le-mul-right, mul-le-mul-right, mul-lt-mul-of-pos-right}
-use Rattle.division.specs.Rounding.{modeOf}
-use Rattle.division.specs.Rounded.{IsExponent}
-use Rattle.division.specs.Format.{negative, field, magnitude, classOf}
-use Rattle.division.specs.Ieee.{IsNonzero}
-use Rattle.division.specs.Computed.{greatest, roundedTo, roundedResult, orRounded}
-use Rattle.division.specs.Significands.{significandOf}
-use Rattle.division.specs.Roots.{rootScale, rootPlace, RoundedRoot, IeeeRoot, RootPlain}
-use Rattle.division.specs.RootSteps.{finiteRoot, rootOfClass, rootOf}
-use Rattle.division.specs.declared.rounding.Mode.{Mode}
-use Rattle.division.specs.declared.format.Binary64Result.{Binary64Result}
-use Rattle.division.specs.declared.format.Class.{Class}
-use Rattle.division.specs.declared.format.Class.the-variants.{Zero, Subnormal, Normal, Infinite, Nan}
-use Rattle.division.proofs.RoundedResults.{cond-in, rounded-near, result-fits}
+use Rattle.division.proofs.Binary64Names.{negative, field, magnitude, classOf, IsNonzero, modeOf, IsExponent, greatest, roundedTo, roundedResult, orRounded, significandOf, rootScale, rootPlace, RoundedRoot, IeeeRoot, RootPlain, Class, Zero, Subnormal, Normal, Infinite, Nan, Mode, Binary64Result, finiteRoot, rootOfClass, rootOf}
+use Rattle.division.proofs.RoundedResults.{rounded-near, result-fits}
 use Rattle.division.proofs.Scales.{exponent-one, greatest-meets}
 use Rattle.division.proofs.RoundedOne.{rounded-one}
 use Rattle.division.proofs.Classes.{nonzero-operand}
@@ -46,7 +36,7 @@ pub ieee-root-one : (direction p : ℕ) {x y : Binary64Result} → IeeeRoot dire
 ieee-root-one direction p {x} {y} u v = go (negative p) refl (classOf p) refl
   where
     roots : negative p ≡ false → IsNonzero p → x ≡ y
-    roots s h = rounded-one direction false rootScale root-increasing (rootPlace (magnitude p)) (u .root s h) (v .root s h)
+    roots s h = rounded-one _ false rootScale root-increasing (rootPlace (magnitude p)) (u .root s h) (v .root s h)
 
     go : (s : Bool) → negative p ≡ s → (k : Class) → classOf p ≡ k → x ≡ y
     go s e Zero f = u .itself (inl f) ∙ sym (v .itself (inl f))
@@ -106,7 +96,7 @@ module _ (p : ℕ) (h : IsNonzero p) where
       let sum : s * s + (n - s * s) ≡ n = omega (arith, g .0) in
       let left : n - s * s ≤ 2 * s = omega (arith, g .1) in
       let v = 2 * s + min 1 (n - s * s) in
-      let e = rounded-one direction false rootScale root-increasing (rootPlace a) r (rounded-root direction a (magnitude-below p (nonzero-operand p h .finite)))
+      let e = rounded-one _ false rootScale root-increasing (rootPlace a) r (rounded-root direction a (magnitude-below p (nonzero-operand p h .finite)))
       ∙ root-is a y scaled s (n - s * s) sum left direction v refl in
       let span = half-span a y scaled s (n - s * s) sum left in
       let E = exponent-span a y scaled in

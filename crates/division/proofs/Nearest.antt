@@ -2,10 +2,7 @@
 -- A quotient n / u has f j = j * u and m = 2 * n; a root has squares. Rounding is stated and shown once, for every scale.
 use Rattle.laws.proofs.Basics.{_≡_, sym, ap, inl, inr, ⊎-elim, ℕ, suc, min, _+_, _-_, _*_, _/_, _%_, _≤_, _<_, arith, lt-ltb, le-ltb, eq-eqb, ne-eqb}
 use native.Mathlib.Nat.{le-of-lt, lt-of-lt-of-le, eq-zero-or-pos, eq-or-lt-of-le, le-refl, le-of-eq, lt-of-not-le, not-le-of-lt, le-trans}
-use Rattle.division.specs.declared.rounding.Mode.{Mode}
-use Rattle.division.specs.declared.rounding.Mode.the-variants.{Nearest, Toward, Away}
-use Rattle.division.specs.Rounding.{TowardZero, AwayFromZero, ToNearest, Rounds}
-use Rattle.division.specs.Computed.{roundedTo, tailAt}
+use Rattle.division.proofs.Binary64Names.{AwayFromZero, ToNearest, Rounds, roundedTo, tailAt, Mode, Nearest, Toward, Away}
 use Rattle.laws.proofs.Division.{le-or-lt}
 
 parity : (y : ℕ) → suc y % 2 ≡ 0 → y % 2 ≡ 0 → ⊥
@@ -48,17 +45,6 @@ module _ (f : ℕ → ℕ) (up : (i j : ℕ) → i < j → f i < f j) where
     below = le-of-lt (up (2 * x) (2 * x + 1) (omega arith));
     even = ⊎-elim (λ e. absurd (omega (arith, up (2 * x) (2 * x + 1) (omega arith)))) (λ w. absurd (omega (arith, w .1, up (2 * x - 1) (2 * x) (omega (arith, w .0)))));
   }
-
-  -- toward zero no number is greater than that of another mode, and away from zero none is smaller
-  pub toward-least : (mode : Mode) (m x y : ℕ) → TowardZero f m x → Rounds mode f m y → x ≤ y
-  toward-least Toward m x y p q = rounds-mono Toward m m x y (le-refl m) p q
-  toward-least Away m x y p q = ⊎-elim (λ (g : x ≤ y). g) (λ (g : y < x). absurd (omega (arith, up (2 * y) (2 * x) (omega arith)))) (le-or-lt x y)
-  toward-least Nearest m x y p q = ⊎-elim (λ (g : x ≤ y). g) (λ (g : y < x). absurd (omega (arith, up (2 * y + 1) (2 * x) (omega arith)))) (le-or-lt x y)
-
-  pub away-most : (mode : Mode) (m x y : ℕ) → Rounds mode f m x → AwayFromZero f m y → x ≤ y
-  away-most Toward m x y p q = toward-least Away m x y p q
-  away-most Away m x y p q = rounds-mono Away m m x y (le-refl m) p q
-  away-most Nearest m x y p q = ⊎-elim (λ (g : x ≤ y). g) (λ (g : y < x). absurd (omega (arith, up (2 * y) (2 * x - 1) (omega arith), p .above (omega arith)))) (le-or-lt x y)
 
   -- the rounding of k units and a tail is the rounding of the exact magnitude
   module _ (m k : ℕ) (low : f (2 * k) ≤ m) (high : m < f (2 * k + 2)) where

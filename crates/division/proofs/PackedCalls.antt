@@ -1,29 +1,24 @@
 -- The refusals of packed division: as the code gives them, and in demand 1's words.
-use Rattle.laws.proofs.Basics.{_≡_, refl, ap, List, [], _∷_, _⊎_, ⊎-elim, ℕ, _+_, _-_, _/_, _%_, _≤_, _<_, arith, _∙_, getD, lt-ltb, le-ltb}
+use Rattle.laws.proofs.Basics.{_≡_, refl, ap, List, _⊎_, ⊎-elim, ℕ, _+_, _-_, _/_, _%_, _≤_, _<_, arith, getD, lt-ltb, le-ltb}
 use Rattle.laws.proofs.Division.{le-or-lt}
-use Rattle.selection.specs.Answer.{refusal, answerBy}
-use Rattle.selection.specs.Computed.{madeTable}
-use Rattle.selection.specs.Refusals.{Rule, below, same, eitherOf, number, First, Wrongs, rank, firstRefusal, Refuses}
+use Rattle.laws.proofs.Tests.{Decides}
+use Rattle.selection.proofs.Refusing.{refusal, answerBy, below, eitherOf, Wrongs, rank, Refuses, holds-decides, found, not-found, WellFormed, refuses, clear-admits, refused-at}
 use Rattle.selection.specs.declared.Admission.{Admission}
-use Rattle.selection.proofs.Counts.{Decides, first-below}
-use Rattle.selection.proofs.Rules.{WellFormed, holds-decides, first-one, refuses, rule-holds, rule-past}
+use Rattle.selection.specs.Computed.{madeTable}
 use Rattle.division.specs.Whole.{wholeOf}
 use Rattle.division.specs.declared.packed.PackedAnswer.{PackedAnswer}
 use Rattle.division.specs.Packed.{packedNumber, Decimal, operandByte, Above9, isAbove9, firstAbove9, packedRules, packedZeros, packedValues, packedOf}
-
-above-decides : (b : ℕ) → Decides (Above9 b) (isAbove9 b)
-above-decides b = holds-decides (eitherOf (below 9 (b / 16)) (below 9 (b % 16)))
 
 decimal-none : {bs : List ℕ} → Decimal bs → (i : ℕ) → i < 8 → Above9 (getD bs i 0) → ⊥
 decimal-none d i h = ⊎-elim (λ x. omega (arith, d .high i h)) (λ x. omega (arith, d .low i h))
 
 module _ (xs ys : List ℕ) where
+  above-decides : (k : ℕ) → k < 16 → Decides (Above9 (operandByte xs ys k)) (isAbove9 (operandByte xs ys k))
+  above-decides k h = let b = operandByte xs ys k in holds-decides (eitherOf (below 9 (b / 16)) (below 9 (b % 16)))
+
   packed-rules : WellFormed (packedRules xs ys)
   unfolding packedRules rank
-  packed-rules = record { sound = ((λ k h. above-decides (operandByte xs ys k)), λ _. (tt, λ _. tt)); in-order = tt }
-
-  search : ((firstAbove9 xs ys ≡ 16) × ((i : ℕ) → i < 16 → Above9 (operandByte xs ys i) → ⊥)) ⊎ ((firstAbove9 xs ys < 16) × First (λ i. Above9 (operandByte xs ys i)) (firstAbove9 xs ys))
-  search = first-below (λ i. isAbove9 (operandByte xs ys i)) 16 (λ k h. above-decides (operandByte xs ys k))
+  packed-rules = record { sound = (above-decides, λ _. (tt, λ _. tt)); in-order = tt }
 
   -- the operands' own bytes
   dividend-byte : (i : ℕ) → i < 8 → operandByte xs ys i ≡ getD xs i 0
@@ -39,47 +34,44 @@ module _ (xs ys : List ℕ) where
       (λ (g : i < 8). rw (dividend-byte i g) (decimal-none d i g))
       (le-or-lt 8 i)
 
-  pub decimal-past : Decimal xs → Decimal ys → 16 ≤ firstAbove9 xs ys
-  decimal-past dx dy = ⊎-elim (λ x. omega (arith, x .0)) (λ x. absurd (none-before dx 8 (omega arith) (decimal-none dy) _ (x .0) (x .1 .here))) search
+  decimal-past : Decimal xs → Decimal ys → (i : ℕ) → i < 16 → Above9 (operandByte xs ys i) → ⊥
+  decimal-past dx dy = none-before dx 8 (omega arith) (decimal-none dy)
 
   -- ---- the answer: the two refusals, and none
 
   answer : Admission → PackedAnswer
   answer = answerBy packedZeros (packedValues (wholeOf madeTable (packedNumber xs) (packedNumber ys)))
 
-  later : List Rule
-  later = number 5 (same (packedNumber ys) 0) ∷ []
-
   pub byte-refused : (p : ℕ) → p ≡ firstAbove9 xs ys → p < 16 → packedOf xs ys ≡ packedZeros (refusal 15 p)
-  unfolding packedRules
-  byte-refused p e h = rw (← e, lt-ltb p 16 h) refl
+  unfolding packedRules answer
+  byte-refused p e h = ap answer (refused-at packed-rules 0 p (found (λ i. isAbove9 (operandByte xs ys i)) 16 above-decides e h))
 
   module _ (none : 16 ≤ firstAbove9 xs ys) where
-    past-bytes : firstRefusal (packedRules xs ys) ≡ firstRefusal later
-    unfolding packedRules later
-    past-bytes = rw (le-ltb (firstAbove9 xs ys) 16 none) refl
-
     pub zero-refused : packedNumber ys ≡ 0 → packedOf xs ys ≡ packedZeros (refusal 5 0)
-    unfolding answer later
-    zero-refused h = ap answer (past-bytes ∙ rule-holds 5 0 (same (packedNumber ys) 0) [] h)
+    unfolding packedRules answer
+    zero-refused h = ap answer (refused-at packed-rules 1 0 (not-found (λ i. isAbove9 (operandByte xs ys i)) 16 above-decides none, (refl, h)))
 
     pub none-refused : (packedNumber ys ≡ 0 → ⊥) → packedOf xs ys ≡ packedValues (wholeOf madeTable (packedNumber xs) (packedNumber ys))
-    unfolding answer later
-    none-refused h = ap answer (past-bytes ∙ rule-past 5 0 (same (packedNumber ys) 0) [] h)
+    unfolding packedRules answer
+    none-refused h = ap answer (clear-admits packed-rules (not-found (λ i. isAbove9 (operandByte xs ys i)) 16 above-decides none, (h, tt)))
 
   -- ---- for demand 1
 
   pub packed-refuses : Refuses (Wrongs (packedRules xs ys)) (λ x. x .refusal) packedZeros (packedOf xs ys)
   packed-refuses = refuses packed-rules (λ x. x .refusal) packedZeros (packedValues (wholeOf madeTable (packedNumber xs) (packedNumber ys))) refl (λ f. refl) refl
 
-  byte-first : (p : ℕ) → p < 16 → Above9 (operandByte xs ys p) → ((i : ℕ) → i < p → Above9 (operandByte xs ys i) → ⊥) → packedOf xs ys ≡ packedZeros (refusal 15 p)
-  byte-first p h a before = byte-refused p (⊎-elim (λ x. absurd (x .1 p h a)) (λ x. first-one (record { here = a; before = before }) (x .1)) search) h
-
   pub packed-dividend : (p : ℕ) → p < 8 → Above9 (getD xs p 0) → ((i : ℕ) → i < p → Above9 (getD xs i 0) → ⊥) → packedOf xs ys ≡ packedZeros (refusal 15 p)
-  packed-dividend p h a before = byte-first p (omega arith) (rw (dividend-byte p h) a) (λ i l x. before i l (rw (dividend-byte i (omega arith)) at x))
+  unfolding packedRules answer
+  packed-dividend p h a before = ap answer (refused-at packed-rules 0 p (omega arith, record { here = rw (dividend-byte p h) a; before = λ i l x. before i l (rw (dividend-byte i (omega arith)) at x) }))
 
   pub packed-divisor : (p : ℕ) → Decimal xs → p < 8 → Above9 (getD ys p 0) → ((i : ℕ) → i < p → Above9 (getD ys i 0) → ⊥) → packedOf xs ys ≡ packedZeros (refusal 15 (p + 8))
-  packed-divisor p d h a before = byte-first (p + 8) (omega arith) (rw (divisor-byte p h) a) (none-before d p (omega arith) before)
+  unfolding packedRules answer
+  packed-divisor p d h a before = ap answer (refused-at packed-rules 0 (p + 8) (omega arith, record { here = rw (divisor-byte p h) a; before = none-before d p (omega arith) before }))
 
   pub packed-by-zero : Decimal xs → Decimal ys → packedNumber ys ≡ 0 → packedOf xs ys ≡ packedZeros (refusal 5 0)
-  packed-by-zero dx dy = zero-refused (decimal-past dx dy)
+  unfolding packedRules answer
+  packed-by-zero dx dy h = ap answer (refused-at packed-rules 1 0 (decimal-past dx dy, (refl, h)))
+
+  pub packed-done : Decimal xs → Decimal ys → (packedNumber ys ≡ 0 → ⊥) → packedOf xs ys ≡ packedValues (wholeOf madeTable (packedNumber xs) (packedNumber ys))
+  unfolding packedRules answer
+  packed-done dx dy h = ap answer (clear-admits packed-rules (decimal-past dx dy, (h, tt)))

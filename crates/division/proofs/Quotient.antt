@@ -2,13 +2,7 @@
 use Rattle.laws.proofs.Basics.{_≡_, refl, ap, _∙_, Bool, ℕ, min, _+_, _-_, _*_, _/_, _%_, _^_, _≤_, _<_, arith}
 use native.Mathlib.Nat.{div-add-mod', mod-lt, mul-lt-mul-of-pos-right, mul-le-mul-right, mul-pos, zero-mul, pow-suc}
 use lib.Pow.{pow-add, pow-pos}
-use Rattle.division.specs.Rounding.{modeOf}
-use Rattle.division.specs.Binary64Steps.{sticky}
-use Rattle.division.specs.declared.format.Scaled.{Scaled}
-use Rattle.division.specs.declared.binary64.Aligned.{Aligned}
-use Rattle.division.specs.Ieee.{quotientScale, quotientPlace, RoundedQuotient}
-use Rattle.division.specs.Computed.{roundedResult, finiteQuotient}
-use Rattle.division.specs.Significands.{Normalized}
+use Rattle.division.proofs.Binary64Names.{modeOf, roundedResult, finiteQuotient, Normalized, quotientScale, quotientPlace, RoundedQuotient, Scaled, sticky, Aligned}
 use Rattle.division.proofs.Sticky.{sticky-cross, sticky-sticky}
 use Rattle.division.proofs.Scales.{Increasing}
 use Rattle.division.proofs.Rounded.{finite-rounded, finite-is}

@@ -1,8 +1,7 @@
 -- The meaning over a scale, at a quotient's scale, says what document 01 says of a/b: exponent, exactness, and what is below 2^-1022.
 use Rattle.laws.proofs.Basics.{_≡_, _↔_, ℕ, suc, _*_, _^_, _≤_, _<_, arith}
 use native.Mathlib.Nat.{pow-suc}
-use Rattle.division.specs.Rounded.{IsExponent}
-use Rattle.division.specs.Ieee.{quotientScale, quotientPlace}
+use Rattle.division.proofs.Binary64Names.{IsExponent, quotientScale, quotientPlace}
 
 -- x stands for 2 ^ 1022, p for the power of the exponent
 low : (a b x p : ℕ) → (2 ^ 53 * (b * p) ≤ 2 * (a * (x * 2 ^ 52))) ↔ (b * p ≤ a * x)

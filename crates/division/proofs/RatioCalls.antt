@@ -1,10 +1,9 @@
 -- What the code of the comparison asks: its refusals, and its answer in numbers.
-use Rattle.laws.proofs.Basics.{_≡_, refl, sym, ap, subst, _∙_, [], _∷_, _⊎_, inl, inr, ⊎-elim, ℕ, _*_, _^_, _≤_, _<_, arith, lt-leb, ne-eqb}
-use Rattle.selection.specs.Answer.{refusal, answerBy}
-use Rattle.selection.specs.Refusals.{Condition, atMost, same, eitherOf, number, Wrongs, rank, firstRefusal, Refuses}
+use Rattle.laws.proofs.Basics.{_≡_, refl, sym, ap, subst, _∙_, _⊎_, ⊎-elim, ℕ, _*_, _^_, _<_, arith}
+use Rattle.selection.proofs.Refusing.{refusal, answerBy, Wrongs, firstRefusal, rank, Refuses, WellFormed, refuses, cleared, clear-admits}
 use Rattle.selection.specs.declared.Admission.{Admission}
 use Rattle.selection.specs.declared.Admission.the-variants as A
-use Rattle.selection.proofs.Rules.{WellFormed, not-below, not-most, clear, refuses, rule-holds, rule-past}
+use native.Mathlib.Nat.{pos-of-ne-zero}
 use Rattle.division.specs.Ratios.{Ratios, comparisonOf, ratiosRules, comparedOf, comparisonZeros, comparisonNumbers}
 use Rattle.division.specs.declared.ratio.Comparison.{Comparison}
 use Rattle.division.specs.declared.ratio.Comparison.the-variants.{Refused}
@@ -21,20 +20,12 @@ ratios-rules a b c d = record { sound = (tt, λ _. (tt, λ _. tt)); in-order = t
 pub ratios-spans : (a b c d : ℕ) → firstRefusal (ratiosRules a b c d) ≡ A.Admitted → Ratios a b c d
 unfolding ratiosRules
 ratios-spans a b c d e =
-    let k = clear (ratios-rules a b c d) e in
-    record {
-      a-below = not-most (λ h. k 4 0 (inl (refl, (refl, inl h))));
-      b-some = not-below (λ (h : b < 1). k 5 0 (inr (inl (refl, (refl, inl (omega arith))))));
-      b-below = not-most (λ h. k 4 0 (inl (refl, (refl, inr (inl h)))));
-      c-below = not-most (λ h. k 4 0 (inl (refl, (refl, inr (inr (inl h))))));
-      d-some = not-below (λ (h : d < 1). k 5 0 (inr (inl (refl, (refl, inr (omega arith))))));
-      d-below = not-most (λ h. k 4 0 (inl (refl, (refl, inr (inr (inr h))))));
-    }
+    let k = cleared (ratios-rules a b c d) e in
+    record { a-below = k .0 .0; b-some = pos-of-ne-zero (k .1 .0 .0); b-below = k .0 .1 .0; c-below = k .0 .1 .1 .0; d-some = pos-of-ne-zero (k .1 .0 .1); d-below = k .0 .1 .1 .1 }
 
 pub ratios-clear : (a b c d : ℕ) → Ratios a b c d → firstRefusal (ratiosRules a b c d) ≡ A.Admitted
 unfolding ratiosRules
-ratios-clear a b c d r =
-    simp (lt-leb (2 ^ 60) a (r .a-below), lt-leb (2 ^ 60) b (r .b-below), lt-leb (2 ^ 60) c (r .c-below), lt-leb (2 ^ 60) d (r .d-below), ne-eqb b 0 (omega (arith, r .b-some)), ne-eqb d 0 (omega (arith, r .d-some)))
+ratios-clear a b c d r = clear-admits (ratios-rules a b c d) ((r .a-below, (r .b-below, (r .c-below, r .d-below))), (((λ e. omega (arith, r .b-some)), λ e. omega (arith, r .d-some)), tt))
 
 -- ---- the numbers of the answer
 
@@ -56,27 +47,12 @@ module _ (a b c d : ℕ) where
   ratios-refuse = subst (Refuses (Wrongs (ratiosRules a b c d)) (λ x. x .refusal) comparisonZeros) (sym (numbers (firstRefusal (ratiosRules a b c d))))
       (refuses (ratios-rules a b c d) (λ x. x .refusal) comparisonZeros (comparisonNumbers (comparisonOf (a * d) (c * b))) unrefused (λ f. refl) refl)
 
-  -- its two refusals in numbers
-  too-large : Condition
-  too-large = eitherOf (atMost (2 ^ 60) a) (eitherOf (atMost (2 ^ 60) b) (eitherOf (atMost (2 ^ 60) c) (atMost (2 ^ 60) d)))
+  -- its numbers by the first refusal v
+  pub ratios-by : {v : Admission} → firstRefusal (ratiosRules a b c d) ≡ v → comparisonNumbers (comparedOf a b c d) ≡ answerBy comparisonZeros (comparisonNumbers (comparisonOf (a * d) (c * b))) v
+  ratios-by {v} e = numbers (firstRefusal (ratiosRules a b c d)) ∙ ap (answerBy comparisonZeros (comparisonNumbers (comparisonOf (a * d) (c * b)))) e
 
-  over-zero : Condition
-  over-zero = eitherOf (same b 0) (same d 0)
-
-  told : {v : Admission} → firstRefusal (ratiosRules a b c d) ≡ v → comparisonNumbers (comparedOf a b c d) ≡ answerBy comparisonZeros (comparisonNumbers (comparisonOf (a * d) (c * b))) v
-  told {v} e = numbers (firstRefusal (ratiosRules a b c d)) ∙ ap (answerBy comparisonZeros (comparisonNumbers (comparisonOf (a * d) (c * b)))) e
-
-  pub ratios-large : (2 ^ 60 ≤ a) ⊎ ((2 ^ 60 ≤ b) ⊎ ((2 ^ 60 ≤ c) ⊎ (2 ^ 60 ≤ d))) → comparisonNumbers (comparedOf a b c d) ≡ comparisonZeros (refusal 4 0)
-  unfolding ratiosRules too-large over-zero
-  ratios-large h = told (rule-holds 4 0 too-large (number 5 over-zero ∷ []) h)
-
-  pub ratios-by-zero : a < 2 ^ 60 → b < 2 ^ 60 → c < 2 ^ 60 → d < 2 ^ 60 → (b ≡ 0) ⊎ (d ≡ 0) → comparisonNumbers (comparedOf a b c d) ≡ comparisonZeros (refusal 5 0)
-  unfolding ratiosRules too-large over-zero
-  ratios-by-zero ha hb hc hd h =
-      told (rule-past 4 0 too-large (number 5 over-zero ∷ []) (⊎-elim (λ x. omega arith) (⊎-elim (λ x. omega arith) (⊎-elim (λ x. omega arith) (λ x. omega arith)))) ∙ rule-holds 5 0 over-zero [] h)
-
-  -- and where neither holds nothing is refused
+  -- where no rule refuses nothing is refused
   pub ratios-told : a < 2 ^ 60 → b < 2 ^ 60 → c < 2 ^ 60 → d < 2 ^ 60 → 0 < b → 0 < d → comparisonNumbers (comparedOf a b c d) .refusal ≡ refusal 0 0
   ratios-told ha hb hc hd pb pd =
       let r : Ratios a b c d = record { a-below = ha; b-some = pb; b-below = hb; c-below = hc; d-some = pd; d-below = hd } in
-      ap (λ (x : ComparisonNumbers). x .refusal) (told (ratios-clear a b c d r)) ∙ unrefused
+      ap (λ (x : ComparisonNumbers). x .refusal) (ratios-by (ratios-clear a b c d r)) ∙ unrefused

@@ -1,8 +1,7 @@
 -- What the code of the roots asks.
-use Rattle.laws.proofs.Basics.{_≡_, refl, sym, ap, subst, _∙_, Bool, true, false, cond, inl, inr, ℕ, min, _+_, _*_, _/_, _%_, _^_, _≤_, _<_, arith, lt-leb}
+use Rattle.laws.proofs.Basics.{_≡_, refl, sym, ap, subst, _∙_, Bool, true, false, cond, inl, inr, ℕ, min, _+_, _*_, _/_, _%_, _^_, _≤_, _<_, arith}
 use native.Mathlib.Nat.{mod-eq-of-lt}
-use Rattle.selection.specs.Refusals.{rank, firstRefusal}
-use Rattle.selection.proofs.Rules.{WellFormed, not-most, clear}
+use Rattle.selection.proofs.Refusing.{firstRefusal, rank, WellFormed, cleared, clear-admits}
 use Rattle.selection.specs.declared.Admission.the-variants.{Admitted}
 use Rattle.division.specs.Format.{magnitude, negative, classOf}
 use Rattle.division.specs.Significands.{significandOf, FiniteNonzero}
@@ -15,8 +14,8 @@ use Rattle.division.specs.declared.format.Binary64Result.{Binary64Result
 use Rattle.division.specs.declared.format.Class.{Class}
 use Rattle.division.specs.declared.format.Class.the-variants.{Zero, Subnormal, Normal, Infinite, Nan}
 use Rattle.division.specs.declared.format.Scaled.{Scaled}
-use Rattle.division.specs.declared.binary64.ByClass.{ByClass}
-use Rattle.division.specs.declared.binary64.ByClass.the-variants.{Decided, Undecided}
+use Rattle.division.specs.declared.format.ByClass.{ByClass}
+use Rattle.division.specs.declared.format.ByClass.the-variants.{Decided, Undecided}
 use Rattle.division.specs.declared.root.RootState.{RootState}
 use Rattle.division.proofs.Quotient.{ScaledTo}
 use Rattle.division.proofs.Classes.{nonzero-operand}
@@ -82,8 +81,8 @@ root-rules a = record { sound = (tt, λ _. tt); in-order = tt }
 
 pub root-span : (a : ℕ) → firstRefusal (rootRules a) ≡ Admitted → a < 2 ^ 60
 unfolding rootRules
-root-span a e = not-most (λ h. clear (root-rules a) e 4 0 (inl (refl, (refl, h))))
+root-span a e = cleared (root-rules a) e .0
 
 pub root-clear : (a : ℕ) → a < 2 ^ 60 → firstRefusal (rootRules a) ≡ Admitted
 unfolding rootRules
-root-clear a h = simp (lt-leb (2 ^ 60) a h)
+root-clear a h = clear-admits (root-rules a) (h, tt)

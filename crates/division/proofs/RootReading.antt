@@ -2,8 +2,7 @@
 use Rattle.laws.proofs.Basics.{_≡_, _∙_, _↔_, ℕ, _*_, _^_, _≤_, _<_, arith}
 use lib.Pow.{pow-add}
 use Rattle.laws.proofs.Powers.{four-pow}
-use Rattle.division.specs.Rounded.{IsExponent}
-use Rattle.division.specs.Roots.{rootScale, rootPlace}
+use Rattle.division.proofs.Binary64Names.{IsExponent, rootScale, rootPlace}
 
 squared : (e : ℕ) → 4 ^ e ≡ 2 ^ e * 2 ^ e
 squared e = four-pow e ∙ pow-add 2 e e

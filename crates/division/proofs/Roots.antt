@@ -5,12 +5,8 @@ use lib.Pow.{pow-add, pow-pos, pow-mono}
 use Rattle.laws.proofs.Division.{le-or-lt}
 use Rattle.laws.proofs.Powers.{four-pow, by-digits}
 use Rattle.selection.specs.Answer.{refusal}
-use Rattle.division.specs.Rounding.{modeOf}
-use Rattle.division.specs.Computed.{roundedResult}
-use Rattle.division.specs.Roots.{rootScale, rootPlace, RoundedRoot}
-use Rattle.division.specs.RootSteps.{DigitsTaken, wholeRoot, finiteRoot}
+use Rattle.division.proofs.Binary64Names.{modeOf, roundedResult, rootScale, rootPlace, RoundedRoot, Scaled, DigitsTaken, wholeRoot, finiteRoot}
 use Rattle.division.specs.RootCalls.{rootValues}
-use Rattle.division.specs.declared.format.Scaled.{Scaled}
 use Rattle.division.specs.declared.root.RootAnswer.{RootAnswer}
 use Rattle.division.specs.declared.root.RootState.{RootState}
 use Rattle.division.proofs.Scales.{Increasing, greatest-meets, greatest-one}

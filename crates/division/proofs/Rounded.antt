@@ -1,15 +1,11 @@
 -- The answer that the definition gives for an exact magnitude is that magnitude rounded once, with document 01's overflow value, sign and flags: shown once for every scale.
 use Rattle.laws.proofs.Basics.{_≡_, refl, sym, ap, ap₂, subst, _∙_, Bool, false, cond, _&&_, ⊎-elim, ℕ, min, _+_, _-_, _*_, _/_, _%_, _^_, _≤_, _<_, arith, ltb, eqb, le-leb, eq-eqb, ne-eqb, lt-ltb, le-ltb}
 use native.Mathlib.Nat.{le-of-eq, le-trans, lt-of-lt-of-le}
-use Rattle.division.specs.declared.rounding.Mode.{Mode}
-use Rattle.division.specs.declared.rounding.Mode.the-variants.{Nearest, Toward, Away}
-use Rattle.division.specs.Rounding.{modeOf}
-use Rattle.division.specs.Rounded.{IsExponent, flagsOfResult, Rounded}
-use Rattle.division.specs.Computed.{roundedTo, tailAt, flagsOf, roundedResult, largest, unitsAt, roundedUnits, roundedAt, finiteRounded}
+use Rattle.division.proofs.Binary64Names.{modeOf, IsExponent, flagsOfResult, Rounded, roundedTo, tailAt, flagsOf, roundedResult, largest, unitsAt, roundedUnits, roundedAt, finiteRounded, Mode, Nearest, Toward, Away}
 use Rattle.laws.proofs.Division.{le-or-lt}
 use Rattle.division.proofs.Nearest.{mono, place, rounds, whole-units, halves}
 use Rattle.division.proofs.RoundedResults.{rounded-near}
-use Rattle.division.proofs.Meaning.{value-of, sign-of, field-of, word-of, flags-of-it, overflow-is}
+use Rattle.division.proofs.Meaning.{value-of, sign-of, field-of, word-of, flags-of-it}
 use Rattle.division.proofs.Scales.{Increasing, greatest-meets, greatest-one, order, beside, further, largest-meets, exponent-one, units-high, units-low}
 
 exact-none : (mode : Mode) (k : ℕ) → roundedTo mode k 0 ≡ k
@@ -55,9 +51,8 @@ module _ (scale : ℕ → ℕ → ℕ) (inc : Increasing scale) (m : ℕ) where
     flags-meant mode = ap₂ (λ (y z : Bool). cond y 0 (cond z 3 1)) (exact-test (scale e) (inc .up e) m k low high mode) tiny
 
     -- k whole units and the tail beyond them, roundedResult
-    pub result-rounds : (direction : ℕ) (s : Bool) → Rounded direction s scale m (roundedResult (modeOf direction s) s e k (tailAt (scale e) m k))
-    result-rounds direction s =
-        let mode = modeOf direction s in
+    pub result-rounds : (mode : Mode) (s : Bool) → Rounded mode s scale m (roundedResult mode s e k (tailAt (scale e) m k))
+    result-rounds mode s =
         let tail = tailAt (scale e) m k in
         let i = units-high scale inc m e k is low high in
         let j = units-low scale inc m e k is low high in
@@ -66,7 +61,7 @@ module _ (scale : ℕ → ℕ → ℕ) (inc : Increasing scale) (m : ℕ) where
           K = roundedTo mode k tail;
           exponent = is;
           rounded = rounds (scale e) (inc .up e) m k low high mode;
-          over = λ h. rw (le-leb _ _ h, ← overflow-is direction s) refl;
+          over = λ h. rw (le-leb _ _ h) refl;
           word = word-of mode s e k tail i j;
           value = value-of mode s e k tail i j;
           sign = sign-of mode s e k tail i j;
@@ -98,12 +93,12 @@ module _ (scale : ℕ → ℕ → ℕ) (inc : Increasing scale) (m : ℕ) where
   opened direction s = refl
 
   -- the definition's answer has the meaning
-  pub finite-rounded : (direction : ℕ) (s : Bool) → m < scale 3119 (2 ^ 54) → Rounded direction s scale m (finiteRounded direction s scale m)
+  pub finite-rounded : (direction : ℕ) (s : Bool) → m < scale 3119 (2 ^ 54) → Rounded (modeOf direction s) s scale m (finiteRounded direction s scale m)
   finite-rounded direction s h =
       let e = largest 3119 scale m in
       let is = largest-meets scale inc m 3119 h in
       let u = units-meet e is in
-      subst (Rounded direction s scale m) (sym (opened direction s)) (result-rounds e (unitsAt (scale e) m) is (u .0) (u .1) direction s)
+      subst (Rounded (modeOf direction s) s scale m) (sym (opened direction s)) (result-rounds e (unitsAt (scale e) m) is (u .0) (u .1) (modeOf direction s) s)
 
   -- any e and h in range, h the whole half units of 2^(e - 1074), and v as code has it, h with a sticky bit below, give the definition's answer
   pub finite-is : (direction : ℕ) (s : Bool) (e h v : ℕ) → e ≤ 3119 → scale e h ≤ m → m < scale e (h + 1) → 2 ^ 53 * min 1 e ≤ h → h < 2 ^ 54 → v ≡ 2 * h + min 1 (m - scale e h)

@@ -3,10 +3,7 @@ use Rattle.laws.proofs.Basics.{_≡_, refl, sym, ap, ap₂, subst, _∙_, Bool,
 use native.Mathlib.Nat.{mul-le-mul-left, mul-lt-mul-of-pos-right, eq-zero-or-pos, pow-suc, mul-div-cancel}
 use lib.Pow.{pow-pos, pow-mono}
 use Rattle.laws.proofs.Division.{le-or-lt}
-use Rattle.division.specs.Rounding.{modeOf, Rounds}
-use Rattle.division.specs.Format.{negative, field, fraction, magnitude}
-use Rattle.division.specs.Rounded.{flagsOfResult, Rounded}
-use Rattle.division.specs.declared.format.Binary64Result.{Binary64Result}
+use Rattle.division.proofs.Binary64Names.{negative, field, fraction, magnitude, Rounds, flagsOfResult, Rounded, Mode, Binary64Result}
 use Rattle.division.proofs.Nearest.{rounds-one}
 use Rattle.division.proofs.Scales.{Increasing, exponent-one}
 
@@ -56,13 +53,13 @@ pattern-one p q hp hq e s =
     go true i j f r = omega (arith, leb-true (2 ^ 63) p i, leb-true (2 ^ 63) q (sym j))
     go false i j f r = omega (arith, leb-false (2 ^ 63) p i, leb-false (2 ^ 63) q (sym j))
 
-module _ (direction : ℕ) (s : Bool) (scale : ℕ → ℕ → ℕ) (inc : Increasing scale) (m : ℕ) {x y : Binary64Result} (u : Rounded direction s scale m x) (v : Rounded direction s scale m y) where
+module _ (mode : Mode) (s : Bool) (scale : ℕ → ℕ → ℕ) (inc : Increasing scale) (m : ℕ) {x y : Binary64Result} (u : Rounded mode s scale m x) (v : Rounded mode s scale m y) where
   exponents : u .e ≡ v .e
   exponents = exponent-one scale inc m (u .e) (v .e) (u .exponent) (v .exponent)
 
   multiples : u .K ≡ v .K
-  multiples = rounds-one (scale (v .e)) (inc .up (v .e)) (modeOf direction s) m (u .K) (v .K)
-      (subst (λ (e : ℕ). Rounds (modeOf direction s) (scale e) m (u .K)) exponents (u .rounded)) (v .rounded)
+  multiples = rounds-one (scale (v .e)) (inc .up (v .e)) mode m (u .K) (v .K)
+      (subst (λ (e : ℕ). Rounds mode (scale e) m (u .K)) exponents (u .rounded)) (v .rounded)
 
   pub rounded-one : x ≡ y
   rounded-one = ⊎-elim

@@ -2,8 +2,7 @@
 use Rattle.laws.proofs.Basics.{_≡_, sym, ap, ⊎-elim, ℕ, zero, suc, min, _+_, _*_, _^_, _≤_, _<_, arith, le-leb, lt-leb}
 use native.Mathlib.Nat.{pow-suc, le-of-eq, le-refl, le-trans, eq-or-lt-of-le}
 use Rattle.laws.proofs.Division.{le-or-lt}
-use Rattle.division.specs.Rounded.{IsExponent}
-use Rattle.division.specs.Computed.{largest, greatest}
+use Rattle.division.proofs.Binary64Names.{IsExponent, largest, greatest}
 use Rattle.division.proofs.Nearest.{mono}
 
 -- half a unit taken more often lies further, from 0 on, and at the next exponent it is twice as much

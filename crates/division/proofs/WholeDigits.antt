@@ -1,7 +1,8 @@
 -- How many digits a whole-number division takes.
 use Rattle.laws.proofs.Basics.{_≡_, refl, ℕ, _+_, _-_, _*_, _/_, _^_, _≤_, _<_, arith}
+use Rattle.laws.specs.Shifts.{shiftTo}
 use lib.Count.{leadingZeros, leading-le, leading-length}
-use Rattle.division.specs.WholeSteps.{shiftTo, digitsAfter, shiftedRun, shiftedThrough}
+use Rattle.division.specs.WholeSteps.{digitsAfter, shiftedRun, shiftedThrough}
 use Rattle.division.specs.WholeDigits.{bits, TakesDigits, WholeDigits}
 use Rattle.division.proofs.WholeThrough.{room-above}
 

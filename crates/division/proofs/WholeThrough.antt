@@ -5,10 +5,11 @@ use lib.Count.{leadingZeros, leading-length}
 use lib.Pow.{pow-add, pow-mono, pow-pos}
 use Rattle.laws.proofs.Division.{scaled}
 use Rattle.laws.proofs.Powers.{four-pow, lifted, pow-cancel}
+use Rattle.laws.specs.Shifts.{shiftTo}
 use Rattle.selection.specs.Table.{Passes}
 use Rattle.recurrence.specs.Recurrence.{Operands, resultOf}
 use Rattle.recurrence.proofs.RunDemand.{result-divides}
-use Rattle.division.specs.WholeSteps.{shiftTo, digitsAfter, shiftedRun, shiftedThrough, wholeThrough}
+use Rattle.division.specs.WholeSteps.{digitsAfter, shiftedRun, shiftedThrough, wholeThrough}
 
 -- above a number below 2^60 there are four zeros at least; moved up by all of them but three, or by less, it stays in the dividend's span
 pub room-above : (a : ℕ) → a < 2 ^ 60 → (4 ≤ leadingZeros 64 a) × ((m : ℕ) → m ≤ shiftTo 60 a → a * 2 ^ m < 2 ^ 61)

@@ -10,10 +10,11 @@ use Rattle.division.specs.declared.format.Class.{Class}
 use Rattle.division.specs.declared.format.Class.the-variants.{Zero, Subnormal, Normal, Infinite, Nan}
 use Rattle.division.specs.declared.binary64.Case.{Case}
 use Rattle.division.specs.declared.binary64.Case.the-variants.{NotANumber, Invalid, ToInfinity, ByZero, ToZero, Finite}
-use Rattle.division.specs.declared.binary64.ByClass.{ByClass}
-use Rattle.division.specs.declared.binary64.ByClass.the-variants.{Decided, Undecided}
+use Rattle.division.specs.declared.format.ByClass.{ByClass}
+use Rattle.division.specs.declared.format.ByClass.the-variants.{Decided, Undecided}
 use Rattle.division.specs.Rounding.{modeOf}
-use Rattle.division.specs.Format.{signBit, magnitude, classOf, signalling, signOf, infinity, largestFinite, quietNan, inexactFlag, underflowFlag, overflowFlag, divisionByZeroFlag, invalidFlag}
+use Rattle.division.specs.Rounded.{overflowOf}
+use Rattle.division.specs.Format.{signBit, magnitude, classOf, signalling, signOf, infinity, quietNan, inexactFlag, underflowFlag, overflowFlag, divisionByZeroFlag, invalidFlag}
 use Rattle.division.specs.Ieee.{quotientScale, quotientPlace}
 
 -- ---- rounding, once for every operation that rounds
@@ -33,12 +34,6 @@ roundedTo Away k tail = cond (eqb tail 0) k (k + 1)
 -- the tail beyond k units, for a magnitude at m where half a unit taken j times lies at f j
 abbrev pub tailAt : (ℕ → ℕ) → ℕ → ℕ → ℕ
 tailAt f m k = cond (eqb m (f (2 * k))) 0 (cond (ltb m (f (2 * k + 1))) 1 (cond (eqb m (f (2 * k + 1))) 2 3))
-
--- what overflow gives: the largest finite number where the direction points toward zero, else infinity
-abbrev pub overflowOf : Mode → ℕ
-overflowOf Nearest = infinity
-overflowOf Toward = largestFinite
-overflowOf Away = infinity
 
 -- the flags of a result that does not overflow: 1 inexact; 2 underflow, if the exact magnitude is below 2^-1022 too
 abbrev pub flagsOf : ℕ → ℕ → ℕ → ℕ

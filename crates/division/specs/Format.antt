@@ -1,7 +1,13 @@
 -- The binary64 format, over whole numbers: document 01, "Binary64". What rounding to it means is said in specs/Rounded, and what division means in specs/Ieee.
+use mathlib.Core.Path.{_≡_}
+use mathlib.Core.Logic.{_⊎_}
 use Prim.Native.Nat.{ℕ, _+_, _-_, _*_, _/_, _%_, _^_}
 use mathlib.Core.Bool.{Bool, not, cond, _&&_, Bool·beq}
 use lib.Dec.{leb, ltb, eqb}
+use Rattle.selection.specs.Answer.{refusal}
+use Rattle.selection.specs.declared.Refusal.{Refusal}
+use Rattle.division.specs.declared.format.Binary64Result.{Binary64Result}
+use Rattle.division.specs.declared.format.Binary64Answer.{Binary64Answer}
 use Rattle.division.specs.declared.format.Class.{Class}
 use Rattle.division.specs.declared.format.Class.the-variants.{Zero, Subnormal, Normal, Infinite, Nan}
 
@@ -23,6 +29,13 @@ abbrev pub classOf : ℕ → Class
 classOf p =
     cond (eqb (field p) 0) (cond (eqb (fraction p) 0) Zero Subnormal)
     (cond (ltb (field p) 2047) Normal (cond (eqb (fraction p) 0) Infinite Nan))
+
+-- a pattern's class is one of those named
+abbrev pub IsNonzero : ℕ → Type 0
+IsNonzero p = (classOf p ≡ Subnormal) ⊎ (classOf p ≡ Normal)
+
+abbrev pub IsFinite : ℕ → Type 0
+IsFinite p = (classOf p ≡ Zero) ⊎ IsNonzero p
 
 -- a signalling not-a-number: the top fraction bit is 0, the fraction is not 0
 abbrev pub signalling : ℕ → Bool
@@ -61,3 +74,13 @@ invalidFlag = 16
 -- the sign is the exclusive or of the signs
 abbrev pub signOf : ℕ → ℕ → Bool
 signOf a b = not (Bool·beq (negative a) (negative b))
+
+-- ---- the answer of a call that gives a pattern and flags
+
+-- number and place of a refusal, and zeros
+abbrev pub binary64Zeros : Refusal → Binary64Answer
+binary64Zeros f = record { refusal = f; pattern = 0; flags = 0 }
+
+-- pattern and flags, and no refusal
+abbrev pub binary64Values : Binary64Result → Binary64Answer
+binary64Values x = record { refusal = refusal 0 0; pattern = x .pattern; flags = x .flags }

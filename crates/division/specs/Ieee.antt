@@ -3,10 +3,11 @@ use mathlib.Core.Path.{_≡_}
 use mathlib.Core.Bool.{Bool, cond, _||_}
 use mathlib.Core.Logic.{_⊎_}
 use Prim.Native.Nat.{ℕ, _+_, _*_, _^_}
-use Rattle.division.specs.Format.{signBit, magnitude, classOf, signalling, signOf, infinity, quietNan, divisionByZeroFlag, invalidFlag}
+use Rattle.division.specs.Format.{signBit, magnitude, classOf, IsNonzero, IsFinite, signalling, signOf, infinity, quietNan, divisionByZeroFlag, invalidFlag}
+use Rattle.division.specs.Rounding.{modeOf}
 use Rattle.division.specs.Rounded.{Rounded}
 use Rattle.division.specs.declared.format.Binary64Result.{Binary64Result}
-use Rattle.division.specs.declared.format.Class.the-variants.{Zero, Subnormal, Normal, Infinite, Nan}
+use Rattle.division.specs.declared.format.Class.the-variants.{Zero, Infinite, Nan}
 
 -- Half a unit of 2^(E - 52), which is 2^(e - 1075) for e = E + 1022, taken j times, against a/b for two magnitudes: both multiplied through by b and by 2^1075, so that j half units
 -- lie at j·(b·2^e) and a/b at 2·(a·2^1074)
@@ -18,14 +19,7 @@ quotientPlace a = 2 * (a * 2 ^ 1074)
 
 -- x is a/b for two magnitudes above 0, in units of 2^-1074, with the sign s, rounded once
 abbrev pub RoundedQuotient : ℕ → Bool → ℕ → ℕ → Binary64Result → Type 0
-RoundedQuotient direction s a b = Rounded direction s (quotientScale b) (quotientPlace a)
-
--- a pattern's class is one of those named
-abbrev pub IsNonzero : ℕ → Type 0
-IsNonzero p = (classOf p ≡ Subnormal) ⊎ (classOf p ≡ Normal)
-
-abbrev pub IsFinite : ℕ → Type 0
-IsFinite p = (classOf p ≡ Zero) ⊎ IsNonzero p
+RoundedQuotient direction s a b = Rounded (modeOf direction s) s (quotientScale b) (quotientPlace a)
 
 -- x is a / b
 pub record Ieee (direction a b : ℕ) (x : Binary64Result) : Type 0 where

@@ -15,10 +15,3 @@ pub mod Ratios
 pub mod Roots
 pub mod RootSteps
 pub mod RootCalls
-pub mod Demand1
-pub mod Demand2
-pub mod Demand3
-pub mod RootDemand
-pub mod PackedDemand
-pub mod RatioDemand
-pub mod BenchCases

@@ -7,11 +7,12 @@ use Prim.Native.Nat.{ℕ, zero, suc, _+_, _-_, _*_, _/_, _%_, _^_, _≤_, _<_}
 use lib.Dec.{ltb}
 use lib.ListN.{length, getD, replicate}
 use Rattle.laws.specs.Lists.{listFrom}
+use Rattle.laws.specs.Search.{firstFrom}
 use Rattle.selection.specs.Answer.{refusal, answerBy}
 use Rattle.selection.specs.Computed.{madeTable}
-use Rattle.selection.specs.Refusals.{Rule, same, firstFrom, number, numberFirst, firstRefusal}
+use Rattle.selection.specs.Refusals.{Rule, number, numberFirst, firstRefusal}
 use Rattle.selection.specs.declared.Refusal.{Refusal}
-use Rattle.division.specs.Whole.{wholeOf}
+use Rattle.division.specs.Whole.{zeroDivisor, wholeOf}
 use Rattle.division.specs.declared.whole.WholeAnswer.{WholeAnswer}
 use Rattle.division.specs.declared.packed.PackedAnswer.{PackedAnswer}
 
@@ -67,7 +68,7 @@ firstAbove9 xs ys = firstFrom (λ i. isAbove9 (operandByte xs ys i)) 0 16
 
 -- what is refused of the dividend xs and the divisor ys. 15: a half byte is above 9, place: the first such byte's index. 5: the divisor is 0
 unfoldable pub packedRules : List ℕ → List ℕ → List Rule
-packedRules xs ys = numberFirst 15 (λ i. Above9 (operandByte xs ys i)) (λ i. isAbove9 (operandByte xs ys i)) 16 ∷ number 5 (same (packedNumber ys) 0) ∷ []
+packedRules xs ys = numberFirst 15 (λ i. Above9 (operandByte xs ys i)) (λ i. isAbove9 (operandByte xs ys i)) 16 ∷ number 5 (zeroDivisor (packedNumber ys)) ∷ []
 
 -- number and place of a refusal, and zeros
 abbrev pub packedZeros : Refusal → PackedAnswer

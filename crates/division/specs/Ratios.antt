@@ -7,7 +7,8 @@ use Prim.Native.Nat.{ℕ, zero, suc, _*_, _/_, _%_, _^_, _<_}
 use lib.Dec.{ltb}
 use lib.IntN.{pos, negsuc}
 use Rattle.selection.specs.Answer.{refusal, answerBy}
-use Rattle.selection.specs.Refusals.{Rule, atMost, same, eitherOf, number, firstRefusal}
+use Rattle.selection.specs.Refusals.{Rule, eitherOf, number, firstRefusal}
+use Rattle.division.specs.Whole.{largeOperand, zeroDivisor}
 use Rattle.selection.specs.declared.Refusal.{Refusal}
 use Rattle.division.specs.declared.ratio.Comparison.{Comparison}
 use Rattle.division.specs.declared.ratio.Comparison.the-variants.{Less, Equal, Greater, Refused}
@@ -51,8 +52,8 @@ FoundIn (suc n) a b c d x = Round (a / b) (a % b) (c / d) (c % d) x (FoundIn n d
 -- what is refused. 4: any of them is 2^60 or more. 5: b or d is 0
 unfoldable pub ratiosRules : ℕ → ℕ → ℕ → ℕ → List Rule
 ratiosRules a b c d =
-    number 4 (eitherOf (atMost (2 ^ 60) a) (eitherOf (atMost (2 ^ 60) b) (eitherOf (atMost (2 ^ 60) c) (atMost (2 ^ 60) d))))
-    ∷ number 5 (eitherOf (same b 0) (same d 0))
+    number 4 (eitherOf (largeOperand a) (eitherOf (largeOperand b) (eitherOf (largeOperand c) (largeOperand d))))
+    ∷ number 5 (eitherOf (zeroDivisor b) (zeroDivisor d))
     ∷ []
 
 -- how one number compares with another

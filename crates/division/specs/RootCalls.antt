@@ -1,17 +1,19 @@
 -- Roots as a caller sees them: document 02, "Square roots".
 use mathlib.Core.List.{List, [], _∷_}
-use Prim.Native.Nat.{ℕ, _-_, _*_, _^_}
+use Prim.Native.Nat.{ℕ, _-_, _*_}
 use Rattle.selection.specs.Answer.{refusal, answerBy}
-use Rattle.selection.specs.Refusals.{Rule, atMost, number, firstRefusal}
+use Rattle.selection.specs.Refusals.{Rule, number, firstRefusal}
+use Rattle.division.specs.Whole.{largeOperand}
 use Rattle.selection.specs.declared.Refusal.{Refusal}
-use Rattle.division.specs.Binary64.{binary64Rules, binary64Zeros, binary64Values}
+use Rattle.division.specs.Rounding.{directionRules}
+use Rattle.division.specs.Format.{binary64Zeros, binary64Values}
 use Rattle.division.specs.RootSteps.{wholeRoot, rootOf}
-use Rattle.division.specs.declared.binary64.Binary64Answer.{Binary64Answer}
+use Rattle.division.specs.declared.format.Binary64Answer.{Binary64Answer}
 use Rattle.division.specs.declared.root.RootAnswer.{RootAnswer}
 
 -- what is refused of a whole number. 4: a is 2^60 or more
 unfoldable pub rootRules : ℕ → List Rule
-rootRules a = number 4 (atMost (2 ^ 60) a) ∷ []
+rootRules a = number 4 (largeOperand a) ∷ []
 
 -- number and place of a refusal, and zeros
 abbrev pub rootZeros : Refusal → RootAnswer
@@ -26,4 +28,4 @@ abbrev pub rootWholeOf : ℕ → RootAnswer
 rootWholeOf a = answerBy rootZeros (rootValues a (wholeRoot a)) (firstRefusal (rootRules a))
 
 abbrev pub rootBinary64Of : ℕ → ℕ → Binary64Answer
-rootBinary64Of direction p = answerBy binary64Zeros (binary64Values (rootOf direction p)) (firstRefusal (binary64Rules direction))
+rootBinary64Of direction p = answerBy binary64Zeros (binary64Values (rootOf direction p)) (firstRefusal (directionRules direction))

@@ -8,8 +8,8 @@ use Rattle.division.specs.Roots.{rootScale, rootPlace}
 use Rattle.division.specs.declared.format.Binary64Result.{Binary64Result}
 use Rattle.division.specs.declared.format.Class.{Class}
 use Rattle.division.specs.declared.format.Class.the-variants.{Zero, Subnormal, Normal, Infinite, Nan}
-use Rattle.division.specs.declared.binary64.ByClass.{ByClass}
-use Rattle.division.specs.declared.binary64.ByClass.the-variants.{Decided, Undecided}
+use Rattle.division.specs.declared.format.ByClass.{ByClass}
+use Rattle.division.specs.declared.format.ByClass.the-variants.{Decided, Undecided}
 use Rattle.division.specs.declared.root.RootState.{RootState}
 
 -- the digits of the root of m are taken down to the weight 2^k: the root so far is a multiple of it, and less than one more of it is left

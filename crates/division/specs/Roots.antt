@@ -3,9 +3,9 @@ use mathlib.Core.Path.{_≡_}
 use mathlib.Core.Bool.{true, false, cond}
 use mathlib.Core.Logic.{_⊎_}
 use Prim.Native.Nat.{ℕ, _+_, _*_, _^_, _≤_}
-use Rattle.division.specs.Format.{negative, magnitude, classOf, signalling, quietNan, invalidFlag}
+use Rattle.division.specs.Format.{negative, magnitude, classOf, signalling, quietNan, invalidFlag, IsNonzero}
+use Rattle.division.specs.Rounding.{modeOf}
 use Rattle.division.specs.Rounded.{IsExponent, Rounded}
-use Rattle.division.specs.Ieee.{IsNonzero}
 use Rattle.division.specs.declared.format.Binary64Result.{Binary64Result}
 use Rattle.division.specs.declared.format.Class.the-variants.{Zero, Normal, Infinite, Nan}
 
@@ -19,7 +19,7 @@ rootPlace a = 4 * (a * 2 ^ 1074)
 
 -- x is the root of a magnitude above 0, in units of 2^-1074, rounded once
 abbrev pub RoundedRoot : ℕ → ℕ → Binary64Result → Type 0
-RoundedRoot direction a = Rounded direction false rootScale (rootPlace a)
+RoundedRoot direction a = Rounded (modeOf direction false) false rootScale (rootPlace a)
 
 -- x is the root of p
 pub record IeeeRoot (direction p : ℕ) (x : Binary64Result) : Type 0 where

@@ -4,9 +4,15 @@
 use mathlib.Core.Path.{_≡_}
 use mathlib.Core.Logic.{_⊎_}
 use Prim.Native.Nat.{ℕ, zero, suc, _+_, _-_, _*_, _%_, _≤_, _<_}
-use mathlib.Core.Bool.{Bool, cond}
+use mathlib.Core.Bool.{Bool, true, false, cond}
+use mathlib.Core.List.{List, [], _∷_}
+use Rattle.selection.specs.Refusals.{Rule, below, number}
 use Rattle.division.specs.declared.rounding.Mode.{Mode}
 use Rattle.division.specs.declared.rounding.Mode.the-variants.{Nearest, Toward, Away}
+
+-- what a call that rounds refuses of its arguments. 6: direction above 3
+unfoldable pub directionRules : ℕ → List Rule
+directionRules direction = number 6 (below 3 direction) ∷ []
 
 -- direction 0 nearest, 1 toward zero, 2 toward plus infinity, 3 toward minus infinity; true is a negative sign. Above 3, which the calls refuse, it is read as 0
 abbrev pub modeOf : ℕ → Bool → Mode
@@ -15,6 +21,12 @@ modeOf (suc zero) s = Toward
 modeOf (suc (suc zero)) s = cond s Toward Away
 modeOf (suc (suc (suc zero))) s = cond s Away Toward
 modeOf (suc (suc (suc (suc d)))) s = Nearest
+
+-- the mode is toward zero
+abbrev pub pointsToZero : Mode → Bool
+pointsToZero Nearest = false
+pointsToZero Toward = true
+pointsToZero Away = false
 
 -- x units are the exact magnitude rounded
 pub record TowardZero (f : ℕ → ℕ) (m x : ℕ) : Type 0 where

@@ -2,8 +2,8 @@
 use mathlib.Core.Bool.{cond}
 use Prim.Native.Nat.{ℕ, _+_, _-_, _*_, _^_, _≤_, _<_}
 use lib.Dec.{eqb}
+use Rattle.laws.specs.Shifts.{shiftTo}
 use Rattle.division.specs.Format.{field, fraction, magnitude}
-use Rattle.division.specs.WholeSteps.{shiftTo}
 use Rattle.division.specs.declared.format.Scaled.{Scaled}
 
 -- the significand with its exponent

@@ -3,15 +3,27 @@ use mathlib.Core.List.{List, [], _∷_, _++_}
 use Prim.Native.Nat.{ℕ, _^_}
 use Rattle.selection.specs.Answer.{refusal, answerBy}
 use Rattle.selection.specs.Table.{tableRules}
-use Rattle.selection.specs.Refusals.{Rule, atMost, same, eitherOf, number, firstRefusal}
+use Rattle.selection.specs.Refusals.{Condition, Rule, atMost, same, eitherOf, number, firstRefusal}
 use Rattle.selection.specs.declared.Refusal.{Refusal}
 use Rattle.division.specs.WholeSteps.{wholeThrough}
 use Rattle.division.specs.declared.whole.WholeResult.{WholeResult}
 use Rattle.division.specs.declared.whole.WholeAnswer.{WholeAnswer}
 
+-- where the operands of whole-number division end, those of ratios and of a whole root too
+abbrev pub operandEnd : ℕ
+operandEnd = 2 ^ 60
+
+-- an operand that is 2^60 or more
+abbrev pub largeOperand : ℕ → Condition
+largeOperand a = atMost operandEnd a
+
+-- a divisor that is 0
+abbrev pub zeroDivisor : ℕ → Condition
+zeroDivisor b = same b 0
+
 -- what is refused of the arguments. 4: a or b is 2^60 or more. 5: b is 0
 unfoldable pub wholeRules : ℕ → ℕ → List Rule
-wholeRules a b = number 4 (eitherOf (atMost (2 ^ 60) a) (atMost (2 ^ 60) b)) ∷ number 5 (same b 0) ∷ []
+wholeRules a b = number 4 (eitherOf (largeOperand a) (largeOperand b)) ∷ number 5 (zeroDivisor b) ∷ []
 
 -- number and place of a refusal, and zeros
 abbrev pub wholeZeros : Refusal → WholeAnswer

@@ -2,14 +2,10 @@
 -- they give a / b and a % b.
 use mathlib.Core.List.{List}
 use Prim.Native.Nat.{ℕ, _+_, _-_, _*_, _/_, _^_}
-use lib.Count.{leadingZeros}
+use Rattle.laws.specs.Shifts.{shiftTo}
 use Rattle.recurrence.specs.Recurrence.{resultOf}
 use Rattle.recurrence.specs.declared.RunResult.{RunResult}
 use Rattle.division.specs.declared.whole.WholeResult.{WholeResult}
-
--- how far a 64-bit number is moved up for its leading one to stand at bit k
-abbrev pub shiftTo : ℕ → ℕ → ℕ
-shiftTo k b = leadingZeros 64 b - (63 - k)
 
 -- how many digits follow the first, where the divisor is moved up by s bits: each of them brings two of the s, and a is moved up by the rest, to bit 60 at most
 abbrev pub digitsAfter : ℕ → ℕ → ℕ

@@ -1,9 +1,11 @@
-// The binary64 format: fields, classes, significands, flags, and a result.
+// The binary64 format: fields, classes, significands, flags, a result, and an answer.
 ghost use mathlib.Core.Path.{_≡_};
 ghost use Prim.Native.Nat.{_-_, _*_, _^_, _<_};
-ghost use Rattle.division.specs.Format.{classOf, signalling, signOf, signBit};
+ghost use Rattle.laws.specs.Shifts.{shiftTo};
+ghost use Rattle.division.specs.Format.{classOf, signalling, signOf, signBit, binary64Zeros, binary64Values};
 ghost use Rattle.division.specs.Significands.{significandOf, FiniteNonzero, Normalized};
-ghost use Rattle.division.specs.WholeSteps.{shiftTo};
+use selection::NO_REFUSAL;
+use selection::Refusal;
 
 // The weight of a significand's leading one, which a normal pattern leaves out: below it stands the fraction field, from it on the exponent field.
 pub(crate) const HIDDEN_BIT: u64 = 0x10_0000_0000_0000;
@@ -36,6 +38,14 @@ pub struct Binary64Result {
     pub flags: u8,
 }
 
+// The answer, as C sees it: the refusal (0: none) and its place, the pattern and the sum of flags, zeros where the call refuses.
+#[repr(C)]
+pub struct Binary64Answer {
+    pub refusal: Refusal,
+    pub pattern: u64,
+    pub flags: u64,
+}
+
 // The class of a pattern.
 pub enum Class {
     Zero,
@@ -43,6 +53,12 @@ pub enum Class {
     Normal,
     Infinite,
     Nan,
+}
+
+// What the operands' classes lead to: an answer, or that a number is to be rounded.
+pub(crate) enum ByClass {
+    Decided(Binary64Result),
+    Undecided,
 }
 
 // A finite magnitude other than 0, its significand moved up to 53 bits: sig * 2^exp units of 2^-1126.
@@ -128,5 +144,27 @@ pub(crate) fn significand(p: u64) -> Scaled
     Scaled {
         sig: HIDDEN_BIT + fraction,
         exp: exponent + 51,
+    }
+}
+
+// A refused answer.
+pub(crate) fn zeros(f: Refusal) -> Binary64Answer
+    ensures { λ r. ⌜ r ≡ binary64Zeros f ⌝ }
+{
+    Binary64Answer {
+        refusal: f,
+        pattern: 0,
+        flags: 0,
+    }
+}
+
+// An answer that is not refused.
+pub(crate) fn values(x: Binary64Result) -> Binary64Answer
+    ensures { λ r. ⌜ r ≡ binary64Values x ⌝ }
+{
+    Binary64Answer {
+        refusal: NO_REFUSAL,
+        pattern: x.pattern,
+        flags: x.flags as u64,
     }
 }

@@ -5,6 +5,7 @@ ghost use Rattle.selection.specs.Answer.{refusal};
 ghost use Rattle.division.specs.Packed.{twoDigits, packedNumber, packedBytes, operandByte, isAbove9, firstAbove9, packedZeros, packedValues, packedOf};
 use crate::whole::WholeAnswer;
 use crate::whole::divide_whole_kept;
+use selection::NO_REFUSAL;
 use selection::Refusal;
 
 // The answer, as C sees it: the refusal (0: none) and its place, quotient and remainder in bytes, zeros where the call refuses.
@@ -101,10 +102,7 @@ fn values(x: WholeAnswer) -> PackedAnswer
     let quotient = bytes_of(x.quotient);
     let remainder = bytes_of(x.remainder);
     PackedAnswer {
-        refusal: Refusal {
-            number: 0,
-            place: 0,
-        },
+        refusal: NO_REFUSAL,
         quotient,
         remainder,
     }

@@ -7,6 +7,7 @@ ghost use Rattle.division.specs.Ratios.{Ratios, comparisonOf, ratiosRule
 use crate::whole::OPERAND_END;
 use crate::whole::divide_kept;
 use selection::Admission;
+use selection::NO_REFUSAL;
 use selection::Refusal;
 use selection::refused;
 
@@ -101,10 +102,7 @@ fn comparison_number(order: i64) -> ComparisonNumbers
     ensures { λ r. ⌜ r ≡ record { refusal = refusal 0 0; order = order } ⌝ }
 {
     ComparisonNumbers {
-        refusal: Refusal {
-            number: 0,
-            place: 0,
-        },
+        refusal: NO_REFUSAL,
         order,
     }
 }

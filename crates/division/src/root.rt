@@ -7,10 +7,9 @@ ghost use Rattle.division.specs.Format.{magnitude};
 ghost use Rattle.division.specs.Significands.{FiniteNonzero};
 ghost use Rattle.division.specs.RootSteps.{DigitsTaken, wholeRoot, finiteRoot, unlessNegative, rootByClass, rootOf};
 ghost use Rattle.division.specs.RootCalls.{rootRules, rootValues, rootWholeOf, rootBinary64Of};
-use crate::binary64::Binary64Answer;
-use crate::binary64::ByClass;
-use crate::binary64::with_sticky;
+use crate::format::Binary64Answer;
 use crate::format::Binary64Result;
+use crate::format::ByClass;
 use crate::format::Class;
 use crate::format::INVALID;
 use crate::format::QUIET_NAN;
@@ -20,7 +19,10 @@ use crate::format::signalling;
 use crate::format::significand;
 use crate::rounding::mode_of;
 use crate::rounding::rounded_result;
+use crate::rounding::with_sticky;
+use crate::whole::OPERAND_END;
 use selection::Admission;
+use selection::NO_REFUSAL;
 use selection::Refusal;
 use selection::refused;
 use std::num::wrapping_sub_u64;
@@ -87,7 +89,7 @@ fn root_digits(radicand: u64, first: u64, last: u64) -> RootState
 fn refusal_of(a: u64) -> Admission
     ensures { λ r. ⌜ r ≡ firstRefusal (rootRules a) ⌝ }
 {
-    if 0x1000_0000_0000_0000 <= a {
+    if OPERAND_END <= a {
         return refused(4);
     }
     Admission::Admitted
@@ -100,10 +102,7 @@ fn values(a: u64) -> RootAnswer
 {
     let state = root_digits(a, 60, 30);
     RootAnswer {
-        refusal: Refusal {
-            number: 0,
-            place: 0,
-        },
+        refusal: NO_REFUSAL,
         root: state.twice >> 31,
         remainder: state.rest >> 30,
     }
@@ -187,9 +186,9 @@ fn root(p: u64, direction: u64) -> Binary64Result
 pub fn root_binary64(a: u64, direction: u64) -> Binary64Answer
     ensures { λ r. ⌜ r ≡ rootBinary64Of direction a ⌝ }
 {
-    let admission = crate::binary64::refusal_of(direction);
+    let admission = crate::rounding::refusal_of(direction);
     match admission {
-        Admission::Refused(f) => crate::binary64::zeros(f),
-        Admission::Admitted => crate::binary64::values(root(a, direction)),
+        Admission::Refused(f) => crate::format::zeros(f),
+        Admission::Admitted => crate::format::values(root(a, direction)),
     }
 }

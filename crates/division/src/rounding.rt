@@ -1,8 +1,10 @@
 // Rounding, once for every operation that rounds: a magnitude in whole units and a tail to a pattern and its flags.
 ghost use mathlib.Core.Path.{_≡_};
-ghost use Prim.Native.Nat.{min, _*_, _^_, _≤_, _<_};
-ghost use Rattle.division.specs.Rounding.{modeOf};
-ghost use Rattle.division.specs.Computed.{roundedTo, overflowOf, flagsOf, roundedResult};
+ghost use Prim.Native.Nat.{min, _+_, _*_, _^_, _≤_, _<_};
+ghost use Rattle.selection.specs.Refusals.{firstRefusal};
+ghost use Rattle.division.specs.Rounding.{directionRules, modeOf};
+ghost use Rattle.division.specs.Computed.{roundedTo, flagsOf, roundedResult};
+ghost use Rattle.division.specs.Rounded.{overflowOf};
 use crate::format::Binary64Result;
 use crate::format::HIDDEN_BIT;
 use crate::format::INEXACT;
@@ -11,12 +13,24 @@ use crate::format::LARGEST_FINITE;
 use crate::format::OVERFLOW;
 use crate::format::UNDERFLOW;
 use crate::format::sign_bit;
+use selection::Admission;
+use selection::refused;
 
 // What a direction means for a magnitude.
-pub(crate) enum Mode {
+pub enum Mode {
     Nearest,
     Toward,
     Away,
+}
+
+// The refusal of a direction above 3.
+pub(crate) fn refusal_of(direction: u64) -> Admission
+    ensures { λ r. ⌜ r ≡ firstRefusal (directionRules direction) ⌝ }
+{
+    if 3 < direction {
+        return refused(6);
+    }
+    Admission::Admitted
 }
 
 // A direction, for a sign.
@@ -30,6 +44,14 @@ pub(crate) fn mode_of(direction: u64, negative: bool) -> Mode
         2 => { if negative { Mode::Toward } else { Mode::Away } }
         _ => { if negative { Mode::Away } else { Mode::Toward } }
     }
+}
+
+// Twice q, and 1 more where r says that something is left.
+pub(crate) fn with_sticky(q: u64, r: u64) -> u64
+    requires { ⌜ q < 2 ^ 60 ⌝ }
+    ensures { λ x. ⌜ x ≡ 2 * q + min 1 r ⌝ }
+{
+    if r == 0 { 2 * q } else { 2 * q + 1 }
 }
 
 // k units and a tail, rounded to whole units.

@@ -2,15 +2,17 @@
 ghost use mathlib.Core.Path.{_≡_};
 ghost use mathlib.Core.List.{List};
 ghost use Prim.Native.Nat.{ℕ, _+_, _-_, _*_, _/_, _^_, _≤_, _<_};
+ghost use Rattle.laws.specs.Shifts.{shiftTo};
 ghost use Rattle.selection.specs.Cell as Cell;
 ghost use Rattle.selection.specs.Computed.{madeTable};
 ghost use Rattle.selection.specs.Table.{Passes, rowBytes};
 ghost use Rattle.selection.specs.Refusals.{firstRefusal};
 ghost use Rattle.recurrence.specs.Row.{Row};
-ghost use Rattle.division.specs.WholeSteps.{shiftTo, digitsAfter, shiftedRun, shiftedThrough, wholeThrough};
+ghost use Rattle.division.specs.WholeSteps.{digitsAfter, shiftedRun, shiftedThrough, wholeThrough};
 ghost use Rattle.division.specs.Whole.{wholeRules, wholeZeros, wholeValues, wholeOf};
 use recurrence::RunResult;
 use selection::Admission;
+use selection::NO_REFUSAL;
 use selection::Refusal;
 use selection::refused;
 
@@ -81,8 +83,7 @@ fn divide(table: &[u8], a: u64, b: u64) -> WholeResult
 {
     let s = shift_of(b);
     let d = b << s;
-    let start = selection::table::row_start(d);
-    shifted(&table[start..start + 128], a, d, s)
+    shifted(selection::table::row_of(table, d), a, d, s)
 }
 
 // The same through the kept table.
@@ -128,10 +129,7 @@ fn values(x: WholeResult) -> WholeAnswer
     ensures { λ r. ⌜ r ≡ wholeValues x ⌝ }
 {
     WholeAnswer {
-        refusal: Refusal {
-            number: 0,
-            place: 0,
-        },
+        refusal: NO_REFUSAL,
         quotient: x.quotient,
         remainder: x.remainder,
     }

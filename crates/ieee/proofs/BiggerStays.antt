@@ -1,7 +1,7 @@
 -- Bigger stays bigger: over one divisor above zero and in one direction, a greater dividend never has a smaller answer. The order is the logic's, so zeros of either
 -- sign are equal.
 use Rattle.laws.proofs.Basics.{_≡_, refl, ap, subst, _∙_, Bool, true, false, not, Bool·beq, ℕ, _*_, _^_, _≤_, _<_, zero-le, arith, T, ltb→lt}
-use native.Mathlib.Nat.{mul-pos, mul-le-mul-left, mul-le-mul-right}
+use native.Mathlib.Nat.{add-le-add, mul-pos, mul-le-mul-left, mul-le-mul-right}
 use lib.IntN.{ℤ}
 use lib.Ieee.{Float, nan, inf, fin, le}
 use lib.Ieee.Fits.{up-pos}
@@ -9,12 +9,15 @@ use lib.Ieee.Scale.{finite}
 use lib.Ieee.Positive.{num, positive}
 use Rattle.division.specs.declared.format.Binary64Result.{Binary64Result}
 use Rattle.division.specs.Format.{negative, magnitude, signOf}
+use Rattle.division.specs.Rounding.{modeOf}
 use Rattle.division.specs.Ieee.{quotientScale, quotientPlace, RoundedQuotient, Ieee}
 use Rattle.division.proofs.Quotient.{quotient-increasing}
 use Rattle.ieee.specs.LanguageQuotient.{valueOf}
 use Rattle.ieee.proofs.LanguageOrder.{SignedLe}
 use Rattle.ieee.proofs.Operands.{seen, seen-some, finite-le, quotient-rounded}
-use Rattle.ieee.proofs.AnswerUnits.{is-le, answered, rounded-stands, units-mono, units-none}
+use Rattle.ieee.proofs.ExactQuotients.{kept-sign}
+use Rattle.ieee.proofs.AnswerUnits.{is-le, answered, rounded-stands, units-mono}
+use Rattle.ieee.proofs.Directions.{no-more}
 
 -- a divisor above zero
 positive-num : (x : Float) → T (positive x) → 0 < num x
@@ -30,26 +33,19 @@ positive-sign p h = let n = seen-some p (positive-num (valueOf p) h) .0 .number 
     plus true m e t = absurd t
     plus false m e t = refl
 
-kept-sign : (s : Bool) → not (Bool·beq s false) ≡ s
-kept-sign true = refl
-kept-sign false = refl
-
 -- ±a and ±b over d, rounded
 module _ (direction d : ℕ) (h : 0 < d) where
-  places : (a b : ℕ) → a ≤ b → quotientPlace a ≤ quotientPlace b
-  places a b l = mul-le-mul-left 2 (mul-le-mul-right (2 ^ 1074) l)
-
   units : (s : Bool) (a b : ℕ) {x y : Binary64Result} → a ≤ b → (u : RoundedQuotient direction s a d x) (v : RoundedQuotient direction s b d y)
-      → answered direction s (u .K * 2 ^ u .e) ≤ answered direction s (v .K * 2 ^ v .e)
-  units s a b l u v = units-mono (quotientScale d) (quotient-increasing d h) (quotientPlace a) (quotientPlace b) (places a b l) u v
+      → answered (modeOf direction s) (u .K * 2 ^ u .e) ≤ answered (modeOf direction s) (v .K * 2 ^ v .e)
+  units s a b l u v = units-mono (quotientScale d) (quotient-increasing d h) (quotientPlace a) (quotientPlace b) (mul-le-mul-left 2 (mul-le-mul-right (2 ^ 1074) l)) u v
 
-  none : (s : Bool) (a : ℕ) {x : Binary64Result} → a ≡ 0 → (u : RoundedQuotient direction s a d x) → answered direction s (u .K * 2 ^ u .e) ≡ 0
-  none s a e u = units-none (quotientScale d) (quotient-increasing d h) (ap quotientPlace e) u
+  none : (s : Bool) (a : ℕ) {x : Binary64Result} → a ≡ 0 → (u : RoundedQuotient direction s a d x) → answered (modeOf direction s) (u .K * 2 ^ u .e) ≤ 0
+  none s a e u = no-more a d h u 0 (omega arith) (rw e zero-le)
 
   signs-mono : (s t : Bool) (a b : ℕ) {x y : Binary64Result} (u : RoundedQuotient direction s a d x) (v : RoundedQuotient direction t b d y) → SignedLe s a t b
-      → SignedLe s (answered direction s (u .K * 2 ^ u .e)) t (answered direction t (v .K * 2 ^ v .e))
+      → SignedLe s (answered (modeOf direction s) (u .K * 2 ^ u .e)) t (answered (modeOf direction t) (v .K * 2 ^ v .e))
   signs-mono false false a b u v l = units false a b l u v
-  signs-mono false true a b u v l = rw (none false a (omega arith) u, none true b (omega arith) v) (omega arith)
+  signs-mono false true a b u v l = add-le-add (none false a (omega arith) u) (none true b (omega arith) v)
   signs-mono true false a b u v l = zero-le
   signs-mono true true a b u v l = units true b a l v u
 

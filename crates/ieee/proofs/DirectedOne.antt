@@ -28,7 +28,7 @@ module _ (p q : ℕ) (h : p < 2 ^ 64) (k : q < 2 ^ 64) (l : T (le (valueOf p) (v
       let le-units = le-signed (2 ^ 1074) (2 ^ 2098) (pow-pos 1074) (pow-pos 2098) in
       let m = le-units (valueOf p) (valueOf q) (negative p) (negative q) (magnitude p) (magnitude q) i j f g l in
       let n = le-units (valueOf q) (valueOf p) (negative q) (negative p) (magnitude q) (magnitude p) j i g f r in
-      pattern-one p q h k (signed-both (negative p) (negative q) (magnitude p) (magnitude q) e m n) e
+      pattern-one p q h k (signed-both (negative q) (magnitude p) (magnitude q) .1 (rw e at m, rw e at n)) e
 
   level-one : p ≡ q
   unfolding le isNan

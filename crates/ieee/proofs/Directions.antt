@@ -1,228 +1,120 @@
 -- Of directions 2 and 3 the answer is the exact quotient rounded up and down, among all values of the format; of direction 1 it is the one that the sign asks for.
-use Rattle.laws.proofs.Basics.{_≡_, refl, sym, ap, subst, _∙_, Bool, true, false, ⊎-elim, ℕ, zero, suc, _+_, _-_, _*_, _^_, _≤_, _<_, zero-le, arith, T, le-leb, lt-leb}
-use native.Mathlib.Nat.{add-comm, le-of-eq, le-of-lt, le-refl, le-trans, lt-of-le-of-lt, not-le-of-lt, mul-pos, mul-le-mul-right, mul-lt-mul-of-pos-right}
-use lib.Pow.{pow-pos, pow-add}
-use lib.Ieee.{Float, nan, inf, fin, le}
+use Rattle.laws.proofs.Basics.{_≡_, refl, sym, subst, _∙_, Bool, true, false, cond, ⊎-elim, ℕ, zero, suc, _+_, _*_, _%_, _^_, _≤_, _<_, zero-le, arith, T, le-leb, lt-leb}
+use native.Mathlib.Nat.{le-of-lt, le-refl, le-trans, lt-of-le-of-lt, not-le-of-lt, mul-le-mul-left, mul-le-mul-right}
+use lib.Ieee.{Float, nan, inf, fin}
 use lib.Ieee.Scale.{finite}
 use lib.Ieee.Positive.{num}
 use Rattle.laws.proofs.Division.{le-or-lt}
 use Rattle.division.specs.declared.format.Binary64Result.{Binary64Result}
-use Rattle.division.specs.Format.{negative, field, magnitude, signOf}
-use Rattle.division.specs.Rounding.{TowardZero, AwayFromZero}
-use Rattle.division.specs.Rounded.{pointsToZero, IsExponent}
+use Rattle.division.specs.Format.{negative, field, magnitude, signBit, signOf}
+use Rattle.division.specs.declared.rounding.Mode.{Mode}
+use Rattle.division.specs.declared.rounding.Mode.the-variants.{Toward, Away}
+use Rattle.division.specs.Rounding.{modeOf}
+use Rattle.division.specs.Rounded.{Rounded}
 use Rattle.division.specs.Ieee.{quotientScale, quotientPlace, RoundedQuotient, Ieee}
 use Rattle.division.proofs.Quotient.{quotient-increasing}
 use Rattle.ieee.specs.LanguageQuotient.{valueOf}
-use Rattle.ieee.specs.Directions.{signIn, quotientSign, AtMostQuotient, AtLeastQuotient, RoundedDown, RoundedUp, RoundedToZero, RoundedIn, Directed}
+use Rattle.ieee.specs.Directions.{RoundedToZero, RoundedIn, Directed}
 use Rattle.ieee.proofs.LanguageQuotient.{nearest-quotient}
-use Rattle.ieee.proofs.LanguageOrder.{SignedLe, least-infinity, greatest-infinity}
-use Rattle.ieee.proofs.Operands.{Is, top, top-below, magnitude-top, digits, seen, seen-some, finite-stands, quotient-rounded}
-use Rattle.ieee.proofs.AnswerUnits.{is-le, is-sign, coarser, doubled, capped, answered, rounded-stands, rounded-word, units-small, units-wide}
-use Rattle.ieee.proofs.QuotientOrder.{sign-seen, at-most-units, at-least-units, under-quotient, over-quotient}
+use Rattle.ieee.proofs.LanguageOrder.{SignedLe, turned}
+use Rattle.ieee.proofs.Operands.{top, top-below, magnitude-top, seen, seen-some, finite-stands, exact-rounded, exact-kept, quotient-rounded}
+use Rattle.ieee.proofs.AnswerUnits.{Before, before, infinity-before, is-sign, capped, answered, rounded-stands, rounded-word, units-small, units-mono}
+use Rattle.ieee.proofs.QuotientOrder.{Beside, at-most, at-least, sign-seen, units, beside}
 
--- ---- among whole units; n stands for the dividend's units, p and q for powers of exponents
-
-fewer : (j K b p n : ℕ) → j * p * b ≤ n → 2 * n < (2 * K + 2) * (b * p) → j * p ≤ K * p
-fewer j K b p n h g = ⊎-elim
-    (λ (l : j ≤ K). mul-le-mul-right p l)
-    (λ (l : K < j). absurd (omega (arith, mul-le-mul-right (b * p) l)))
-    (le-or-lt j K)
-
-enough : (j K b p n : ℕ) → (0 < K → (2 * K - 2) * (b * p) < 2 * n) → n ≤ j * p * b → K * p ≤ j * p
-enough j K b p n h g = ⊎-elim
-    (λ (l : K ≤ j). mul-le-mul-right p l)
-    (λ (l : j < K). absurd (less (2 * K - 2) (omega arith) (h (omega arith))))
-    (le-or-lt K j)
-  where
-    less : (q : ℕ) → 2 * j ≤ q → q * (b * p) < 2 * n → ⊥
-    less q i k = omega (arith, mul-le-mul-right (b * p) i)
-
-beyond-all : (n b k p q : ℕ) → 2 ^ 53 * (b * q) ≤ 2 * n → n ≤ k * p * b → k * (p * b) < 2 ^ 53 * (p * b) → p * 2 * b ≤ q * b → ⊥
-beyond-all n b k p q h i j l = omega arith
-
-pub under-of : (K b p n : ℕ) → 2 * K * (b * p) ≤ 2 * n → K * p * b ≤ n
-under-of K b p n h = omega arith
-
-over-of : (K b p n : ℕ) → 2 * n ≤ 2 * K * (b * p) → n ≤ K * p * b
-over-of K b p n h = omega arith
-
-nothing : (n b m c : ℕ) → 0 < b → n * b + m * c ≤ 0 → n ≡ 0
-nothing n b m c h g = omega (arith, mul-le-mul-right n h)
-
--- k units of 2^(f - 1074), 53 bits of them, against the quotient's K units of 2^(e - 1074)
-module _ (a b e K f k : ℕ) (h : 0 < b) (x : IsExponent (quotientScale b) (quotientPlace a) e) (l : k < 2 ^ 53) where
-  finer : e ≤ f → k * 2 ^ f ≡ k * 2 ^ (f - e) * 2 ^ e
-  finer g = let w : f ≡ f - e + e = omega arith in ap (λ (n : ℕ). k * 2 ^ n) w ∙ ap (λ (n : ℕ). k * n) (pow-add 2 (f - e) e) ∙ omega arith
-
-  greatest : (0 < e → 2 ^ 52 ≤ K) → TowardZero (quotientScale b e) (quotientPlace a) K → k * 2 ^ f * b ≤ a * 2 ^ 1074 → k * 2 ^ f ≤ K * 2 ^ e
-  greatest m r y = ⊎-elim
-      (λ (g : e ≤ f). rw (finer g) (fewer (k * 2 ^ (f - e)) K b (2 ^ e) (a * 2 ^ 1074) (subst (λ (n : ℕ). n * b ≤ a * 2 ^ 1074) (finer g) y) (r .next)))
-      (λ (g : f < e). coarser k K (2 ^ f) (2 ^ e) (mul-le-mul-right (2 ^ f) (le-of-lt l)) (mul-le-mul-right (2 ^ e) (m (omega arith))) (doubled g))
-      (le-or-lt e f)
-
-  least : AwayFromZero (quotientScale b e) (quotientPlace a) K → a * 2 ^ 1074 ≤ k * 2 ^ f * b → K * 2 ^ e ≤ k * 2 ^ f
-  least r y = ⊎-elim
-      (λ (g : e ≤ f). rw (finer g) (enough (k * 2 ^ (f - e)) K b (2 ^ e) (a * 2 ^ 1074) (r .last) (subst (λ (n : ℕ). a * 2 ^ 1074 ≤ n * b) (finer g) y)))
-      (λ (g : f < e). absurd (beyond-all (a * 2 ^ 1074) b k (2 ^ f) (2 ^ e) (x .reached (omega arith)) y (mul-lt-mul-of-pos-right l (mul-pos (pow-pos f) h)) (mul-le-mul-right b (doubled g))))
-      (le-or-lt e f)
+halves : (K b p n : ℕ) → (2 * K * (b * p) ≤ 2 * n → K * p * b ≤ n) × (2 * n ≤ 2 * K * (b * p) → n ≤ K * p * b)
+halves K b p n = (λ h. omega arith, λ h. omega arith)
 
 -- ---- with overflow
-capped-top : (M t v : ℕ) → (v < M → v ≤ t) → capped M t true v ≤ t
-capped-top M t v h = ⊎-elim (λ (g : M ≤ v). rw (le-leb M v g) (le-refl t)) (λ (g : v < M). rw (lt-leb M v g) (h g)) (le-or-lt M v)
+capped-low : (M t v : ℕ) → t ≤ M → (v < M → v ≤ t) → (capped M t true v ≤ t) × (capped M t true v ≤ v)
+capped-low M t v l h = ⊎-elim (λ (g : M ≤ v). rw (le-leb M v g) (le-refl t, omega arith)) (λ (g : v < M). rw (lt-leb M v g) (h g, le-refl v)) (le-or-lt M v)
 
-capped-under : (M t v : ℕ) → t ≤ M → capped M t true v ≤ v
-capped-under M t v l = ⊎-elim (λ (g : M ≤ v). rw (le-leb M v g) (omega arith)) (λ (g : v < M). rw (lt-leb M v g) (le-refl v)) (le-or-lt M v)
+capped-high : (M t v : ℕ) → capped M t false v < M → v ≤ capped M t false v
+capped-high M t v = ⊎-elim (λ (g : M ≤ v). rw (le-leb M v g) (λ h. absurd (omega arith))) (λ (g : v < M). rw (lt-leb M v g) (λ h. le-refl v)) (le-or-lt M v)
 
-capped-over : (M t v : ℕ) → capped M t false v < M → v ≤ capped M t false v
-capped-over M t v = ⊎-elim (λ (g : M ≤ v). rw (le-leb M v g) (λ h. absurd (omega arith))) (λ (g : v < M). rw (lt-leb M v g) (λ h. le-refl v)) (le-or-lt M v)
+-- with the sign s, N units are at most ±a / b; an infinity has 2^2098
+record Under (s : Bool) (a b N : ℕ) : Type 0 where
+  infinite : N ≡ 2 ^ 2098 → T s
+  finite : N < 2 ^ 2098 → SignedLe s (N * b) s (a * 2 ^ 1074)
 
-capped-greatest : (M t n v : ℕ) → n ≤ t → n ≤ v → n ≤ capped M t true v
-capped-greatest M t n v h k = ⊎-elim (λ (g : M ≤ v). rw (le-leb M v g) h) (λ (g : v < M). rw (lt-leb M v g) k) (le-or-lt M v)
+module _ (s : Bool) (a b : ℕ) {x : Binary64Result} where
+  toward : (u : Rounded Toward s (quotientScale b) (quotientPlace a) x) → Under false a b (answered Toward (u .K * 2 ^ u .e))
+  toward u =
+      let l = capped-low (2 ^ 2098) top (u .K * 2 ^ u .e) (le-of-lt top-below) (units-small u) in
+      record {
+        infinite = λ e. not-le-of-lt top-below (subst (λ (n : ℕ). n ≤ top) e (l .0));
+        finite = λ g. le-trans (mul-le-mul-right b (l .1)) (halves (u .K) b (2 ^ u .e) (a * 2 ^ 1074) .0 (u .rounded .under));
+      }
 
-capped-least : (M t n v : ℕ) → n < M → v ≤ n → capped M t false v ≤ n
-capped-least M t n v h k = rw (lt-leb M v (lt-of-le-of-lt k h)) k
+  away : (u : Rounded Away s (quotientScale b) (quotientPlace a) x) → Under true a b (answered Away (u .K * 2 ^ u .e))
+  away u = record {
+    infinite = λ e. tt;
+    finite = λ g. le-trans (halves (u .K) b (2 ^ u .e) (a * 2 ^ 1074) .1 (u .rounded .over)) (mul-le-mul-right b (capped-high (2 ^ 2098) top _ g));
+  }
 
--- N units are the greatest of the format that are at most a / b, or the least that are at least it; an infinity has 2^2098
-record Below (a b N : ℕ) : Type 0 where
-  largest : N ≤ top
-  under : N * b ≤ a * 2 ^ 1074
-  greatest : (p : ℕ) → field p < 2047 → magnitude p * b ≤ a * 2 ^ 1074 → magnitude p ≤ N
+-- down, and where r is true up, which is down with the signs turned
+under : (r s : Bool) (a b : ℕ) {x : Binary64Result} (u : RoundedQuotient (cond r 2 3) s a b x) → Under (turned r s) a b (answered (modeOf (cond r 2 3) s) (u .K * 2 ^ u .e))
+under true true a b u = toward true a b u
+under true false a b u = away false a b u
+under false true a b u = away true a b u
+under false false a b u = toward false a b u
 
-record Above (a b N : ℕ) : Type 0 where
-  over : N < 2 ^ 2098 → a * 2 ^ 1074 ≤ N * b
-  least : (p : ℕ) → field p < 2047 → a * 2 ^ 1074 ≤ magnitude p * b → N ≤ magnitude p
+-- in every direction, a value of the format on one side of the quotient stays there
+module _ {mode : Mode} {s : Bool} (a b : ℕ) {x : Binary64Result} (h : 0 < b) (u : Rounded mode s (quotientScale b) (quotientPlace a) x) (p : ℕ) (f : field p < 2047) where
+  abbrev exact : Rounded mode s (quotientScale b) (2 * (magnitude p * b)) (record { pattern = signBit s + p % 2 ^ 63; flags = 0 })
+  exact = exact-rounded mode s b p h f
 
-module _ (d : ℕ) (s : Bool) (a b : ℕ) {x : Binary64Result} (h : 0 < b) (u : RoundedQuotient d s a b x) where
-  toward : TowardZero (quotientScale b (u .e)) (quotientPlace a) (u .K) → pointsToZero d s ≡ true → Below a b (answered d s (u .K * 2 ^ u .e))
-  toward r z = rw z (record {
-    largest = capped-top (2 ^ 2098) top (u .K * 2 ^ u .e) (units-small u);
-    under = le-trans (mul-le-mul-right b (capped-under (2 ^ 2098) top (u .K * 2 ^ u .e) (le-of-lt top-below))) (under-of (u .K) b (2 ^ u .e) (a * 2 ^ 1074) (r .under));
-    greatest = λ p f g. let n = digits p in capped-greatest (2 ^ 2098) top (magnitude p) (u .K * 2 ^ u .e) (magnitude-top p f)
-        (rw (n .is) (greatest a b (u .e) (u .K) (n .f) (n .k) h (u .exponent) (n .high) (units-wide u (quotient-increasing b h)) r (rw (n .is) at g)));
-  })
+  itself : answered mode (exact .K * 2 ^ exact .e) ≡ magnitude p
+  itself = rw (exact-kept mode s b p h f, lt-leb (2 ^ 2098) (magnitude p) (lt-of-le-of-lt (magnitude-top p f) top-below)) refl
 
-  away : AwayFromZero (quotientScale b (u .e)) (quotientPlace a) (u .K) → pointsToZero d s ≡ false → Above a b (answered d s (u .K * 2 ^ u .e))
-  away r z = rw z (record {
-    over = λ g. le-trans (over-of (u .K) b (2 ^ u .e) (a * 2 ^ 1074) (r .over)) (mul-le-mul-right b (capped-over (2 ^ 2098) top (u .K * 2 ^ u .e) g));
-    least = λ p f g. let n = digits p in capped-least (2 ^ 2098) top (magnitude p) (u .K * 2 ^ u .e) (lt-of-le-of-lt (magnitude-top p f) top-below)
-        (rw (n .is) (least a b (u .e) (u .K) (n .f) (n .k) h (u .exponent) (n .high) r (rw (n .is) at g)));
-  })
+  no-less : magnitude p * b ≤ a * 2 ^ 1074 → magnitude p ≤ answered mode (u .K * 2 ^ u .e)
+  no-less g = rw itself at (units-mono (quotientScale b) (quotient-increasing b h) _ _ (mul-le-mul-left 2 g) exact u)
 
--- ---- with signs: down is below the quotient for a positive sign and above its magnitude for a negative one, and up the other way
-abbrev Down : Bool → ℕ → ℕ → ℕ → Type 0
-Down true a b N = Above a b N
-Down false a b N = Below a b N
+  pub no-more : a * 2 ^ 1074 ≤ magnitude p * b → answered mode (u .K * 2 ^ u .e) ≤ magnitude p
+  no-more g = rw itself at (units-mono (quotientScale b) (quotient-increasing b h) _ _ (mul-le-mul-left 2 g) u exact)
 
-abbrev Up : Bool → ℕ → ℕ → ℕ → Type 0
-Up true a b N = Below a b N
-Up false a b N = Above a b N
+  none : (m n N : ℕ) → m * b + n ≤ 0 → (n ≤ m * b → N ≤ m) → m + N ≤ 0
+  none m n N g l = omega (arith, mul-le-mul-right m h, l (omega arith))
 
-module _ (a b N : ℕ) where
-  finite-below : Below a b N → N ≡ 2 ^ 2098 → ⊥
-  finite-below w e = not-le-of-lt top-below (subst (λ (n : ℕ). n ≤ top) e (w .largest))
-
-  down-infinite : (s : Bool) → Down s a b N → N ≡ 2 ^ 2098 → T s
-  down-infinite true w e = tt
-  down-infinite false w e = finite-below w e
-
-  up-infinite : (s : Bool) → Up s a b N → N ≡ 2 ^ 2098 → s ≡ false
-  up-infinite true w e = absurd (finite-below w e)
-  up-infinite false w e = refl
-
-  down-under : (s : Bool) → Down s a b N → N < 2 ^ 2098 → SignedLe s (N * b) s (a * 2 ^ 1074)
-  down-under true w g = w .over g
-  down-under false w g = w .under
-
-  up-over : (s : Bool) → Up s a b N → N < 2 ^ 2098 → SignedLe s (a * 2 ^ 1074) s (N * b)
-  up-over true w g = w .under
-  up-over false w g = w .over g
-
-  module _ (h : 0 < b) (p : ℕ) (f : field p < 2047) where
-    none-above : Above a b N → magnitude p * b + a * 2 ^ 1074 ≤ 0 → magnitude p + N ≤ 0
-    none-above w g = at (magnitude p) (a * 2 ^ 1074) g (w .least p f)
-      where
-        at : (m n : ℕ) → m * b + n ≤ 0 → (n ≤ m * b → N ≤ m) → m + N ≤ 0
-        at m n g l = omega (arith, mul-le-mul-right m h, l (omega arith))
-
-    down-greatest : (s t : Bool) → Down s a b N → SignedLe t (magnitude p * b) s (a * 2 ^ 1074) → SignedLe t (magnitude p) s N
-    down-greatest true true w g = w .least p f g
-    down-greatest true false w g = none-above w g
-    down-greatest false true w g = zero-le
-    down-greatest false false w g = w .greatest p f g
-
-    up-least : (s t : Bool) → Up s a b N → SignedLe s (a * 2 ^ 1074) t (magnitude p * b) → SignedLe s N t (magnitude p)
-    up-least true true w g = w .greatest p f g
-    up-least true false w g = zero-le
-    up-least false true w g = le-trans (le-of-eq (add-comm N (magnitude p))) (none-above w (le-trans (le-of-eq (add-comm (magnitude p * b) (a * 2 ^ 1074))) g))
-    up-least false false w g = w .least p f g
+  stays : (t s' : Bool) → SignedLe t (magnitude p * b) s' (a * 2 ^ 1074) → SignedLe t (magnitude p) s' (answered mode (u .K * 2 ^ u .e))
+  stays true true g = no-more g
+  stays true false g = zero-le
+  stays false true g = none (magnitude p) (a * 2 ^ 1074) _ g no-more
+  stays false false g = no-less g
 
 -- ---- among all patterns
-module _ (a b p N : ℕ) (h : T (finite (valueOf a))) (k : 0 < num (valueOf b)) (w : Is (valueOf p) (signOf a b) N) where
-  down : Down (signOf a b) (magnitude a) (magnitude b) N → RoundedDown a b p
-  down v = record {
-    under = under-quotient a b h k (signOf a b) N (valueOf p) w (down-infinite (magnitude a) (magnitude b) N (signOf a b) v) (down-under (magnitude a) (magnitude b) N (signOf a b) v);
-    greatest = λ q. go q (valueOf q) refl;
-  }
-    where
-      n : 0 < magnitude b
-      n = seen-some b k .1
 
-      go : (q : ℕ) (Q : Float) → valueOf q ≡ Q → AtMostQuotient (valueOf q) (valueOf a) (valueOf b) → T (le (valueOf q) (valueOf p))
-      go q nan e y = absurd (rw e at y)
-      go q (inf true) e y = rw e (least-infinity (2 ^ 1074) (2 ^ 2098) (valueOf p) (signOf a b) N w)
-      go q (inf false) e y = absurd (rw e at y)
-      go q (fin t m d) e y =
+-- direction 1: it means what 2 or 3 means for that sign
+pub one-alike : (s : Bool) {scale : ℕ → ℕ → ℕ} {m : ℕ} {x : Binary64Result} → Rounded (modeOf 1 s) s scale m x → Rounded (modeOf (cond s 2 3) s) s scale m x
+one-alike true u = u
+one-alike false u = u
+
+module _ (a b : ℕ) {x : Binary64Result} (h : T (finite (valueOf a))) (k : 0 < num (valueOf b)) (r : Bool) where
+  pub within : RoundedQuotient (cond r 2 3) (signOf a b) (magnitude a) (magnitude b) x → Beside r (valueOf (x .pattern)) (valueOf a) (valueOf b)
+  within u = let v = under r (signOf a b) (magnitude a) (magnitude b) u in beside a b h k r (signOf a b) _ (valueOf (x .pattern)) (rounded-stands u) (v .infinite) (v .finite)
+
+  pub farthest : {mode : Mode} → Rounded mode (signOf a b) (quotientScale (magnitude b)) (quotientPlace (magnitude a)) x → (q : ℕ) → Beside r (valueOf q) (valueOf a) (valueOf b) → Before r (valueOf q) (valueOf (x .pattern))
+  farthest u q y = go (valueOf q) refl
+    where
+      go : (Q : Float) → valueOf q ≡ Q → Before r (valueOf q) (valueOf (x .pattern))
+      go nan e = absurd (rw e at y)
+      go (inf s) e = rw e (infinity-before r s (signOf a b) _ (valueOf (x .pattern)) (rounded-stands u) (rw e at y))
+      go (fin t m d) e =
           let g : T (finite (valueOf q)) = rw e tt in
           let f = seen q g .below in
           let i = finite-stands q f in
-          is-le (valueOf q) (valueOf p) (negative q) (signOf a b) (magnitude q) N i w
-          (down-greatest (magnitude a) (magnitude b) N n q f (signOf a b) (negative q) v (at-most-units a b h k (negative q) (magnitude q) (valueOf q) i g .0 y))
-
-  up : Up (signOf a b) (magnitude a) (magnitude b) N → RoundedUp a b p
-  up v = record {
-    over = over-quotient a b h k (signOf a b) N (valueOf p) w (up-infinite (magnitude a) (magnitude b) N (signOf a b) v) (up-over (magnitude a) (magnitude b) N (signOf a b) v);
-    least = λ q. go q (valueOf q) refl;
-  }
-    where
-      n : 0 < magnitude b
-      n = seen-some b k .1
-
-      go : (q : ℕ) (Q : Float) → valueOf q ≡ Q → AtLeastQuotient (valueOf q) (valueOf a) (valueOf b) → T (le (valueOf p) (valueOf q))
-      go q nan e y = absurd (rw e at y)
-      go q (inf true) e y = absurd (rw e at y)
-      go q (inf false) e y = rw e (greatest-infinity (2 ^ 1074) (2 ^ 2098) (valueOf p) (signOf a b) N w)
-      go q (fin t m d) e y =
-          let g : T (finite (valueOf q)) = rw e tt in
-          let f = seen q g .below in
-          let i = finite-stands q f in
-          is-le (valueOf p) (valueOf q) (signOf a b) (negative q) N (magnitude q) w i
-          (up-least (magnitude a) (magnitude b) N n q f (signOf a b) (negative q) v (at-least-units a b h k (negative q) (magnitude q) (valueOf q) i g .0 y))
-
-  to-zero : (s : Bool) → signOf a b ≡ s → Below (magnitude a) (magnitude b) N → RoundedToZero s a b p
-  to-zero true e v = up (subst (λ (s : Bool). Up s (magnitude a) (magnitude b) N) (sym e) v)
-  to-zero false e v = down (subst (λ (s : Bool). Down s (magnitude a) (magnitude b) N) (sym e) v)
-
-  sign-kept : signIn (valueOf p) ≡ quotientSign (valueOf a) (valueOf b)
-  sign-kept = is-sign (valueOf p) (signOf a b) N w ∙ sym (sign-seen a b h k)
-
--- ---- the answers
-three-sides : (s : Bool) (a b : ℕ) {x : Binary64Result} → 0 < b → (u : RoundedQuotient 3 s a b x) → Down s a b (answered 3 s (u .K * 2 ^ u .e))
-three-sides true a b h u = away 3 true a b h u (u .rounded) refl
-three-sides false a b h u = toward 3 false a b h u (u .rounded) refl
-
-two-sides : (s : Bool) (a b : ℕ) {x : Binary64Result} → 0 < b → (u : RoundedQuotient 2 s a b x) → Up s a b (answered 2 s (u .K * 2 ^ u .e))
-two-sides true a b h u = toward 2 true a b h u (u .rounded) refl
-two-sides false a b h u = away 2 false a b h u (u .rounded) refl
+          before r (negative q) (signOf a b) (valueOf q) (valueOf (x .pattern)) (magnitude q) _ i (rounded-stands u)
+          (stays (magnitude a) (magnitude b) (seen-some b k .1) u q f (turned r (negative q)) (turned r (signOf a b)) (units a b h k r (negative q) (magnitude q) (valueOf q) i g .0 y))
 
 module _ (a b : ℕ) {x : Binary64Result} (h : T (finite (valueOf a))) (k : 0 < num (valueOf b)) where
-  rounded-in : (direction : ℕ) → direction ≤ 3 → Ieee direction a b x → (u : RoundedQuotient direction (signOf a b) (magnitude a) (magnitude b) x) → RoundedIn direction a b (x .pattern)
+  to-side : (r : Bool) → RoundedQuotient (cond r 2 3) (signOf a b) (magnitude a) (magnitude b) x → RoundedToZero r a b (x .pattern)
+  to-side true u = record { over = at-least (valueOf (x .pattern)) (valueOf a) (valueOf b) .1 (within a b h k true u); least = λ q y. farthest a b h k true u q (at-least (valueOf q) (valueOf a) (valueOf b) .0 y) }
+  to-side false u = record { under = at-most (valueOf (x .pattern)) (valueOf a) (valueOf b) .1 (within a b h k false u); greatest = λ q y. farthest a b h k false u q (at-most (valueOf q) (valueOf a) (valueOf b) .0 y) }
+
+  rounded-in : (direction : ℕ) → direction ≤ 3 → Ieee direction a b x → RoundedQuotient direction (signOf a b) (magnitude a) (magnitude b) x → RoundedIn direction a b (x .pattern)
   rounded-in zero l i u = nearest-quotient a b i
-  rounded-in (suc zero) l i u =
-      let s = signOf a b in
-      let n = answered 1 s (u .K * 2 ^ u .e) in
-      to-zero a b (x .pattern) n h k (rounded-stands u) (quotientSign (valueOf a) (valueOf b)) (sym (sign-seen a b h k)) (toward 1 s (magnitude a) (magnitude b) (seen-some b k .1) u (u .rounded) refl)
-  rounded-in (suc (suc zero)) l i u = up a b (x .pattern) _ h k (rounded-stands u) (two-sides (signOf a b) (magnitude a) (magnitude b) (seen-some b k .1) u)
-  rounded-in (suc (suc (suc zero))) l i u = down a b (x .pattern) _ h k (rounded-stands u) (three-sides (signOf a b) (magnitude a) (magnitude b) (seen-some b k .1) u)
+  rounded-in (suc zero) l i u = rw (sign-seen a b h k) (to-side (signOf a b) (one-alike (signOf a b) u))
+  rounded-in (suc (suc zero)) l i u = to-side true u
+  rounded-in (suc (suc (suc zero))) l i u = to-side false u
   rounded-in (suc (suc (suc (suc d)))) l i u = absurd (omega arith)
 
   pub directed : (direction : ℕ) → direction ≤ 3 → Ieee direction a b x → Directed direction a b (x .pattern)
@@ -231,5 +123,5 @@ module _ (a b : ℕ) {x : Binary64Result} (h : T (finite (valueOf a))) (k : 0 < 
       record {
         word = rounded-word u;
         rounded = rounded-in direction l i u;
-        sign = sign-kept a b (x .pattern) _ h k (rounded-stands u);
+        sign = is-sign (valueOf (x .pattern)) (signOf a b) _ (rounded-stands u) ∙ sym (sign-seen a b h k);
       }

@@ -3,17 +3,19 @@ use Rattle.laws.proofs.Basics.{_≡_, refl, ap, _∙_, sym, Bool, true, false, 
 use lib.Ieee.{ofBits, le}
 use lib.Ieee.Scale.{finite}
 use lib.Ieee.Positive.{positive}
-use Rattle.selection.specs.Answer.{refusal}
+use Rattle.selection.proofs.Refusing.{refusal}
+use Rattle.selection.specs.declared.Refusal.{Refusal}
 use Rattle.selection.specs.Table.{Passes}
 use Rattle.selection.proofs.MadeTables.{kept-passes}
-use Rattle.selection.specs.declared.Refusal.{Refusal}
 use Rattle.division.specs.declared.format.Binary64Result.{Binary64Result}
-use Rattle.division.specs.declared.binary64.Binary64Answer.{Binary64Answer}
-use Rattle.division.specs.Format.{negative, magnitude, largestFinite}
+use Rattle.division.specs.declared.format.Binary64Answer.{Binary64Answer}
+use Rattle.division.specs.Format.{negative, magnitude, largestFinite, binary64Values}
 use Rattle.division.specs.Ieee.{Ieee}
-use Rattle.division.specs.Binary64.{binary64Of, binary64Values}
+use Rattle.division.specs.Binary64.{binary64Of}
 use Rattle.division.specs.Samples.{concentrationsOf}
-use Rattle.division.proofs.Demand2.{demand-2}
+use Rattle.division.proofs.Answers.{binary64-answer}
+use Rattle.division.proofs.SampleRuns.{samples-right}
+use Rattle.division.proofs.IeeeLaws.{ieee-through}
 use Rattle.ieee.specs.LanguageQuotient.{valueOf, one}
 use Rattle.ieee.specs.Directions.{quotientSign, Pinned, negated, mirrored}
 use Rattle.ieee.specs.Ieee754.{answerValue, Sorted, OneSensitivity, IeeeThrough, NamedPatterns, Thirds, Ieee754}
@@ -49,10 +51,10 @@ sided-span false = omega arith
 
 module _ (t : List ℕ) (p : Passes t) where
   means : (direction a b : ℕ) → direction ≤ 3 → Ieee direction a b (told (binary64Of t direction a b))
-  means direction a b l = demand-2 .passed t p .binary64 direction a b l .meaning
+  means = ieee-through t p
 
   answer-is : (direction a b : ℕ) {y : Binary64Result} → direction ≤ 3 → told (binary64Of t direction a b) ≡ y → binary64Of t direction a b ≡ binary64Values y
-  answer-is direction a b l e = whole (binary64Of t direction a b) (demand-2 .passed t p .binary64 direction a b l .done) ∙ ap binary64Values e
+  answer-is direction a b l e = whole (binary64Of t direction a b) (ap (λ (x : Binary64Answer). x .refusal) (binary64-answer t p direction a b l)) ∙ ap binary64Values e
 
   pinned : (direction a b : ℕ) → direction ≤ 3 → Pinned direction a b (binary64Of t direction a b .pattern)
   pinned d a b l = record { special = special-quotient d a b (means d a b l); directed = λ f. directed a b (f .dividend) (f .divisor) d l (means d a b l) }
@@ -64,7 +66,7 @@ module _ (t : List ℕ) (p : Passes t) where
   sorted : (direction d : ℕ) (currents sensitivities given : List ℕ) → direction ≤ 3 → length currents ≡ length sensitivities → length currents ≤ length given
       → OneSensitivity d currents sensitivities → Sorted (length currents) currents → Sorted (length currents) (concentrationsOf t direction currents sensitivities given)
   sorted direction d xs ys given l e r o s =
-      let each = demand-2 .passed t p .samples direction xs ys given l e r .meaning .concentrations .each in
+      let each = samples-right t p direction l xs ys given e r .concentrations .each in
       record {
         ordered = λ i j h k.
             let g : i < length xs = omega arith in
@@ -87,8 +89,8 @@ module _ (t : List ℕ) (p : Passes t) where
     over-itself = λ d a l h. answer-is d a a l (over-itself d a (means d a a l) h);
     signalling = λ d a b l. signals d a b (means d a b l);
     quiet = λ d a b l. silent-nan d a b (means d a b l);
-    dividend-negated = λ d a b l w. let o = dividend-negated d a b l w (means d (negated a) b l) (means (mirrored d) a b (mirrored-span d)) in record { value = o .0; flags = o .1 };
-    divisor-negated = λ d a b l w. let o = divisor-negated d a b l w (means d a (negated b) l) (means (mirrored d) a b (mirrored-span d)) in record { value = o .0; flags = o .1 };
+    dividend-negated = λ d a b l w. let o = dividend-negated d a b l w (means d (negated a) b l) (means (mirrored d) a b (mirrored-span d)) in record { value = o .value; flags = o .flags };
+    divisor-negated = λ d a b l w. let o = divisor-negated d a b l w (means d a (negated b) l) (means (mirrored d) a b (mirrored-span d)) in record { value = o .value; flags = o .flags };
     bigger = bigger;
     sorted = sorted;
   }

@@ -1,5 +1,5 @@
 -- The order of values in the logic's account of IEEE 754 (`le` of lib.Ieee), told by signs and whole numbers of units.
-use Rattle.laws.proofs.Basics.{_≡_, sym, ap, subst, Bool, true, false, _&&_, true≢false, ⊎-elim, ℕ, _+_, _*_, _≤_, _<_, arith, ℤ, T, eqb, eqb→eq, lt-ltb, le-ltb, eq-eqb, ne-eqb}
+use Rattle.laws.proofs.Basics.{_≡_, sym, ap, subst, Bool, true, false, not, _&&_, ⊎-elim, _↔_, ℕ, _+_, _*_, _≤_, _<_, arith, ℤ, T, eqb, eqb→eq, lt-ltb, le-ltb, eq-eqb, ne-eqb}
 use native.Mathlib.Nat.{eq-or-lt-of-le, eq-zero-or-pos, mul-pos, mul-le-mul-right, le-of-mul-le-mul-right}
 use Rattle.laws.proofs.Division.{le-or-lt}
 use lib.Ieee.{Float, nan, inf, fin, up, down, le}
@@ -7,12 +7,27 @@ use lib.Ieee.Fits.{down-pos}
 use lib.Ieee.Scale.{finite}
 use Rattle.ieee.specs.Directions.{atMost}
 
+pub both : (x y : Bool) → T (x && y) → T x × T y
+both true y t = (tt, t)
+both false y t = absurd t
+
 -- ±a ≤ ±b; true is a negative sign
 abbrev pub SignedLe : Bool → ℕ → Bool → ℕ → Type 0
 SignedLe false a false b = a ≤ b
 SignedLe false a true b = a + b ≤ 0
 SignedLe true a false b = 0 ≤ a + b
 SignedLe true a true b = b ≤ a
+
+-- upward, where r is true, it is the order with both signs turned
+abbrev pub turned : Bool → Bool → Bool
+turned true s = not s
+turned false s = s
+
+pub signed-turned : (s : Bool) (a : ℕ) (t : Bool) (b : ℕ) → SignedLe s a t b ↔ SignedLe (not t) b (not s) a
+signed-turned false a false b = (λ h. h, λ h. h)
+signed-turned false a true b = (λ h. omega arith, λ h. omega arith)
+signed-turned true a false b = (λ h. omega arith, λ h. omega arith)
+signed-turned true a true b = (λ h. h, λ h. h)
 
 -- the logic's word for it
 pub signed-at-most : (s : Bool) (a : ℕ) (t : Bool) (b : ℕ) → SignedLe s a t b → T (atMost s a t b)
@@ -26,13 +41,7 @@ signed-at-most true a true b h = ⊎-elim (λ (e : b ≡ a). rw (eq-eqb a b (sym
 
 pub at-most-signed : (s : Bool) (a : ℕ) (t : Bool) (b : ℕ) → T (atMost s a t b) → SignedLe s a t b
 at-most-signed false a false b h = ⊎-elim (λ (g : a ≤ b). g) (λ (g : b < a). absurd (rw (le-ltb a b (omega arith), ne-eqb a b (omega arith)) at h)) (le-or-lt a b)
-at-most-signed false a true b h = ⊎-elim (λ (e : a + b ≡ 0). omega arith) (λ (g : 0 < a + b). absurd (none (eqb a b) (eqb a 0) (eqb→eq a b) (eqb→eq a 0) h g)) (eq-zero-or-pos (a + b))
-  where
-    none : (x y : Bool) → (T x → a ≡ b) → (T y → a ≡ 0) → T (x && y) → 0 < a + b → ⊥
-    none true true p q t g = omega (arith, p tt, q tt)
-    none true false p q t g = t
-    none false true p q t g = t
-    none false false p q t g = t
+at-most-signed false a true b h = let k = both (eqb a b) (eqb a 0) h in omega (arith, eqb→eq a b (k .0), eqb→eq a 0 (k .1))
 at-most-signed true a false b h = omega arith
 at-most-signed true a true b h = ⊎-elim (λ (g : b ≤ a). g) (λ (g : a < b). absurd (rw (le-ltb b a (omega arith), ne-eqb a b (omega arith)) at h)) (le-or-lt b a)
 
@@ -54,11 +63,9 @@ pub rescaled : (s t : Bool) (i j i' j' k l : ℕ) → 0 < l → i * k ≡ i' * l
 rescaled s t i j i' j' k l p e f h = signed-cancel s i' t j' l p (subst (λ (z : ℕ). SignedLe s (i' * l) t z) f (subst (λ (z : ℕ). SignedLe s z t (j * k)) e (signed-times s i t j k h)))
 
 -- either way round
-pub signed-both : (s t : Bool) (m n : ℕ) → s ≡ t → SignedLe s m t n → SignedLe t n s m → m ≡ n
-signed-both true true m n e h k = omega arith
-signed-both true false m n e h k = absurd (true≢false e)
-signed-both false true m n e h k = absurd (true≢false (sym e))
-signed-both false false m n e h k = omega arith
+pub signed-both : (s : Bool) (m n : ℕ) → (m ≡ n) ↔ (SignedLe s m s n × SignedLe s n s m)
+signed-both true m n = (λ e. (omega arith, omega arith), λ h. omega arith)
+signed-both false m n = (λ e. (omega arith, omega arith), λ h. omega arith)
 
 -- x has the sign s and n units of 1 / c; an infinity has M
 abbrev pub Stands : ℕ → ℕ → Float → Bool → ℕ → Type 0
@@ -104,18 +111,3 @@ module _ (c M : ℕ) (C : 0 < c) (P : 0 < M) where
   le-signed (fin s' m e) nan s t a b p q f g h = absurd q
   le-signed (fin s' m e) (inf t') s t a b p q f g h = absurd g
   le-signed (fin s' m e) (fin t' n d) s t a b p q f g h = signs a b (sym (p .0)) (sym (q .0)) (cross s' m e a t' n d b (p .1) (q .1) .1 (at-most-signed s' _ t' _ h))
-
--- an infinity lies beyond all
-pub least-infinity : (c M : ℕ) (x : Float) (s : Bool) (n : ℕ) → Stands c M x s n → T (le (inf true) x)
-unfolding le
-least-infinity c M nan s n h = absurd h
-least-infinity c M (inf true) s n h = tt
-least-infinity c M (inf false) s n h = tt
-least-infinity c M (fin t m e) s n h = tt
-
-pub greatest-infinity : (c M : ℕ) (x : Float) (s : Bool) (n : ℕ) → Stands c M x s n → T (le x (inf false))
-unfolding le
-greatest-infinity c M nan s n h = absurd h
-greatest-infinity c M (inf true) s n h = tt
-greatest-infinity c M (inf false) s n h = tt
-greatest-infinity c M (fin t m e) s n h = tt

@@ -1,8 +1,8 @@
 -- The pattern of an answer in direction 0 is that of the language's own quotient, for all patterns; so it is in every direction where an operand is zero, infinite or not a number.
-use Rattle.laws.proofs.Basics.{_≡_, refl, sym, ap, _∙_, Bool, true, false, inl, inr, _⊎_, ⊎-elim, List, ℕ, _*_, _^_, _<_, arith, pos, eqb, eq-eqb, ne-eqb}
+use Rattle.laws.proofs.Basics.{_≡_, refl, sym, ap, subst, _∙_, Bool, true, false, _⊎_, ⊎-elim, List, ℕ, _*_, _^_, _<_, arith, pos, eqb, eq-eqb, ne-eqb}
 use native.Mathlib.Nat.{eq-zero-or-pos, eq-of-mul-eq-mul-right, mul-pos}
 use lib.Pow.{pow-pos}
-use lib.Ieee.{Float, inf, fin, binary64, up, down, unlike, round, div, toBits}
+use lib.Ieee.{Float, nan, inf, fin, binary64, up, down, unlike, round, div, toBits}
 use lib.Ieee.Bits.{ofBits-toBits}
 use lib.Ieee.Fits.{up-pos, down-pos, div-fits}
 use lib.Ieee.Positive.{num, first-pos}
@@ -10,12 +10,12 @@ use lib.Ieee.Scale.{round-same}
 use Rattle.selection.specs.Table.{Passes}
 use Rattle.division.specs.declared.format.Binary64Result.{Binary64Result}
 use Rattle.division.specs.declared.format.Class.{Class}
-use Rattle.division.specs.declared.format.Class.the-variants.{Zero, Subnormal, Normal, Infinite, Nan}
-use Rattle.division.specs.Format.{negative, magnitude, classOf, signBit, signOf}
-use Rattle.division.specs.Ieee.{IsNonzero, Ieee}
+use Rattle.division.specs.declared.format.Class.the-variants.{Zero, Infinite, Nan}
+use Rattle.division.specs.Format.{magnitude, classOf, signBit, signOf, IsNonzero}
+use Rattle.division.specs.Ieee.{Ieee}
 use Rattle.division.specs.Binary64.{binary64Of}
-use Rattle.division.proofs.Classes.{nonzero-operand}
-use Rattle.division.proofs.Demand2.{demand-2}
+use Rattle.division.proofs.Classes.{by-cases, nonzero-operand}
+use Rattle.division.proofs.IeeeLaws.{ieee-through}
 use Rattle.ieee.specs.LanguageQuotient.{valueOf, languageQuotient, LanguageQuotient}
 use Rattle.ieee.proofs.LanguageRounding.{quotient-bits}
 use Rattle.ieee.proofs.LanguageReading.{Number, Nonzero, Reads, finite, read}
@@ -61,70 +61,54 @@ round-zero false = refl
 zero-is : {s t : Bool} {b : ℕ} {x y : Float} → Number s 0 x → Number t b y → 0 < b → toBits binary64 (div binary64 x y) ≡ signBit (unlike s t)
 zero-is {s} {t} {b} p q h = ap (toBits binary64) (quotient-is p q h ∙ round-same binary64 (unlike s t) 0 b 0 1 h (omega arith) (omega arith)) ∙ round-zero (unlike s t)
 
--- ---- all pairs of classes
-module _ (direction a b : ℕ) {x : Binary64Result} (u : Ieee direction a b x) where
-  abbrev Same : Float → Float → Type 0
-  Same X Y = x .pattern ≡ toBits binary64 (div binary64 X Y)
+over-nan : (x : Float) → div binary64 x nan ≡ nan
+unfolding div
+over-nan nan = refl
+over-nan (inf s) = refl
+over-nan (fin s m e) = refl
 
-  over-infinite : {n : ℕ} (X Y : Float) → x ≡ record { pattern = signBit (signOf a b); flags = 0 } → Number (negative a) n X → Y ≡ inf (negative b) → Same X Y
-  unfolding div
-  over-infinite X Y z p q = rw (z, p .is, q) (sym (zero-bits (signOf a b)))
-
-  infinite-over : (l : Class) (X Y : Float) → classOf a ≡ Infinite → classOf b ≡ l → Reads a Infinite X → Reads b l Y → Same X Y
-  unfolding div toBits
-  infinite-over Zero X Y e f p q = rw (u .infinite e (inl f), p, q .is)
-  infinite-over Subnormal X Y e f p q = rw (u .infinite e (inr (inl f)), p, q .0 .is)
-  infinite-over Normal X Y e f p q = rw (u .infinite e (inr (inr f)), p, q .0 .is)
-  infinite-over Infinite X Y e f p q = rw (u .invalid (inr (e, f)), p, q)
-  infinite-over Nan X Y e f p q = rw (u .nan (inr f), p, q)
-
-  zero-over : (l : Class) (X Y : Float) → classOf a ≡ Zero → classOf b ≡ l → Reads a Zero X → Reads b l Y → Same X Y
-  unfolding div toBits
-  zero-over Zero X Y e f p q = rw (u .invalid (inl (e, f)), p .is, q .is, is-none p, is-none q)
-  zero-over Subnormal X Y e f p q = rw (u .zero (inl (e, inl f))) (sym (zero-is p (q .0) (q .1 .some)))
-  zero-over Normal X Y e f p q = rw (u .zero (inl (e, inr f))) (sym (zero-is p (q .0) (q .1 .some)))
-  zero-over Infinite X Y e f p q = over-infinite X Y (u .zero (inr (inl e, f))) p q
-  zero-over Nan X Y e f p q = rw (u .nan (inr f), p .is, q)
-
-  nonzero-over : (l : Class) (X Y : Float) → IsNonzero a → classOf b ≡ l → Nonzero a X → Reads b l Y → (IsNonzero b → Same X Y) → Same X Y
-  unfolding div toBits
-  nonzero-over Zero X Y e f p q h = let m = is-some (p .0) (p .1 .some) in rw (u .by-zero e f, p .0 .is, q .is, is-none q, ne-eqb (p .0 .m) 0 (omega arith))
-  nonzero-over Subnormal X Y e f p q h = h (inl f)
-  nonzero-over Normal X Y e f p q h = h (inr f)
-  nonzero-over Infinite X Y e f p q h = over-infinite X Y (u .zero (inr (inr e, f))) (p .0) q
-  nonzero-over Nan X Y e f p q h = rw (u .nan (inr f), p .0 .is, q)
-
-  -- the classes decide all but the quotient of two finite numbers other than zero
-  by-class : (k : Class) → classOf a ≡ k → Reads a k (valueOf a) → (IsNonzero a → IsNonzero b → x .pattern ≡ languageQuotient a b) → x .pattern ≡ languageQuotient a b
-  unfolding div toBits
-  by-class Zero e p h = zero-over (classOf b) (valueOf a) (valueOf b) e refl p (read b)
-  by-class Subnormal e p h = nonzero-over (classOf b) (valueOf a) (valueOf b) (inl e) refl p (read b) (h (inl e))
-  by-class Normal e p h = nonzero-over (classOf b) (valueOf a) (valueOf b) (inr e) refl p (read b) (h (inr e))
-  by-class Infinite e p h = infinite-over (classOf b) (valueOf a) (valueOf b) e refl p (read b)
-  by-class Nan e p h = rw (u .nan (inl e), p)
+-- ---- all patterns, by their classes
+class-read : (p : ℕ) (k : Class) → classOf p ≡ k → Reads p k (valueOf p)
+class-read p k e = subst (λ (k : Class). Reads p k (valueOf p)) e (read p)
 
 -- a finite number other than zero is so for the logic
 pub number-of : (p : ℕ) → IsNonzero p → Nonzero p (valueOf p)
 number-of p h = let o = nonzero-operand p h in (finite p (o .finite), o)
 
+-- the classes decide all but the quotient of two finite numbers other than zero
+by-class : (direction a b : ℕ) {x : Binary64Result} → Ieee direction a b x → (IsNonzero a → IsNonzero b → x .pattern ≡ languageQuotient a b) → x .pattern ≡ languageQuotient a b
+unfolding div toBits
+by-class direction a b u = by-cases a b
+    (λ c. rw (u .nan c) (⊎-elim (λ e. rw (class-read a Nan e)) (λ f. rw (class-read b Nan f, over-nan)) c))
+    (λ c. rw (u .invalid c) (⊎-elim
+    (λ z. let p = class-read a Zero (z .0) in let q = class-read b Zero (z .1) in rw (p .is, q .is, is-none p, is-none q))
+    (λ z. rw (class-read a Infinite (z .0), class-read b Infinite (z .1)))
+    c))
+    (λ h f. let p = number-of a h in let q = class-read b Zero f in let m = is-some (p .0) (p .1 .some) in rw (u .by-zero h f, p .0 .is, q .is, is-none q, ne-eqb (p .0 .m) 0 (omega arith)))
+    (λ e h. rw (u .infinite e h, class-read a Infinite e) (⊎-elim (λ f. rw (class-read b Zero f .is)) (λ f. rw (number-of b f .0 .is)) h))
+    (λ c. rw (u .zero c) (⊎-elim
+    (λ z. let q = number-of b (z .1) in sym (zero-is (class-read a Zero (z .0)) (q .0) (q .1 .some)))
+    (λ z. rw (class-read b Infinite (z .1)) (let o = sym (zero-bits (signOf a b)) in ⊎-elim (λ e. rw (class-read a Zero e .is) o) (λ e. rw (number-of a e .0 .is) o) (z .0)))
+    c))
+
 counted : (p : ℕ) → IsNonzero p → 0 < num (valueOf p)
 counted p h = let n = number-of p h in rw (n .0 .is) (mul-pos (is-some (n .0) (n .1 .some)) (up-pos (n .0 .e)))
 
 pub nearest-quotient : (a b : ℕ) {x : Binary64Result} → Ieee 0 a b x → x .pattern ≡ languageQuotient a b
-nearest-quotient a b u = by-class 0 a b u (classOf a) refl (read a) (λ h k.
+nearest-quotient a b u = by-class 0 a b u (λ h k.
     let p = number-of a h in
     let q = number-of b k in
     quotient-bits (signOf a b) (magnitude a) (magnitude b) (q .1 .some) (u .quotient h k) ∙ sym (ap (toBits binary64) (quotient-is (p .0) (q .0) (q .1 .some))))
 
 -- `num` is 0 for a zero, an infinity and a not-a-number
 pub special-quotient : (direction a b : ℕ) {x : Binary64Result} → Ieee direction a b x → (num (valueOf a) ≡ 0) ⊎ (num (valueOf b) ≡ 0) → x .pattern ≡ languageQuotient a b
-special-quotient direction a b u z = by-class direction a b u (classOf a) refl (read a) (λ h k.
+special-quotient direction a b u z = by-class direction a b u (λ h k.
     absurd (⊎-elim (λ (e : num (valueOf a) ≡ 0). omega (arith, counted a h)) (λ (e : num (valueOf b) ≡ 0). omega (arith, counted b k)) z))
 
 -- ---- and so through every table that passes
 pub language-quotient : (t : List ℕ) → Passes t → LanguageQuotient t
 language-quotient t p =
-    let nearest : (a b : ℕ) → binary64Of t 0 a b .pattern ≡ languageQuotient a b = λ a b. nearest-quotient a b (demand-2 .passed t p .binary64 0 a b (omega arith) .meaning) in
+    let nearest : (a b : ℕ) → binary64Of t 0 a b .pattern ≡ languageQuotient a b = λ a b. nearest-quotient a b (ieee-through t p 0 a b (omega arith)) in
     record {
       nearest = nearest;
       values = λ x y h k. let i = ofBits-toBits binary64 x h in let j = ofBits-toBits binary64 y k in

@@ -19,7 +19,7 @@ pub record Number (s : Bool) (n : ℕ) (x : Float) : Type 0 where
   pub value : m * up e * 2 ^ 1074 ≡ n * down e
 
 -- the logic's word for it
-number : (x : Float) (s : Bool) (n : ℕ) → HasValue x s n (2 ^ 1074) → Number s n x
+pub number : (x : Float) (s : Bool) (n : ℕ) → HasValue x s n (2 ^ 1074) → Number s n x
 number nan s n h = absurd h
 number (inf t) s n h = absurd h
 number (fin t m e) s n h = record { m = m; e = e; is = ap (λ (z : Bool). fin z m e) (h .0); value = h .1 }

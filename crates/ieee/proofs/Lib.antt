@@ -14,6 +14,4 @@ pub mod SignSymmetry
 pub mod BiggerStays
 pub mod Signalling
 pub mod Ieee754
-pub mod RootExamples
 pub mod RootOrder
-pub mod FlagExamples

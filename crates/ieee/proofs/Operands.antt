@@ -1,6 +1,6 @@
 -- Finite operands, from what the logic reads; and an answer to a finite number over one that is not zero is their quotient rounded, the answer to a zero dividend too.
-use Rattle.laws.proofs.Basics.{_≡_, refl, sym, subst, Bool, true, false, cond, _⊎_, inl, inr, ⊎-elim, ℕ, _+_, _-_, _*_, _^_, _≤_, _<_, arith, T, eqb, lit<, lit≤, ne-eqb, lt-ltb}
-use native.Mathlib.Nat.{eq-zero-or-pos, le-trans, not-le-of-lt, lt-of-le-of-lt, mul-pos, mul-le-mul, zero-mul}
+use Rattle.laws.proofs.Basics.{_≡_, refl, sym, subst, Bool, true, false, cond, _⊎_, inl, inr, ⊎-elim, ℕ, _+_, _-_, _*_, _%_, _^_, _≤_, _<_, arith, T, eqb, lit<, lit≤, eq-eqb, ne-eqb, lt-ltb, le-leb, lt-leb}
+use native.Mathlib.Nat.{add-zero, eq-zero-or-pos, le-trans, not-le-of-lt, lt-of-le-of-lt, mul-pos, mul-le-mul, mul-le-mul-right, mul-lt-mul-of-pos-right, zero-mul}
 use lib.Pow.{pow-pos, pow-mono}
 use lib.Ieee.{Float, nan, inf, fin, up, down, le}
 use lib.Ieee.Scale.{finite}
@@ -8,9 +8,11 @@ use lib.Ieee.Positive.{num, first-pos}
 use Rattle.laws.proofs.Division.{le-or-lt}
 use Rattle.division.specs.declared.format.Binary64Result.{Binary64Result}
 use Rattle.division.specs.declared.format.Class.the-variants.{Zero}
-use Rattle.division.specs.Format.{negative, field, fraction, magnitude, classOf, signBit, signOf}
-use Rattle.division.specs.Rounding.{modeOf}
-use Rattle.division.specs.Ieee.{quotientScale, RoundedQuotient, IsNonzero, Ieee}
+use Rattle.division.specs.Format.{negative, field, fraction, magnitude, classOf, signBit, signOf, IsNonzero}
+use Rattle.division.specs.declared.rounding.Mode.{Mode}
+use Rattle.division.specs.Rounding.{modeOf, Rounds}
+use Rattle.division.specs.Rounded.{IsExponent, Rounded}
+use Rattle.division.specs.Ieee.{quotientScale, RoundedQuotient, Ieee}
 use Rattle.division.proofs.Nearest.{rounds-exact}
 use Rattle.division.proofs.Quotient.{quotient-increasing}
 use Rattle.ieee.specs.LanguageQuotient.{valueOf}
@@ -105,32 +107,45 @@ finite-le p q f g =
     (finite-stands p f) (finite-stands q g) (finite-value p f) (finite-value q g)
 
 -- ---- the answer
-signed-zero : (s : Bool) → (signBit s < 2 ^ 64) × (magnitude (signBit s) ≡ 0) × (negative (signBit s) ≡ s) × (field (signBit s) < 2047)
-signed-zero true = (omega arith, refl, refl, omega arith)
-signed-zero false = (omega arith, refl, refl, omega arith)
 
-zero-rounded : (direction : ℕ) (s : Bool) (b : ℕ) → 0 < b → RoundedQuotient direction s 0 b (record { pattern = signBit s; flags = 0 })
-zero-rounded direction s b h =
-    let z = signed-zero s in
-    record {
-      e = 0;
-      K = 0;
-      exponent = record { reached = λ p. absurd (omega arith); beyond = omega arith };
-      rounded = rw zero-mul at (rounds-exact (quotientScale b 0) (quotient-increasing b h .up 0) (modeOf direction s) 0);
-      over = λ g. absurd (not-le-of-lt (lit< {m = 0} {n = 2 ^ 2098} tt) g);
-      word = λ g. z .0;
-      value = λ g. z .1;
-      sign = λ g. z .2;
-      finite = λ g. z .3;
-      flags = λ g. rw (zero-mul (b * 2 ^ 0)) refl;
-    }
+-- q with the sign s
+signed : (s : Bool) (q : ℕ) → (signBit s + q % 2 ^ 63 < 2 ^ 64) × (field (signBit s + q % 2 ^ 63) ≡ field q) × (fraction (signBit s + q % 2 ^ 63) ≡ fraction q) × (negative (signBit s + q % 2 ^ 63) ≡ s)
+signed true q = (omega arith, omega arith, omega arith, le-leb (2 ^ 63) (2 ^ 63 + q % 2 ^ 63) (omega arith))
+signed false q = (omega arith, omega arith, omega arith, lt-leb (2 ^ 63) (0 + q % 2 ^ 63) (omega arith))
+
+-- a finite pattern is its own magnitude rounded, here b times it over b
+module _ (mode : Mode) (s : Bool) (b q : ℕ) (h : 0 < b) (f : field q < 2047) where
+  pub exact-rounded : Rounded mode s (quotientScale b) (2 * (magnitude q * b)) (record { pattern = signBit s + q % 2 ^ 63; flags = 0 })
+  exact-rounded =
+      let n = digits q in
+      let z = signed s q in
+      let y : quotientScale b (n .f) (2 * n .k) ≡ 2 * (magnitude q * b) = rw (n .is) (omega arith) in
+      record {
+        e = n .f;
+        K = n .k;
+        exponent = subst (λ (m : ℕ). IsExponent (quotientScale b) m (n .f)) y (record {
+          reached = λ g. mul-le-mul-right (b * 2 ^ n .f) (omega (arith, n .low g));
+          beyond = mul-lt-mul-of-pos-right (omega (arith, n .high)) (mul-pos h (pow-pos (n .f)));
+        });
+        rounded = subst (λ (m : ℕ). Rounds mode (quotientScale b (n .f)) m (n .k)) y (rounds-exact (quotientScale b (n .f)) (quotient-increasing b h .up (n .f)) mode (n .k));
+        over = λ g. absurd (not-le-of-lt top-below (le-trans g (subst (λ (m : ℕ). m ≤ top) (n .is) (magnitude-top q f))));
+        word = λ g. z .0;
+        value = λ g. rw (z .1, z .2) (n .is);
+        sign = λ g. z .3;
+        finite = λ g. rw (z .1) f;
+        flags = λ g. rw (eq-eqb _ _ y);
+      }
+
+  pub exact-kept : exact-rounded .K * 2 ^ exact-rounded .e ≡ magnitude q
+  unfolding exact-rounded
+  exact-kept = sym (digits q .is)
 
 module _ (direction a b : ℕ) {x : Binary64Result} (u : Ieee direction a b x) (h : T (finite (valueOf a))) (k : 0 < num (valueOf b)) where
   pub quotient-rounded : RoundedQuotient direction (signOf a b) (magnitude a) (magnitude b) x
   quotient-rounded = ⊎-elim
       (λ w. absurd (omega (arith, w .1, seen-some b k .1)))
       (λ w. ⊎-elim
-      (λ v. rw (u .zero (inl (v .0, w .0)), v .1) (zero-rounded direction (signOf a b) (magnitude b) (w .1)))
+      (λ v. rw (u .zero (inl (v .0, w .0)), v .1) (rw (zero-mul, add-zero) at (exact-rounded (modeOf direction (signOf a b)) (signOf a b) (magnitude b) 0 (w .1) (omega arith))))
       (λ v. u .quotient (v .0) (w .0))
       (class-of a (seen a h .below)))
       (class-of b (seen-some b k .0 .below))

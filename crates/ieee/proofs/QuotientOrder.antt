@@ -1,16 +1,39 @@
 -- At most and at least the exact quotient, told by signs and whole numbers of units.
-use Rattle.laws.proofs.Basics.{_≡_, refl, sym, ap, subst, _∙_, Bool, true, false, true≢false, _↔_, ℕ, _*_, _^_, _<_, arith, ℤ, T}
+use Rattle.laws.proofs.Basics.{_≡_, refl, sym, ap, Bool, true, false, _↔_, ℕ, _*_, _^_, _<_, arith, ℤ, T}
 use native.Mathlib.Nat.{mul-pos}
 use lib.Pow.{pow-pos}
 use lib.Ieee.{Float, nan, inf, fin, up, down, unlike}
 use lib.Ieee.Fits.{down-pos}
 use lib.Ieee.Scale.{finite}
-use lib.Ieee.Positive.{num}
+use lib.Ieee.Positive.{num, den}
 use Rattle.division.specs.Format.{negative, magnitude, signOf}
 use Rattle.ieee.specs.LanguageQuotient.{valueOf}
-use Rattle.ieee.specs.Directions.{quotientSign, AtMostQuotient, AtLeastQuotient}
-use Rattle.ieee.proofs.LanguageOrder.{SignedLe, signed-at-most, at-most-signed, rescaled, Stands}
+use Rattle.ieee.specs.Directions.{quotientSign, AtMostQuotient, AtLeastQuotient, IsQuotient}
+use Rattle.ieee.proofs.LanguageOrder.{SignedLe, turned, signed-turned, signed-at-most, at-most-signed, signed-both, rescaled, Stands}
 use Rattle.ieee.proofs.Operands.{Is, seen, seen-some}
+
+-- z ≤ x / y, and where r is true x / y ≤ z
+abbrev pub Beside : Bool → Float → Float → Float → Type 0
+Beside r nan x y = ⊥
+Beside r (inf s) x y = T (turned r s)
+Beside r (fin s m e) x y = SignedLe (turned r s) (m * up e * (num y * den x)) (turned r (quotientSign x y)) (num x * (den y * down e))
+
+pub at-most : (z x y : Float) → AtMostQuotient z x y ↔ Beside false z x y
+at-most nan x y = (λ h. h, λ h. h)
+at-most (inf s) x y = (λ h. h, λ h. h)
+at-most (fin s m e) x y = (at-most-signed s _ (quotientSign x y) _, signed-at-most s _ (quotientSign x y) _)
+
+pub at-least : (z x y : Float) → AtLeastQuotient z x y ↔ Beside true z x y
+at-least nan x y = (λ h. h, λ h. h)
+at-least (inf true) x y = (λ h. h, λ h. h)
+at-least (inf false) x y = (λ h. h, λ h. h)
+at-least (fin s m e) x y = let t = quotientSign x y in (λ h. signed-turned t _ s _ .0 (at-most-signed t _ s _ h), λ h. signed-at-most t _ s _ (signed-turned t _ s _ .1 h))
+
+pub both-finite : (x y z : Float) → IsQuotient x y z → T (finite x)
+both-finite nan y z h = absurd (h .0)
+both-finite (inf true) y z h = absurd (h .1)
+both-finite (inf false) y z h = absurd (h .0)
+both-finite (fin t m e) y z h = tt
 
 -- over units of 1 / c
 module _ (c M : ℕ) (C : 0 < c) where
@@ -21,30 +44,17 @@ module _ (c M : ℕ) (C : 0 < c) where
   right nx dx a f dy p = omega (arith, ap (λ (z : ℕ). z * (c * f * dy)) p)
 
   -- a finite value with the sign t and n units against a / b
-  module _ (t sx sy : Bool) (a b n mx my : ℕ) (ex ey : ℤ) (p : mx * up ex * c ≡ a * down ex) (q : my * up ey * c ≡ b * down ey) where
-    at-most : (x : Float) → Stands c M x t n → T (finite x) → AtMostQuotient x (fin sx mx ex) (fin sy my ey) ↔ SignedLe t (n * b) (unlike sx sy) (a * c)
-    at-most nan w g = absurd w
-    at-most (inf r) w g = absurd g
-    at-most (fin r m e) w g =
+  module _ (r t sx sy : Bool) (a b n mx my : ℕ) (ex ey : ℤ) (p : mx * up ex * c ≡ a * down ex) (q : my * up ey * c ≡ b * down ey) where
+    against : (x : Float) → Stands c M x t n → T (finite x) → Beside r x (fin sx mx ex) (fin sy my ey) ↔ SignedLe (turned r t) (n * b) (turned r (unlike sx sy)) (a * c)
+    against nan w g = absurd w
+    against (inf s) w g = absurd g
+    against (fin s m e) w g =
+        let t' = turned r t in
+        let s' = turned r (unlike sx sy) in
         let k : 0 < down e * down ex * down ey = mul-pos (mul-pos (down-pos e) (down-pos ex)) (down-pos ey) in
         let i = left (m * up e) (down e) n (my * up ey) (down ex) b (down ey) (w .1) q in
         let j = right (mx * up ex) (down ex) a (down e) (down ey) p in
-        rw (w .0) (
-          λ h. rescaled t (unlike sx sy) _ _ (n * b) (a * c) (c * c) _ k (sym i) (sym j) (at-most-signed t _ (unlike sx sy) _ h),
-          λ h. signed-at-most t _ (unlike sx sy) _ (rescaled t (unlike sx sy) (n * b) (a * c) _ _ _ (c * c) (mul-pos C C) i j h),
-        )
-
-    at-least : (x : Float) → Stands c M x t n → T (finite x) → AtLeastQuotient x (fin sx mx ex) (fin sy my ey) ↔ SignedLe (unlike sx sy) (a * c) t (n * b)
-    at-least nan w g = absurd w
-    at-least (inf r) w g = absurd g
-    at-least (fin r m e) w g =
-        let k : 0 < down e * down ex * down ey = mul-pos (mul-pos (down-pos e) (down-pos ex)) (down-pos ey) in
-        let i = left (m * up e) (down e) n (my * up ey) (down ex) b (down ey) (w .1) q in
-        let j = right (mx * up ex) (down ex) a (down e) (down ey) p in
-        rw (w .0) (
-          λ h. rescaled (unlike sx sy) t _ _ (a * c) (n * b) (c * c) _ k (sym j) (sym i) (at-most-signed (unlike sx sy) _ t _ h),
-          λ h. signed-at-most (unlike sx sy) _ t _ (rescaled (unlike sx sy) t (a * c) (n * b) _ _ _ (c * c) (mul-pos C C) j i h),
-        )
+        rw (w .0) (rescaled t' s' _ _ (n * b) (a * c) (c * c) _ k (sym i) (sym j), rescaled t' s' (n * b) (a * c) _ _ _ (c * c) (mul-pos C C) i j)
 
 -- of patterns: a finite number over one that is not zero
 module _ (a b : ℕ) (h : T (finite (valueOf a))) (k : 0 < num (valueOf b)) where
@@ -54,28 +64,27 @@ module _ (a b : ℕ) (h : T (finite (valueOf a))) (k : 0 < num (valueOf b)) wher
       let j = seen-some b k .0 .number in
       rw (i .is, j .is) refl
 
-  pub at-most-units : (t : Bool) (n : ℕ) (x : Float) → Is x t n → T (finite x) → AtMostQuotient x (valueOf a) (valueOf b) ↔ SignedLe t (n * magnitude b) (signOf a b) (magnitude a * 2 ^ 1074)
-  at-most-units t n x w f =
+  pub units : (r t : Bool) (n : ℕ) (x : Float) → Is x t n → T (finite x) → Beside r x (valueOf a) (valueOf b) ↔ SignedLe (turned r t) (n * magnitude b) (turned r (signOf a b)) (magnitude a * 2 ^ 1074)
+  units r t n x w f =
       let i = seen a h .number in
       let j = seen-some b k .0 .number in
-      rw (i .is, j .is) (at-most (2 ^ 1074) (2 ^ 2098) (pow-pos 1074) t (negative a) (negative b) (magnitude a) (magnitude b) n (i .m) (j .m) (i .e) (j .e) (i .value) (j .value) x w f)
-
-  pub at-least-units : (t : Bool) (n : ℕ) (x : Float) → Is x t n → T (finite x) → AtLeastQuotient x (valueOf a) (valueOf b) ↔ SignedLe (signOf a b) (magnitude a * 2 ^ 1074) t (n * magnitude b)
-  at-least-units t n x w f =
-      let i = seen a h .number in
-      let j = seen-some b k .0 .number in
-      rw (i .is, j .is) (at-least (2 ^ 1074) (2 ^ 2098) (pow-pos 1074) t (negative a) (negative b) (magnitude a) (magnitude b) n (i .m) (j .m) (i .e) (j .e) (i .value) (j .value) x w f)
+      rw (i .is, j .is) (against (2 ^ 1074) (2 ^ 2098) (pow-pos 1074) r t (negative a) (negative b) (magnitude a) (magnitude b) n (i .m) (j .m) (i .e) (j .e) (i .value) (j .value) x w f)
 
   -- of an answer that may be infinite
-  pub under-quotient : (s : Bool) (n : ℕ) (x : Float) → Is x s n → (n ≡ 2 ^ 2098 → T s)
-      → (n < 2 ^ 2098 → SignedLe s (n * magnitude b) (signOf a b) (magnitude a * 2 ^ 1074)) → AtMostQuotient x (valueOf a) (valueOf b)
-  under-quotient s n nan w f g = absurd w
-  under-quotient s n (inf t) w f g = subst T (sym (w .0)) (f (w .1))
-  under-quotient s n (fin t m e) w f g = at-most-units s n (fin t m e) w tt .1 (g (w .2))
+  pub beside : (r s : Bool) (n : ℕ) (x : Float) → Is x s n → (n ≡ 2 ^ 2098 → T (turned r s))
+      → (n < 2 ^ 2098 → SignedLe (turned r s) (n * magnitude b) (turned r (signOf a b)) (magnitude a * 2 ^ 1074)) → Beside r x (valueOf a) (valueOf b)
+  beside r s n nan w f g = absurd w
+  beside r s n (inf t) w f g = rw (w .0) (f (w .1))
+  beside r s n (fin t m e) w f g = units r s n (fin t m e) w tt .1 (g (w .2))
 
-  pub over-quotient : (s : Bool) (n : ℕ) (x : Float) → Is x s n → (n ≡ 2 ^ 2098 → s ≡ false)
-      → (n < 2 ^ 2098 → SignedLe (signOf a b) (magnitude a * 2 ^ 1074) s (n * magnitude b)) → AtLeastQuotient x (valueOf a) (valueOf b)
-  over-quotient s n nan w f g = absurd w
-  over-quotient s n (inf true) w f g = absurd (true≢false (w .0 ∙ f (w .1)))
-  over-quotient s n (inf false) w f g = tt
-  over-quotient s n (fin t m e) w f g = at-least-units s n (fin t m e) w tt .1 (g (w .2))
+  -- and where it is the quotient itself
+  pub exact-units : (n : ℕ) (x : Float) → Is x (signOf a b) n → T (finite x) → IsQuotient x (valueOf a) (valueOf b) ↔ (n * magnitude b ≡ magnitude a * 2 ^ 1074)
+  exact-units n x w f =
+      let s = signOf a b in
+      let l = at-most x (valueOf a) (valueOf b) in
+      let g = at-least x (valueOf a) (valueOf b) in
+      let i = units false s n x w f in
+      let j = units true s n x w f in
+      let z = signed-both s (n * magnitude b) (magnitude a * 2 ^ 1074) in
+      let t = signed-turned s (magnitude a * 2 ^ 1074) s (n * magnitude b) in
+      (λ y. z .1 (i .0 (l .0 (y .0)), t .1 (j .0 (g .0 (y .1)))), λ e. (l .1 (i .1 (z .0 e .0)), g .1 (j .1 (t .0 (z .0 e .1)))))

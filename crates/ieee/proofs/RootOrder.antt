@@ -9,13 +9,14 @@ use Rattle.division.specs.declared.format.Class.the-variants.{Infinite}
 use Rattle.division.specs.Format.{negative, field, fraction, magnitude, classOf}
 use Rattle.division.specs.Roots.{rootScale, rootPlace, RoundedRoot, IeeeRoot}
 use Rattle.division.proofs.Roots.{root-increasing}
-use Rattle.division.proofs.RootDemand.{root-demand}
+use Rattle.division.proofs.Answers.{root-answer}
+use Rattle.division.proofs.IeeeRoots.{ieee-root}
 use Rattle.ieee.specs.LanguageQuotient.{valueOf}
 use Rattle.ieee.specs.RootOrder.{RootOrder}
 use Rattle.ieee.proofs.LanguageReading as Reading
-use Rattle.ieee.proofs.LanguageOrder.{SignedLe, greatest-infinity}
+use Rattle.ieee.proofs.LanguageOrder.{SignedLe}
 use Rattle.ieee.proofs.Operands.{class-of, Is, finite-stands, finite-value, finite-le}
-use Rattle.ieee.proofs.AnswerUnits.{is-le, rounded-stands, units-mono}
+use Rattle.ieee.proofs.AnswerUnits.{is-le, infinity-before, rounded-stands, units-mono}
 
 -- ---- signs: ±m is not below zero, and ±n not below it
 not-below-zero : (s t : Bool) (m n : ℕ) → SignedLe false 0 s m → SignedLe s m t n → SignedLe false 0 t n × (m ≤ n)
@@ -99,8 +100,8 @@ module _ (direction : ℕ) where
   -- it is at most plus infinity
   under-infinity : (p : ℕ) {x : Binary64Result} → FiniteRoot direction p x → T (le (valueOf (x .pattern)) (inf false))
   under-infinity p {x} = ⊎-elim
-      (λ z. greatest-infinity (2 ^ 1074) (2 ^ 2098) (valueOf (x .pattern)) (negative p) 0 (z .1))
-      (λ r. greatest-infinity (2 ^ 1074) (2 ^ 2098) (valueOf (x .pattern)) false _ (rounded-stands (r .1)))
+      (λ z. infinity-before true false (negative p) 0 (valueOf (x .pattern)) (z .1) tt)
+      (λ r. infinity-before true false false _ (valueOf (x .pattern)) (rounded-stands (r .1)) tt)
 
   between : (p q : ℕ) {x y : Binary64Result} → magnitude p ≤ magnitude q → FiniteRoot direction p x → FiniteRoot direction q y → T (le (valueOf (x .pattern)) (valueOf (y .pattern)))
   between p q h u v = ⊎-elim
@@ -136,4 +137,4 @@ module _ (direction : ℕ) where
       (at-least (valueOf 0) a (finite-above (valueOf 0) (finite-value 0 (omega arith))) k)
 
 pub root-ordered : RootOrder
-root-ordered = record { bigger = λ direction a b h. roots-bigger direction a b (root-demand .binary64 direction a h .meaning) (root-demand .binary64 direction b h .meaning) }
+root-ordered = record { bigger = λ direction a b h. rw (root-answer direction a h, root-answer direction b h) (roots-bigger direction a b (ieee-root direction a) (ieee-root direction b)) }

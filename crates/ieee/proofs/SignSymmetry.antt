@@ -1,18 +1,20 @@
--- Turning the sign of an operand turns the answer's sign and exchanges directions 2 and 3; the flags stay. It holds of not-a-numbers too, whose sign the logic does not tell.
+-- Negating an operand negates the answer and exchanges directions 2 and 3; the flags stay. It holds of not-a-numbers too, whose sign the logic does not tell.
 use Rattle.laws.proofs.Basics.{_≡_, refl, sym, ap, ap₂, _∙_, Bool, true, false, not, cond, _||_, Bool·beq, ⊎-elim, ℕ, zero, suc, _+_, _^_, _≤_, _<_, arith, eqb, le-leb, lt-leb}
 use lib.Ieee.{nan, inf, binary64, neg, odd, ofFields, ofBits}
 use Rattle.laws.proofs.Division.{le-or-lt}
 use Rattle.division.specs.declared.format.Binary64Result.{Binary64Result}
-use Rattle.division.specs.Format.{negative, field, fraction, magnitude, classOf, signalling, signBit, signOf, infinity, largestFinite, quietNan, inexactFlag, overflowFlag, invalidFlag}
+use Rattle.division.specs.Format.{negative, field, fraction, magnitude, classOf, signalling, signBit, signOf, infinity, largestFinite, quietNan, inexactFlag, overflowFlag, invalidFlag, IsNonzero, binary64Values}
 use Rattle.division.specs.Computed.{nanFlags}
-use Rattle.division.specs.Rounding.{modeOf, Rounds}
-use Rattle.division.specs.Rounded.{pointsToZero, Rounded}
-use Rattle.division.specs.Ieee.{quotientScale, quotientPlace, RoundedQuotient, IsNonzero, Ieee}
+use Rattle.division.specs.declared.rounding.Mode.{Mode}
+use Rattle.division.specs.Rounding.{modeOf, pointsToZero}
+use Rattle.division.specs.Rounded.{Rounded}
+use Rattle.division.specs.Ieee.{quotientScale, quotientPlace, RoundedQuotient, Ieee}
 use Rattle.division.proofs.Classes.{by-cases, nonzero-operand}
 use Rattle.division.proofs.Quotient.{quotient-increasing}
 use Rattle.division.proofs.RoundedOne.{rounded-one}
 use Rattle.ieee.specs.LanguageQuotient.{valueOf}
 use Rattle.ieee.specs.Directions.{negated, mirrored}
+use Rattle.ieee.specs.Ieee754.{Opposite}
 use Rattle.ieee.proofs.LanguageReading.{by-fields}
 use Rattle.ieee.proofs.AnswerUnits.{rounded-word}
 
@@ -66,25 +68,16 @@ negated-neg p h =
     ∙ ap neg (sym (by-fields p))
 
 -- ---- a rounded magnitude
-mirrored-rounds : (d : ℕ) (s : Bool) (f : ℕ → ℕ) (m x : ℕ) → d ≤ 3 → Rounds (modeOf (mirrored d) s) f m x → Rounds (modeOf d (not s)) f m x
-mirrored-rounds zero s f m x l r = r
-mirrored-rounds (suc zero) s f m x l r = r
-mirrored-rounds (suc (suc zero)) true f m x l r = r
-mirrored-rounds (suc (suc zero)) false f m x l r = r
-mirrored-rounds (suc (suc (suc zero))) true f m x l r = r
-mirrored-rounds (suc (suc (suc zero))) false f m x l r = r
-mirrored-rounds (suc (suc (suc (suc d)))) s f m x l r = absurd (omega arith)
+mirrored-mode : (d : ℕ) (s : Bool) → d ≤ 3 → modeOf (mirrored d) s ≡ modeOf d (not s)
+mirrored-mode zero s l = refl
+mirrored-mode (suc zero) s l = refl
+mirrored-mode (suc (suc zero)) true l = refl
+mirrored-mode (suc (suc zero)) false l = refl
+mirrored-mode (suc (suc (suc zero))) true l = refl
+mirrored-mode (suc (suc (suc zero))) false l = refl
+mirrored-mode (suc (suc (suc (suc d)))) s l = absurd (omega arith)
 
-mirrored-zero : (d : ℕ) (s : Bool) → d ≤ 3 → pointsToZero (mirrored d) s ≡ pointsToZero d (not s)
-mirrored-zero zero s l = refl
-mirrored-zero (suc zero) s l = refl
-mirrored-zero (suc (suc zero)) true l = refl
-mirrored-zero (suc (suc zero)) false l = refl
-mirrored-zero (suc (suc (suc zero))) true l = refl
-mirrored-zero (suc (suc (suc zero))) false l = refl
-mirrored-zero (suc (suc (suc (suc d)))) s l = absurd (omega arith)
-
--- an answer with its sign bit negated
+-- an answer with its sign bit inverted
 abbrev negation : Binary64Result → Binary64Result
 negation x = record { pattern = negated (x .pattern); flags = x .flags }
 
@@ -96,13 +89,13 @@ over-negated : (z s : Bool) → negated (signBit s + cond z largestFinite infini
 over-negated true s = negated-bit s largestFinite (omega arith)
 over-negated false s = negated-bit s infinity (omega arith)
 
-negated-rounded : (d : ℕ) → d ≤ 3 → (s : Bool) (scale : ℕ → ℕ → ℕ) (m : ℕ) (x : Binary64Result) → Rounded (mirrored d) s scale m x → Rounded d (not s) scale m (negation x)
-negated-rounded d l s scale m x u = record {
+negated-rounded : {mode : Mode} (s : Bool) {scale : ℕ → ℕ → ℕ} {m : ℕ} {x : Binary64Result} → Rounded mode s scale m x → Rounded mode (not s) scale m (negation x)
+negated-rounded {mode} s {x = x} u = record {
   e = u .e;
   K = u .K;
   exponent = u .exponent;
-  rounded = mirrored-rounds d s (scale (u .e)) m (u .K) l (u .rounded);
-  over = λ h. ap negation (u .over h) ∙ ap overflowing (over-negated (pointsToZero (mirrored d) s) s ∙ ap (λ (z : Bool). signBit (not s) + cond z largestFinite infinity) (mirrored-zero d s l));
+  rounded = u .rounded;
+  over = λ h. ap negation (u .over h) ∙ ap overflowing (over-negated (pointsToZero mode) s);
   word = λ h. negated-word (x .pattern);
   value = λ h. negated-magnitude (x .pattern) ∙ u .value h;
   sign = λ h. negated-sign (x .pattern) (u .word h) ∙ ap not (u .sign h);
@@ -114,9 +107,6 @@ negated-rounded d l s scale m x u = record {
     overflowing p = record { pattern = p; flags = inexactFlag + overflowFlag }
 
 -- ---- the answers
-abbrev Opposite : Binary64Result → Binary64Result → Type 0
-Opposite x y = (valueOf (x .pattern) ≡ neg (valueOf (y .pattern))) × (x .flags ≡ y .flags)
-
 bit-neg : (s : Bool) (n : ℕ) → n < 2 ^ 63 → valueOf (signBit (not s) + n) ≡ neg (valueOf (signBit s + n))
 bit-neg s n h = ap valueOf (sym (negated-bit s n h)) ∙ negated-neg (signBit s + n) (fits s)
   where
@@ -133,7 +123,7 @@ zero-neg true = bit-neg true 0 (omega arith)
 zero-neg false = bit-neg false 0 (omega arith)
 
 -- operands of the same magnitudes and classes, whose quotient has the other sign
-record Turned (a b a' b' : ℕ) : Type 0 where
+record Negated (a b a' b' : ℕ) : Type 0 where
   dividend : classOf a' ≡ classOf a
   divisor : classOf b' ≡ classOf b
   over : magnitude a' ≡ magnitude a
@@ -141,21 +131,21 @@ record Turned (a b a' b' : ℕ) : Type 0 where
   signals : nanFlags a' b' ≡ nanFlags a b
   sign : signOf a' b' ≡ not (signOf a b)
 
-module _ (d a b a' b' : ℕ) (l : d ≤ 3) (o : Turned a b a' b') {x y : Binary64Result} (u : Ieee d a' b' x) (v : Ieee (mirrored d) a b y) where
-  quotients : IsNonzero a → IsNonzero b → Opposite x y
+module _ (d a b a' b' : ℕ) (l : d ≤ 3) (o : Negated a b a' b') {x y : Binary64Result} (u : Ieee d a' b' x) (v : Ieee (mirrored d) a b y) where
+  quotients : IsNonzero a → IsNonzero b → Opposite (binary64Values x) (binary64Values y)
   quotients h k =
       let s = signOf a b in
       let w : RoundedQuotient d (not s) (magnitude a) (magnitude b) x = rw (o .over, o .under, o .sign) at (u .quotient (rw (o .dividend) h) (rw (o .divisor) k)) in
-      let e = rounded-one d (not s) (quotientScale (magnitude b)) (quotient-increasing (magnitude b) (nonzero-operand b k .some)) (quotientPlace (magnitude a)) w (negated-rounded d l s _ _ y (v .quotient h k)) in
-      rw e (negated-neg (y .pattern) (rounded-word (v .quotient h k)), refl)
+      let e = rounded-one _ (not s) (quotientScale (magnitude b)) (quotient-increasing (magnitude b) (nonzero-operand b k .some)) (quotientPlace (magnitude a)) w (rw (mirrored-mode d s l) at (negated-rounded s (v .quotient h k))) in
+      rw e (record { value = negated-neg (y .pattern) (rounded-word (v .quotient h k)); flags = refl })
 
-  opposite : Opposite x y
+  opposite : Opposite (binary64Values x) (binary64Values y)
   opposite = by-cases a b
-      (λ h. rw (v .nan h, u .nan (rw (o .dividend, o .divisor) h)) (quiet-neg, u .nan-flag (rw (o .dividend, o .divisor) h) ∙ o .signals ∙ sym (v .nan-flag h)))
-      (λ h. rw (v .invalid h, u .invalid (rw (o .dividend, o .divisor) h)) (quiet-neg, refl))
-      (λ h k. rw (v .by-zero h k, u .by-zero (rw (o .dividend) h) (rw (o .divisor) k), o .sign) (bit-neg (signOf a b) infinity (omega arith), refl))
-      (λ h k. rw (v .infinite h k, u .infinite (rw (o .dividend) h) (rw (o .divisor) k), o .sign) (bit-neg (signOf a b) infinity (omega arith), refl))
-      (λ h. rw (v .zero h, u .zero (rw (o .dividend, o .divisor) h), o .sign) (zero-neg (signOf a b), refl))
+      (λ h. rw (v .nan h, u .nan (rw (o .dividend, o .divisor) h)) (record { value = quiet-neg; flags = u .nan-flag (rw (o .dividend, o .divisor) h) ∙ o .signals ∙ sym (v .nan-flag h) }))
+      (λ h. rw (v .invalid h, u .invalid (rw (o .dividend, o .divisor) h)) (record { value = quiet-neg; flags = refl }))
+      (λ h k. rw (v .by-zero h k, u .by-zero (rw (o .dividend) h) (rw (o .divisor) k), o .sign) (record { value = bit-neg (signOf a b) infinity (omega arith); flags = refl }))
+      (λ h k. rw (v .infinite h k, u .infinite (rw (o .dividend) h) (rw (o .divisor) k), o .sign) (record { value = bit-neg (signOf a b) infinity (omega arith); flags = refl }))
+      (λ h. rw (v .zero h, u .zero (rw (o .dividend, o .divisor) h), o .sign) (record { value = zero-neg (signOf a b); flags = refl }))
       quotients
 
 left-negated : (s t : Bool) → not (Bool·beq (not s) t) ≡ not (not (Bool·beq s t))
@@ -171,12 +161,12 @@ right-negated false true = refl
 right-negated false false = refl
 
 module _ (d a b : ℕ) (l : d ≤ 3) {x y : Binary64Result} where
-  pub dividend-negated : a < 2 ^ 64 → Ieee d (negated a) b x → Ieee (mirrored d) a b y → Opposite x y
+  pub dividend-negated : a < 2 ^ 64 → Ieee d (negated a) b x → Ieee (mirrored d) a b y → Opposite (binary64Values x) (binary64Values y)
   dividend-negated h =
       opposite d a b (negated a) b l
       (record { dividend = negated-class a; divisor = refl; over = negated-magnitude a; under = refl; signals = ap (λ (s : Bool). cond (s || signalling b) invalidFlag 0) (negated-signalling a); sign = ap (λ (s : Bool). not (Bool·beq s (negative b))) (negated-sign a h) ∙ left-negated (negative a) (negative b) })
 
-  pub divisor-negated : b < 2 ^ 64 → Ieee d a (negated b) x → Ieee (mirrored d) a b y → Opposite x y
+  pub divisor-negated : b < 2 ^ 64 → Ieee d a (negated b) x → Ieee (mirrored d) a b y → Opposite (binary64Values x) (binary64Values y)
   divisor-negated h =
       opposite d a b a (negated b) l
       (record { dividend = refl; divisor = negated-class b; over = refl; under = negated-magnitude b; signals = ap (λ (s : Bool). cond (signalling a || s) invalidFlag 0) (negated-signalling b); sign = ap (λ (s : Bool). not (Bool·beq (negative a) s)) (negated-sign b h) ∙ right-negated (negative a) (negative b) })

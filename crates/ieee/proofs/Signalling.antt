@@ -10,10 +10,7 @@ use Rattle.division.specs.declared.format.Binary64Result.{Binary64Result}
 use Rattle.division.specs.declared.format.Class.the-variants.{Nan}
 use Rattle.ieee.specs.LanguageQuotient.{valueOf}
 use Rattle.ieee.specs.Ieee754.{Signals}
-
-both : (x y : Bool) → T (x && y) → T x × T y
-both true y t = (tt, t)
-both false y t = absurd t
+use Rattle.ieee.proofs.LanguageOrder.{both}
 
 is-nan : (x : Float) → isNan x ≡ true → x ≡ nan
 unfolding isNan

@@ -78,7 +78,7 @@ pub record Pinned (direction a b p : ℕ) : Type 0 where
 
 -- ---- signs
 
--- a 64-bit pattern with its sign bit negated
+-- a 64-bit pattern with its sign bit inverted
 abbrev pub negated : ℕ → ℕ
 negated p = (p + 2 ^ 63) % 2 ^ 64
 

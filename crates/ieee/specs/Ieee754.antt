@@ -13,9 +13,9 @@ use lib.Ieee.Scale.{finite}
 use lib.Ieee.Positive.{num, positive}
 use Rattle.selection.specs.Table.{Passes}
 use Rattle.selection.specs.Computed.{madeTable}
-use Rattle.division.specs.declared.binary64.Binary64Answer.{Binary64Answer}
-use Rattle.division.specs.Format.{infinity, largestFinite, quietNan}
-use Rattle.division.specs.Binary64.{binary64Of, binary64Values}
+use Rattle.division.specs.declared.format.Binary64Answer.{Binary64Answer}
+use Rattle.division.specs.Format.{infinity, largestFinite, quietNan, binary64Values}
+use Rattle.division.specs.Binary64.{binary64Of}
 use Rattle.division.specs.Samples.{concentrationsOf}
 use Rattle.ieee.specs.LanguageQuotient.{valueOf, one, LanguageQuotient}
 use Rattle.ieee.specs.Directions.{signIn, quotientSign, AtMostQuotient, AtLeastQuotient, IsQuotient, FiniteOver, Pinned, negated, mirrored}
@@ -65,7 +65,7 @@ pub record IeeeThrough (t : List ℕ) : Type 0 where
   -- invalid is raised where either operand signals, and a quiet not-a-number alone raises nothing
   pub signalling : (direction a b : ℕ) → direction ≤ 3 → Signals a ⊎ Signals b → binary64Of t direction a b .flags ≡ 16
   pub quiet : (direction a b : ℕ) → direction ≤ 3 → (valueOf a ≡ nan) ⊎ (valueOf b ≡ nan) → (Signals a → ⊥) → (Signals b → ⊥) → binary64Of t direction a b .flags ≡ 0
-  -- turning an operand's sign turns the answer's, and exchanges up and down
+  -- negating an operand negates the answer, and exchanges up and down
   pub dividend-negated : (direction a b : ℕ) → direction ≤ 3 → a < 2 ^ 64 → Opposite (binary64Of t direction (negated a) b) (binary64Of t (mirrored direction) a b)
   pub divisor-negated : (direction a b : ℕ) → direction ≤ 3 → b < 2 ^ 64 → Opposite (binary64Of t direction a (negated b)) (binary64Of t (mirrored direction) a b)
   -- bigger stays bigger: over one divisor that is finite and above zero, of two finite dividends the greater never has the smaller answer; `le` counts zeros of either sign as equal

@@ -1,6 +1,4 @@
 pub mod LanguageQuotient
 pub mod Directions
 pub mod Ieee754
-pub mod RootExamples
 pub mod RootOrder
-pub mod FlagExamples

@@ -1,6 +1,6 @@
 -- Tests that antt computes, and what a passed one says: one test over all entries of a table, and a law that carries it to each.
-use Rattle.laws.proofs.Basics.{_≡_, refl, _∙_, subst, sym, Bool, true, false, not, cond, ⊎-elim, List, [], _∷_, ℕ, zero, suc, _+_, _≤_, _<_, arith, needs, lt-ltb, le-ltb, le-leb, lt-leb, eq-eqb, ne-eqb, T, length, getD}
-use native.Mathlib.Nat.{add-zero, zero-add, add-suc, suc-add, le-of-suc-le-suc, not-suc-le-zero, eq-or-lt-of-le}
+use Rattle.laws.proofs.Basics.{_≡_, refl, _∙_, subst, sym, Bool, true, false, not, cond, ⊎-elim, List, [], _∷_, ℕ, zero, suc, _+_, _≤_, _<_, arith, needs, lt-ltb, le-ltb, le-leb, lt-leb, eq-eqb, ne-eqb, ltb, ltb-true, ltb-false, T, length, getD}
+use native.Mathlib.Nat.{add-zero, zero-add, add-suc, suc-add, le-of-suc-le-suc, not-suc-le-zero, not-le-of-lt, eq-or-lt-of-le}
 
 -- what code that climbs a list of tests asks at each way out: `search tests`
 pub ruleset tests = (needs, lt-ltb, le-ltb, le-leb, lt-leb, eq-eqb, ne-eqb)
@@ -10,9 +10,27 @@ pub by-cond : {X : Type 0} (P : X → Type 0) (c : Bool) (x y : X) → (T c → 
 by-cond P true x y f g = f tt
 by-cond P false x y f g = g tt
 
+-- either value of the test will do
+pub cond-in : {X : Type 0} (P : X → Type 0) (c : Bool) {x y : X} → P x → P y → P (cond c x y)
+cond-in P c p q = by-cond P c _ _ (λ t. p) (λ t. q)
+
 pub is-true : (x : Bool) → T x → x ≡ true
 is-true true t = refl
 is-true false t = absurd t
+
+-- the value b of a test says whether P holds
+pub record Decides (P : Type 0) (b : Bool) : Type 0 where
+  pub yes : b ≡ true → P
+  pub no : b ≡ false → P → ⊥
+
+pub decides-yes : {P : Type 0} → P → Decides P true
+decides-yes p = record { yes = λ e. p; no = λ e q. subst T e tt }
+
+pub decides-no : {P : Type 0} → (P → ⊥) → Decides P false
+decides-no n = record { yes = λ e. absurd (subst T (sym e) tt); no = λ e. n }
+
+pub less-decides : (a b : ℕ) → Decides (a < b) (ltb a b)
+less-decides a b = record { yes = ltb-true a b; no = λ e l. not-le-of-lt l (ltb-false a b e) }
 
 -- equal tests
 abbrev pub alike : Bool → Bool → Bool

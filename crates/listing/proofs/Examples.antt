@@ -1,10 +1,10 @@
 -- A table with no bad cell or with one, and document 01's example of a listing.
-use Rattle.laws.proofs.Basics.{_≡_, refl, sym, ap, _∙_, List, [], _++_, append-nil, ⊎-elim, _⊎_, inl, inr, _≢_, ℕ, zero, suc, _/_, _%_, _<_, arith, pos, length, getD, set, length-set}
-use native.Mathlib.Decide.{decLe}
-use native.Mathlib.Nat.{eq-or-lt-of-le, lt-of-not-le}
+use Rattle.laws.proofs.Basics.{_≡_, refl, sym, ap, _∙_, List, [], _++_, append-nil, ⊎-elim, _⊎_, _≢_, ℕ, zero, suc, _/_, _%_, _<_, arith, pos, length, getD, set, length-set}
+use native.Mathlib.Nat.{eq-or-lt-of-le}
 use lib.Seq.{getD-set-same, getD-set-other}
 use Rattle.selection.specs.Cell.{Allows, digit}
 use Rattle.laws.specs.Lists.{listFrom}
+use Rattle.laws.proofs.Division.{same-or-other}
 use Rattle.selection.specs.Allowed.{allowsOf}
 use Rattle.selection.specs.Computed.{cellOf, madeOf, madeTable}
 use Rattle.selection.specs.Table.{Table, Passes}
@@ -36,9 +36,6 @@ one-line t m (suc n) l f =
 
 passed-prints : (t : List ℕ) → Passes t → listingOf t ≡ names
 passed-prints t p = table-text t (p .table) ∙ ap (λ (y : List ℕ). names ++ y) (no-lines t 2048 (λ k l. quiet (p .table) k l (p .allowed k l)))
-
-same-or-other : (k m : ℕ) → (k ≡ m) ⊎ (k ≢ m)
-same-or-other k m = elim (decLe k m) [ yes l ↦ ⊎-elim (λ e. inl e) (λ b. inr (λ e. omega arith)) (eq-or-lt-of-le l) | no x ↦ inr (λ e. omega (arith, lt-of-not-le x)) ]
 
 changed : List ℕ
 changed = set madeTable 215 2

@@ -4,7 +4,7 @@ use Rattle.laws.proofs.Division.{le-or-lt}
 use Rattle.selection.specs.Table.{BadAt}
 use Rattle.plot.specs.Plot.{HasPoint, Shown, BadTo}
 use Rattle.plot.specs.declared.cells.Cell.{Cell}
-use Rattle.plot.proofs.Points.{point-columns}
+use Rattle.plot.proofs.Points.{has-point-columns}
 
 module _ {t : List ℕ} {k : ℕ} {x : Cell} where
   pub shown-bad : Shown t k x → x .good ≡ false → BadAt t k
@@ -28,5 +28,5 @@ bad-drawn {r = r} {end = end} hr s h =
     let w = s .bad (end - 1) (omega arith) (omega arith) in
     let k = 128 * r + (end - 1) in
     let p : HasPoint (k / 128) (k % 128) = record { divisor = w .divisor; remainder = w .remainder; point = w .against .point } in
-    let l = point-columns (omega (arith, s .within)) (omega arith) p in
+    let l = has-point-columns (omega (arith, s .within)) (omega arith) p in
     omega (arith, s .within, l)

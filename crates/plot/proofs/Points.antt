@@ -24,14 +24,14 @@ pub broken-point : {r c b : ℕ} → Broken r c b → HasPoint r c
 broken-point w = record { divisor = w .divisor; remainder = w .remainder; point = w .against .point }
 
 -- a point lies in the columns 20 to 106
-pub point-columns : {r c : ℕ} → r ≤ 15 → c ≤ 127 → HasPoint r c → (20 ≤ c) × (c ≤ 106)
-point-columns hr hc p = let b = of-point (omega arith) hr hc (p .point) .point in (omega (arith, b), omega (arith, b))
+pub has-point-columns : {r c : ℕ} → r ≤ 15 → c ≤ 127 → HasPoint r c → (20 ≤ c) × (c ≤ 106)
+has-point-columns hr hc p = let b = of-point (omega arith) hr hc (p .point) .point in (omega (arith, b), omega (arith, b))
 
 pub drawn-yes : {c : ℕ} → 16 ≤ c → c < 112 → DrawnIs c true
 drawn-yes l h = record { yes = λ e. (l, h); no = λ e. absurd (subst T e tt) }
 
 pub drawn-no : {c : ℕ} → c ≤ 127 → (20 ≤ c → c ≤ 106 → ⊥) → DrawnIs c false
-drawn-no h n = record { yes = λ e. absurd (subst T (sym e) tt); no = λ e r hr p. let l = point-columns hr h p in n (l .0) (l .1) }
+drawn-no h n = record { yes = λ e. absurd (subst T (sym e) tt); no = λ e r hr p. let l = has-point-columns hr h p in n (l .0) (l .1) }
 
 -- the two answers of a test
 module _ {r c : ℕ} where

@@ -1,7 +1,7 @@
 // The picture of how often each cell is met: the visits of runs of 28 digits, of all pairs of operands of 6 significant bits.
 ghost use Prim.Native.Nat.{_≤_, _<_};
 ghost use lib.ListN.{length, getD};
-ghost use Rattle.selection.specs.Table.{Tally};
+ghost use Rattle.laws.specs.Counting.{Tally};
 ghost use Rattle.plot.specs.Visits.{ShadeIs, VisitsAt};
 use crate::cells::has_point;
 use crate::cells::is_drawn;

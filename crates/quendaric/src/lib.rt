@@ -12,7 +12,7 @@ ghost use Rattle.division.specs.Packed.{packedOf};
 ghost use Rattle.division.specs.Ratios.{comparedOf, comparisonNumbers};
 ghost use Rattle.division.specs.RootCalls.{rootWholeOf, rootBinary64Of};
 ghost use Rattle.exposure.specs.Computed.{averagesOf, meansOf, remaindersOf};
-use division::binary64::Binary64Answer;
+use division::format::Binary64Answer;
 use division::packed::PackedAnswer;
 use division::ratio::ComparisonNumbers;
 use division::root::RootAnswer;

@@ -2,7 +2,7 @@
 -- S and the end remainder, corrected, are the same numbers, and they are quotient and remainder of N·4^(n−1) by D.
 use Rattle.laws.proofs.Basics.{_≡_, sym, ap, ap₂, subst, _∙_, false, cond, List, ℕ, zero, suc, _+_, _-_, _*_, _/_, _%_, _^_, _≤_, _<_, arith, ltb, ltb→lt, nltb→le, ℤ, pos, negsuc, natAbs, _+ℤ_, _-ℤ_, nonNeg}
 use native.Mathlib.Nat.{pow-le-pow-right}
-use lib.Arith.{digits-div, digits-mod}
+use Rattle.laws.proofs.Division.{quotient}
 use Rattle.laws.proofs.Diff.{diff, diffs}
 use Rattle.laws.proofs.Tests.{by-cond}
 use Rattle.recurrence.specs.Recurrence.{State, after, digits, value, correctedQuotient, correctedRemainder, endRemainder, resultOf}
@@ -11,6 +11,7 @@ use Rattle.recurrence.specs.FastRun.{resultFromWord}
 use Rattle.recurrence.specs.OnTheFly.{PairOf}
 use Rattle.recurrence.specs.declared.RunResult.{RunResult}
 use Rattle.recurrence.proofs.Steps.{biased}
+use Rattle.recurrence.proofs.Digits.{divisor-after}
 use Rattle.recurrence.proofs.Invariant.{Invariant, quarter}
 use Rattle.recurrence.proofs.Pair.{word-one}
 
@@ -77,7 +78,7 @@ by-word S D w M z m l h e lo hi =
 -- ---- the answer of a run
 
 unique : (q r M D n : ℕ) → q * D + r ≡ M → r < D → _≡_ {A = RunResult} (record { quotient = q; remainder = r; count = n }) (divided M D n)
-unique q r M D n e h = rw (← e, digits-div q h, digits-mod q h)
+unique q r M D n e h = let k = quotient e h in rw (k .0, k .1)
 
 -- the sign takes one from S, or chooses: v is S, u one less
 by-choice : (S v u w : ℕ) → w < 2 ^ 64 → w / 2 ^ 63 ≤ S → S ≡ v → v ≡ (u + 1) % 2 ^ 64 → u < 2 ^ 64 → cond (ltb w (2 ^ 63)) v u ≡ S - w / 2 ^ 63
@@ -102,7 +103,7 @@ module _ (t : List ℕ) (N D n S : ℕ) (k : Invariant t N D n S) where
   corrected-run h =
       let p = after t N D n in
       let b = signs p in
-      let v = k .divisor in
+      let v = divisor-after t N D n in
       by-word S D (wordOf p) (N * 4 ^ (n - 1)) (omega (arith, k .in-range .least)) (omega (arith, k .in-range .most)) (omega arith) sign-at-most
       (omega (arith, k .meets, quarter N n h)) (omega (arith, k .in-range .below)) (omega (arith, k .in-range .above))
 
@@ -121,7 +122,7 @@ module _ (t : List ℕ) (N D n S : ℕ) (k : Invariant t N D n S) where
       let p = after t N D n in
       let f : S < 2 ^ 64 = omega (arith, k .size, pow-le-pow-right {n = 4} (omega arith) {i = n} {j = 31} m) in
       let e : S ≡ p .value = word-one S (p .value) f (rw (k .makes) at (c .value)) in
-      rw (k .divisor, by-choice S (p .value) (p .decremented) (wordOf p) (omega arith) sign-at-most e (c .one-apart) (c .decremented .word)) (result-by-sign h)
+      rw (divisor-after, by-choice S (p .value) (p .decremented) (wordOf p) (omega arith) sign-at-most e (c .one-apart) (c .decremented .word)) (result-by-sign h)
 
   pub result-divided : 1 ≤ n → resultOf t N D n ≡ divided (N * 4 ^ (n - 1)) D n
   result-divided h =

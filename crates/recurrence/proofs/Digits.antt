@@ -1,10 +1,16 @@
--- The digits of a run: where each comes from, and the number S that they make.
-use Rattle.laws.proofs.Basics.{_≡_, ap, _∙_, List, [], _∷_, _++_, ℕ, _*_, _^_, _<_, arith, length, getD, length-append, ℤ, pos, _+ℤ_, _*ℤ_}
+-- The states and digits of a run: the divisor stays, where each digit comes from, and the number S that they make.
+use Rattle.laws.proofs.Basics.{_≡_, refl, ap, _∙_, List, [], _∷_, _++_, ℕ, zero, suc, _*_, _^_, _<_, arith, length, getD, length-append, ℤ, pos, _+ℤ_, _*ℤ_}
 use native.Mathlib.Nat.{pow-suc, zero-add}
 use Rattle.laws.proofs.Lists.{list-at}
 use Rattle.laws.proofs.Diff.{diff, diffs, by-diff}
 use Rattle.selection.specs.Cell.{digit}
 use Rattle.recurrence.specs.Recurrence.{cellAt, nextOf, after, digitOf, digits, value}
+
+-- no step changes the divisor
+pub divisor-after : (t : List ℕ) (N D i : ℕ) → after t N D i .divisor ≡ D
+unfolding after nextOf
+divisor-after t N D zero = refl
+divisor-after t N D (suc i) = divisor-after t N D i
 
 -- each digit is the table's at the cell of the state that the steps have reached
 pub digit-at : (t : List ℕ) (N D n i : ℕ) → i < n → getD (digits t N D n) i 0 ≡ getD t (cellAt (after t N D i)) 0

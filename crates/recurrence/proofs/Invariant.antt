@@ -8,7 +8,7 @@ use Rattle.selection.specs.Table.{Passes}
 use Rattle.selection.proofs.BiasedPoints.{digit-diff}
 use Rattle.recurrence.specs.Recurrence.{State, Operands, cellAt, stepBy, nextOf, after, digitOf, digits, value}
 use Rattle.recurrence.proofs.Steps.{biased, InRange, AllowedAt, table-digit-allowed, step-law, step-in-range}
-use Rattle.recurrence.proofs.Digits.{value-append}
+use Rattle.recurrence.proofs.Digits.{divisor-after, value-append}
 
 -- 4S + q is not negative, since the digit is allowed
 enough : (S d D u M : ℕ) → 0 < D → u + 4 * (S * D) ≡ M + 2 ^ 63 → 3 * u + 4 * D ≤ 3 * (d * D) + 3 * 2 ^ 63 → 2 ≤ 4 * S + d
@@ -39,7 +39,6 @@ quarter N n h = ap (λ (m : ℕ). N * 4 ^ m) (omega arith) ∙ quad N (n - 1)
 
 pub record Invariant (t : List ℕ) (N D i S : ℕ) : Type 0 where
   pub in-range : InRange (after t N D i)
-  pub divisor : after t N D i .divisor ≡ D
   pub makes : value (digits t N D i) ≡ pos S
   pub meets : biased (after t N D i) + 4 * (S * D) ≡ N * 4 ^ i + 2 ^ 63
   pub size : S < 4 ^ i
@@ -57,14 +56,13 @@ module _ (t : List ℕ) (N D : ℕ) (ok : Passes t) where
       let p = after t N D i in
       let d = getD t (cellAt p) 0 in
       let f = table-digit-allowed t p ok (h .in-range) in
-      let m = step-meets d p S (N * 4 ^ i) (h .divisor) (h .in-range) f (h .meets) in
+      let m = step-meets d p S (N * 4 ^ i) (divisor-after t N D i) (h .in-range) f (h .meets) in
       let k = m .0 in
       record {
         enough = k;
         byte = f .byte;
         next = record {
           in-range = step-in-range d p (h .in-range) f;
-          divisor = h .divisor;
           makes = ap value (list-snoc (digitOf t N D) i) ∙ value-append (digits t N D i) d ∙ rw (h .makes, digit-diff d) (simp diffs (omega arith));
           meets = m .1 ∙ ap (λ (x : ℕ). x + 2 ^ 63) (sym (quad N i));
           size = omega (arith, f .byte, h .size);
@@ -75,7 +73,6 @@ module _ (t : List ℕ) (N D : ℕ) (ok : Passes t) where
   unfolding after value listFrom
   invariant-start o = record {
     in-range = record { least = o .least; most = o .most; above = omega arith; below = omega arith };
-    divisor = refl;
     makes = refl;
     meets = omega arith;
     size = omega arith;

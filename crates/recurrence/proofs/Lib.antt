@@ -11,6 +11,5 @@ pub mod Refusals
 pub mod RunDemand
 pub mod StepRange
 pub mod StepDemand
-pub mod Sums
 pub mod Visiting
 pub mod VisitCounts

@@ -7,8 +7,8 @@ use Rattle.laws.proofs.Words.{same-mod, mod-sum}
 use Rattle.selection.specs.Cell.{column}
 use Rattle.recurrence.specs.CarrySave.{sum3, maj3, multiple, lowestCarry}
 use Rattle.recurrence.specs.Recurrence.{State, stepBy}
-use Rattle.recurrence.specs.FastRun.{withColumn, topBitsOf, multiplesOf, allTopBits, renewed}
-use Rattle.recurrence.specs.declared.RunState.{RunState}
+use Rattle.recurrence.specs.FastRun.{withColumn, topBitsOf, divisorMultiples, allTopBits, renewed}
+use Rattle.recurrence.specs.declared.state.RunState.{RunState}
 use Rattle.recurrence.proofs.CarrySave.{tops, majority}
 use Rattle.recurrence.proofs.Pair.{by-digit}
 
@@ -69,7 +69,7 @@ top-bits-at ms = joined (λ d. topBitsOf (getD ms d 0)) (λ d. omega arith)
     joined f s (suc (suc (suc (suc zero)))) h = omega (arith, s 0, s 1, s 2, s 3, s 4)
     joined f s (suc (suc (suc (suc (suc d))))) h = absurd (omega arith)
 
-pub multiple-at : (D d : ℕ) → d ≤ 4 → getD (multiplesOf D) d 0 ≡ multiple d D
+pub multiple-at : (D d : ℕ) → d ≤ 4 → getD (divisorMultiples D) d 0 ≡ multiple d D
 multiple-at D zero h = refl
 multiple-at D (suc zero) h = omega arith
 multiple-at D (suc (suc zero)) h = omega arith

@@ -1,12 +1,9 @@
 -- The refusals of the arguments, and what the two calls make of them.
-use Rattle.laws.proofs.Basics.{_≡_, refl, sym, ap, _∙_, List, _++_, inl, inr, ⊎-elim, ℕ, _+_, _-_, _^_, _≤_, _<_, arith, length}
-use Rattle.selection.specs.Answer.{answerBy}
-use Rattle.selection.specs.Table.{tableRules}
-use Rattle.selection.specs.Refusals.{rank, firstRefusal}
+use Rattle.laws.proofs.Basics.{_≡_, List, _++_, ℕ, _+_, _-_, _≤_, arith, length}
+use Rattle.selection.proofs.Refusing.{answerBy, firstRefusal, rank, tableRules, WellFormed, cleared, clear-admits, lent, answered}
 use Rattle.selection.specs.declared.Admission.{Admission}
 use Rattle.selection.specs.declared.Admission.the-variants as A
-use Rattle.selection.proofs.Rules.{WellFormed, not-below, clear, admits}
-use Rattle.selection.proofs.Orders.{lent}
+use native.Mathlib.Nat.{pos-of-ne-zero}
 use Rattle.recurrence.specs.Recurrence.{Operands, digits, resultOf}
 use Rattle.recurrence.specs.Run.{longest, mostDigits, runRules, written, runZeros, runValues, runOf, bufferOf}
 use Rattle.recurrence.specs.declared.RunAnswer.{RunAnswer}
@@ -24,26 +21,16 @@ module _ (N D n len place : ℕ) where
   pub spans : firstRefusal (runRules N D n len place) ≡ A.Admitted → (Operands N D) × (1 ≤ n) × (n ≤ longest) × (place + n ≤ len)
   unfolding runRules
   spans e =
-      let a = clear run-rules e in
-      let most : D ≤ 2 ^ 61 - 1 = not-below (λ h. a 3 0 (inr (inl (refl, (refl, inr (inl h)))))) in
-      let high : N ≤ 2 ^ 61 - 1 = not-below (λ h. a 3 0 (inr (inl (refl, (refl, inr (inr h)))))) in
-      let some : 1 ≤ n = not-below (λ (h : n < 1). a 2 0 (inl (refl, (refl, inl (omega arith))))) in (
-        record { dividend = omega arith; least = not-below (λ h. a 3 0 (inr (inl (refl, (refl, inl h))))); most = omega arith },
-        some,
-        (let l : n ≤ mostDigits = not-below (λ h. a 2 0 (inl (refl, (refl, inr h)))) in omega arith),
-        not-below (λ h. a 7 0 (inr (inr (inl (refl, (refl, h)))))),
-      )
+      let c = cleared run-rules e in
+      let some : 1 ≤ n = pos-of-ne-zero (c .0 .0) in
+      (record { dividend = omega (arith, c .1 .0 .1); least = c .1 .0 .0 .0; most = omega (arith, c .1 .0 .0 .1) }, some, omega (arith, c .0 .1), c .1 .1 .0)
 
   -- and the other way round
   pub no-refusal : Operands N D → 1 ≤ n → n ≤ mostDigits → place + n ≤ len → firstRefusal (runRules N D n len place) ≡ A.Admitted
   unfolding runRules
-  no-refusal o h l r =
-      admits run-rules (λ m p.
-      ⊎-elim (λ x. ⊎-elim (λ y. omega arith) (λ y. omega arith) (x .1 .1))
-      (⊎-elim (λ x. ⊎-elim (λ y. omega (arith, o .least)) (⊎-elim (λ y. omega (arith, o .most)) (λ y. omega (arith, o .dividend))) (x .1 .1))
-      (⊎-elim (λ x. omega (arith, x .1 .1)) (λ z. z))))
+  no-refusal o h l r = clear-admits run-rules (((λ e. omega arith), l), (((o .least, omega (arith, o .most)), omega (arith, o .dividend)), (r, tt)))
 
 -- the answer and the buffer, by the first refusal
 pub run-answered : (t : List ℕ) (N D n : ℕ) (b : List ℕ) (place : ℕ) {v : Admission} {x : RunAnswer} {c : List ℕ} → firstRefusal (runRules N D n (length b) place ++ tableRules t) ≡ v
     → (x ≡ answerBy runZeros (runValues (resultOf t N D n)) v) × (c ≡ answerBy (λ f. b) (written b place (digits t N D n) n) v) → (x ≡ runOf t N D n b place) × (c ≡ bufferOf t N D n b place)
-run-answered t N D n b place g e = (e .0 ∙ sym (ap (answerBy runZeros (runValues (resultOf t N D n))) g), e .1 ∙ sym (ap (answerBy (λ f. b) (written b place (digits t N D n) n)) g))
+run-answered t N D n b place g e = (answered runZeros (runValues (resultOf t N D n)) g (e .0), answered (λ f. b) (written b place (digits t N D n) n) g (e .1))

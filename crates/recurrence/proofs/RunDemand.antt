@@ -4,16 +4,14 @@ use native.Mathlib.Nat.{pow-le-pow-right}
 use Rattle.laws.specs.Lists.{listFrom}
 use Rattle.laws.proofs.Diff.{diffs}
 use Rattle.laws.proofs.Lists.{list-length}
-use Rattle.selection.specs.Answer.{answerBy}
-use Rattle.selection.specs.Refusals.{firstRefusal}
+use Rattle.selection.proofs.Refusing.{answerBy, firstRefusal, passed-last}
+use Rattle.selection.specs.declared.Admission.{Admission}
+use Rattle.selection.specs.declared.Admission.the-variants.{Admitted, Refused}
 use Rattle.selection.specs.Cell.{row, column, digit}
 use Rattle.selection.specs.Table.{Passes}
 use Rattle.selection.specs.Allowed.{allowsOf}
 use Rattle.selection.specs.Computed.{madeTable, madeOf}
 use Rattle.selection.specs.Word.{Within}
-use Rattle.selection.specs.declared.Admission.{Admission}
-use Rattle.selection.specs.declared.Admission.the-variants.{Admitted, Refused}
-use Rattle.selection.proofs.Orders.{passed-last}
 use Rattle.recurrence.specs.Recurrence.{Operands, residue, cellAt, nextOf, after, digitOf, digits, value, endRemainder, correctedQuotient, correctedRemainder, resultOf}
 use Rattle.recurrence.specs.Run.{longest, mostDigits, runRules, written, runZeros, runValues, runOf}
 use Rattle.recurrence.specs.OnTheFly.{Renews, PairDemand, PairExample}
@@ -21,7 +19,7 @@ use Rattle.recurrence.specs.Demand.{RunAnswered, RunClaim}
 use Rattle.recurrence.specs.declared.RunAnswer.{RunAnswer}
 use Rattle.recurrence.specs.declared.RunResult.{RunResult}
 use Rattle.recurrence.proofs.Steps.{residue-biased, range-of, table-digit-allowed, step-residue}
-use Rattle.recurrence.proofs.Digits.{digit-at}
+use Rattle.recurrence.proofs.Digits.{divisor-after, digit-at}
 use Rattle.recurrence.proofs.Invariant.{Invariant, invariant-after, quarter}
 use Rattle.recurrence.proofs.Pair.{renews-next, pair-after, chosen}
 use Rattle.recurrence.proofs.Correction.{divided, corrected-run, end-remainder, result-by-sign, result-divided}
@@ -40,10 +38,10 @@ module _ (t : List ℕ) (N D i S : ℕ) (k : Invariant t N D i S) where
   step ok =
       let p = after t N D i in
       let d = getD t (cellAt p) 0 in
-      step-residue d p (k .in-range) (table-digit-allowed t p ok (k .in-range)) ∙ ap (λ (x : ℕ). pos 4 *ℤ (residue p -ℤ digit d *ℤ pos x)) (k .divisor)
+      step-residue d p (k .in-range) (table-digit-allowed t p ok (k .in-range)) ∙ ap (λ (x : ℕ). pos 4 *ℤ (residue p -ℤ digit d *ℤ pos x)) (divisor-after t N D i)
 
   range : Within 8 D (pos 3 *ℤ residue (after t N D i))
-  range = rw (k .divisor) at (range-of (after t N D i) (k .in-range))
+  range = rw (divisor-after t N D i) at (range-of (after t N D i) (k .in-range))
 
 -- ---- after the last of n steps
 
@@ -51,7 +49,7 @@ module _ (t : List ℕ) (N D n S : ℕ) (k : Invariant t N D n S) (h : 1 ≤ n) 
   -- the end remainder is a quarter of the last remainder
   close : Within 2 D (pos 3 *ℤ endRemainder t N D n)
   close =
-      let v = k .divisor in
+      let v = divisor-after t N D n in
       let q = quarter N n h in
       rw (end-remainder t N D n S k h)
       (record { low = simp diffs (omega (arith, k .in-range .above, k .meets)); high = simp diffs (omega (arith, k .in-range .below, k .meets)) })
@@ -98,7 +96,7 @@ run-claim t p N D n b place o h l r =
     record {
       written = ap (answerBy (λ f. b) (written b place (digits t N D n) n)) g;
       many = list-length (digitOf t N D) 0 n;
-      selected = λ i m. digit-at t N D n i m ∙ ap (λ (x : ℕ). getD t (128 * row x + column (after t N D i .sum) (after t N D i .carry)) 0) (invariant-after t N D p o i .1 .divisor);
+      selected = λ i m. digit-at t N D n i m ∙ ap (λ (x : ℕ). getD t (128 * row x + column (after t N D i .sum) (after t N D i .carry)) 0) (divisor-after t N D i);
       step = λ i m. step t N D i _ (invariant-after t N D p o i .1) p ∙ ap (λ (d : ℕ). pos 4 *ℤ (residue (after t N D i) -ℤ digit d *ℤ pos D)) (sym (digit-at t N D n i m));
       exact = λ i m. exact t N D i _ (invariant-after t N D p o i .1);
       range = λ i m. range t N D i _ (invariant-after t N D p o i .1);

@@ -1,22 +1,20 @@
 -- One step for a caller: what its answer says, and that the steps of someone who feeds each pair back are the run's.
-use Rattle.laws.proofs.Basics.{_≡_, refl, sym, ap, _∙_, List, [], _++_, ℕ, zero, suc, _+_, _*_, _^_, _≤_, _<_, arith, length, getD, take, drop, length-take, T, ℤ, pos, negsuc, negℤ, _*ℤ_}
+use Rattle.laws.proofs.Basics.{_≡_, refl, sym, ap, _∙_, List, _++_, ℕ, zero, suc, _+_, _*_, _^_, _≤_, _<_, arith, length, getD, take, drop, length-take, T, ℤ, pos, negsuc, negℤ, _*ℤ_}
 use native.Mathlib.Nat.{zero-add}
 use lib.ListN.{List·getD-append}
 use lib.Seq.{getD-append-add}
 use lib.Signed.{leZ, leZ-yes}
 use Rattle.laws.proofs.Diff.{diffs}
 use Rattle.laws.proofs.Lists.{list-at}
-use Rattle.selection.specs.Answer.{refusal, answerBy}
-use Rattle.laws.specs.Lists.{listFrom}
-use Rattle.selection.specs.Cell.{row, column, digit}
-use Rattle.selection.specs.Table.{tableRules, Passes}
-use Rattle.selection.specs.Word.{signed, Within}
-use Rattle.selection.specs.Refusals.{firstRefusal}
+use Rattle.selection.proofs.Refusing.{refusal, answerBy, firstRefusal, passed-last}
 use Rattle.selection.specs.declared.Refusal.{Refusal}
 use Rattle.selection.specs.declared.Admission.{Admission}
 use Rattle.selection.specs.declared.Admission.the-variants.{Admitted, Refused}
+use Rattle.laws.specs.Lists.{listFrom}
+use Rattle.selection.specs.Cell.{row, column, digit}
+use Rattle.selection.specs.Table.{Passes}
+use Rattle.selection.specs.Word.{signed, Within}
 use Rattle.selection.proofs.BiasedPoints.{digit-diff}
-use Rattle.selection.proofs.Orders.{passed-last}
 use Rattle.selection.specs.Allowed.{allowsOf}
 use Rattle.selection.specs.Computed.{madeTable, madeOf}
 use Rattle.selection.proofs.MadeTables.{kept-passes}
@@ -25,8 +23,9 @@ use Rattle.recurrence.specs.Step.{stepRules, stepZeros, stepValues, step
 use Rattle.recurrence.specs.StepDemand.{Stepped, FeedsRun, StepDemand, StepExample}
 use Rattle.recurrence.specs.declared.step.StepAnswer.{StepAnswer}
 use Rattle.recurrence.proofs.Steps.{residue-biased, InRange, range-of, table-digit-allowed, step-residue, step-in-range}
+use Rattle.recurrence.proofs.Digits.{divisor-after}
 use Rattle.recurrence.proofs.Invariant.{invariant-after}
-use Rattle.recurrence.proofs.StepRange.{within, in-span, by-neither}
+use Rattle.recurrence.proofs.StepRange.{within, by-neither}
 use Rattle.recurrence.proofs.RunDemand.{run-claim}
 
 -- ---- one step
@@ -35,7 +34,7 @@ module _ (s k D : ℕ) (t : List ℕ) (ok : Passes t) (least : 2 ^ 60 ≤ D) (mo
   pub step-done : stepOf s k D t ≡ stepValues (nextOf t (stateFrom s k D))
   step-done =
       ap (answerBy stepZeros (stepValues (nextOf t (stateFrom s k D))))
-      (by-neither s k D (tableRules t) (in-span s k D least most) (within s k D w) ∙ passed-last ok [])
+      (passed-last ok (stepRules s k D) ∙ by-neither s k D least most (within s k D w))
 
   in-range : InRange (stateFrom s k D)
   in-range =
@@ -78,8 +77,8 @@ module _ (t : List ℕ) (N D : ℕ) (ok : Passes t) (o : Operands N D) where
   unfolding after
   from-state i =
       let p = after t N D i in
-      let k = invariant-after t N D ok o i .1 in
-      step-done (p .sum) (p .carry) D t ok (o .least) (o .most) (rw (k .divisor) at (range-of p (k .in-range))) ∙ same-words t p (k .divisor)
+      let v = divisor-after t N D i in
+      step-done (p .sum) (p .carry) D t ok (o .least) (o .most) (rw v at (range-of p (invariant-after t N D ok o i .1 .in-range))) ∙ same-words t p v
 
   from-start : stepOf N 0 D t ≡ stepValues (after t N D 1)
   unfolding after

@@ -1,24 +1,17 @@
 -- The refusals of one step's arguments: 8D/3 and the remainder's distance from zero tell whether 3P is out of range.
-use Rattle.laws.proofs.Basics.{_≡_, refl, _∙_, List, _∷_, _++_, inl, inr, ⊎-elim, ℕ, _+_, _-_, _*_, _/_, _%_, _^_, _≤_, _<_, arith, ltb, ltb→lt, nltb→le, pos, negℤ, _*ℤ_}
+use Rattle.laws.proofs.Basics.{_≡_, refl, List, _++_, inl, inr, ⊎-elim, ℕ, _+_, _-_, _*_, _/_, _%_, _^_, _≤_, _<_, arith, ltb, ltb→lt, nltb→le, pos, negℤ, _*ℤ_}
 use lib.Signed.{clashℤ}
 use Rattle.laws.proofs.Diff.{diffs}
 use Rattle.laws.proofs.Tests.{by-cond}
-use Rattle.selection.specs.Answer.{refusal}
-use Rattle.selection.specs.Table.{tableRules}
+use Rattle.selection.proofs.Refusing.{refusal, Condition, belowℤ, eitherOf, Holds, firstRefusal, rank, tableRules, WellFormed, cleared, clear-admits, refused-at, lent}
 use Rattle.selection.specs.Word.{signed, Within}
-use Rattle.selection.specs.Refusals.{Condition, Rule, Holds, below, belowℤ, eitherOf, number, rank, firstRefusal}
 use Rattle.selection.specs.declared.Admission.the-variants as A
 use Rattle.selection.proofs.BiasedPoints.{signed-diff}
-use Rattle.selection.proofs.Rules.{WellFormed, rule-holds, rule-past, clear, not-below}
-use Rattle.selection.proofs.Orders.{lent}
 use Rattle.recurrence.specs.FastRun.{distanceOf}
 use Rattle.recurrence.specs.Step.{stepRules}
 
 module _ (s k D : ℕ) where
-  -- the two conditions
-  abbrev pub wrong-divisor : Condition
-  wrong-divisor = eitherOf (below D (2 ^ 60)) (below (2 ^ 61 - 1) D)
-
+  -- the second condition
   abbrev pub out-of-range : Condition
   out-of-range = eitherOf (belowℤ (pos 3 *ℤ signed (s + k)) (negℤ (pos (8 * D)))) (belowℤ (pos (8 * D)) (pos 3 *ℤ signed (s + k)))
 
@@ -46,24 +39,17 @@ module _ (s k D : ℕ) where
   pub within : Within 8 D (pos 3 *ℤ signed (s + k)) → Holds out-of-range → ⊥
   within w = ⊎-elim (λ x. clashℤ x (w .low)) (λ x. clashℤ x (w .high))
 
-  pub in-span : 2 ^ 60 ≤ D → D < 2 ^ 61 → Holds wrong-divisor → ⊥
-  in-span l m = ⊎-elim (λ x. omega arith) (λ x. omega arith)
-
-  -- what the two rules give, whatever comes after them
-  module _ (rest : List Rule) where
-    pub by-divisor : Holds wrong-divisor → firstRefusal (stepRules s k D ++ rest) ≡ A.Refused (refusal 3 0)
+  -- what the two rules give
+  module _ (least : 2 ^ 60 ≤ D) (most : D < 2 ^ 61) where
+    pub by-range : Holds out-of-range → firstRefusal (stepRules s k D) ≡ A.Refused (refusal 14 0)
     unfolding stepRules
-    by-divisor h = rule-holds 3 0 wrong-divisor (number 14 out-of-range ∷ rest) h
+    by-range h = refused-at step-rules 1 0 ((least, omega arith), (refl, h))
 
-    pub by-range : (Holds wrong-divisor → ⊥) → Holds out-of-range → firstRefusal (stepRules s k D ++ rest) ≡ A.Refused (refusal 14 0)
+    pub by-neither : (Holds out-of-range → ⊥) → firstRefusal (stepRules s k D) ≡ A.Admitted
     unfolding stepRules
-    by-range n h = rule-past 3 0 wrong-divisor (number 14 out-of-range ∷ rest) n ∙ rule-holds 14 0 out-of-range rest h
-
-    pub by-neither : (Holds wrong-divisor → ⊥) → (Holds out-of-range → ⊥) → firstRefusal (stepRules s k D ++ rest) ≡ firstRefusal rest
-    unfolding stepRules
-    by-neither n m = rule-past 3 0 wrong-divisor (number 14 out-of-range ∷ rest) n ∙ rule-past 14 0 out-of-range rest m
+    by-neither n = clear-admits step-rules ((least, omega arith), (((λ h. n (inl h)), λ h. n (inr h)), tt))
 
   -- words and divisor without a refusal of their own
   pub step-span : firstRefusal (stepRules s k D) ≡ A.Admitted → D < 2 ^ 61
   unfolding stepRules
-  step-span e = let a = clear step-rules e in let m : D ≤ 2 ^ 61 - 1 = not-below (λ h. a 3 0 (inl (refl, (refl, inr h)))) in omega arith
+  step-span e = omega (arith, cleared step-rules e .0 .1)

@@ -1,26 +1,23 @@
 -- The visits of all runs: what they add up to, where there are none, and the answer of the call.
-use Rattle.laws.proofs.Basics.{_≡_, refl, sym, ap, _∙_, List, [], _∷_, _++_, _⊎_, inl, inr, ⊎-elim, ℕ, _+_, _-_, _*_, _/_, _^_, _≤_, _<_, arith, length, getD}
-use native.Mathlib.Nat.{div-add-mod', lt-of-mul-lt-mul-right, le-of-mul-le-mul-right, mul-mod-left}
+use Rattle.laws.proofs.Basics.{_≡_, refl, sym, ap, _∙_, List, _++_, ℕ, _+_, _-_, _*_, _/_, _^_, _≤_, _<_, arith, length, getD}
+use native.Mathlib.Nat.{pos-of-ne-zero, div-add-mod', lt-of-mul-lt-mul-right, le-of-mul-le-mul-right, mul-mod-left}
 use lib.Pow.{pow-add}
 use Rattle.laws.specs.Lists.{listFrom, filled, FilledWith}
 use Rattle.laws.proofs.Lists.{fill-right, filled-one}
 use Rattle.laws.proofs.Powers.{four-pow}
-use Rattle.selection.specs.Answer.{refusal, answerBy}
-use Rattle.selection.specs.Allowed.{allowsOf}
-use Rattle.selection.specs.Computed.{madeTable, madeOf}
-use Rattle.selection.specs.Table.{Passes, tableRules}
-use Rattle.selection.specs.Refusals.{Condition, Rule, below, same, eitherOf, number, Wrongs, rank, firstRefusal}
+use Rattle.laws.specs.Sums.{sumBelow}
+use Rattle.laws.proofs.Sums.{sum-as, sum-all, sum-nothing, sum-zero, sum-swap}
+use Rattle.selection.proofs.Refusing.{refusalOf, answerBy, Wrongs, firstRefusal, rank, tableRules, WellFormed, Meets, rules-meet, first-is, admits, refused-by, refused-is, none-clear, cleared, clear-admits, lent, passed-last, answered}
 use Rattle.selection.specs.declared.Refusal.{Refusal}
 use Rattle.selection.specs.declared.Admission.{Admission}
 use Rattle.selection.specs.declared.Admission.the-variants.{Admitted, Refused}
-use Rattle.selection.proofs.Rules.{WellFormed, Meets, rules-meet, not-below, clear, admits, first-is, refused-is, refuses, rule-holds, rule-past}
-use Rattle.selection.proofs.Orders.{lent, answered, passed-last}
+use Rattle.selection.specs.Allowed.{allowsOf}
+use Rattle.selection.specs.Computed.{madeTable, madeOf}
+use Rattle.selection.specs.Table.{Passes}
 use Rattle.recurrence.specs.Recurrence.{cellAt, nextOf, after}
-use Rattle.recurrence.specs.Run.{mostDigits}
-use Rattle.recurrence.specs.Visits.{sumBelow, isAt, runVisits, visitsOf, VisitsClaim, visitsRules, visitsAnswer, visitsLeft, Visits, Significant, OperandOnce, VisitsShown, VisitsDemand, VisitsExample}
+use Rattle.recurrence.specs.Visits.{isAt, runVisits, visitsOf, VisitsClaim, visitsRules, visitsAnswer, visitsLeft, Visits, Significant, OperandOnce, VisitsShown, VisitsDemand, VisitsExample}
 use Rattle.recurrence.specs.VisitSteps.{visitsByDivisors, visitsByPairs}
-use Rattle.recurrence.proofs.Sums.{sum-as, sum-all, sum-nothing, sum-zero, sum-swap, sum-at, at-here, at-other}
-use Rattle.recurrence.proofs.Visiting.{cell-below, unit-some, placed-span, pairs-most, product-most, few-bits, placed-bits, pairs-are}
+use Rattle.recurrence.proofs.Visiting.{sum-at, at-here, at-other, cell-below, unit-some, placed-span, pairs-most, product-most, few-bits, placed-bits, pairs-are}
 
 -- ---- the sum over all cells
 
@@ -83,87 +80,49 @@ module _ (k n len : ℕ) where
   -- arguments without a refusal of their own are in their spans
   pub visits-spans : firstRefusal (visitsRules k n len) ≡ Admitted → (1 ≤ k) × (k ≤ 6) × (n ≤ 28) × (2048 ≤ len)
   unfolding visitsRules
-  visits-spans e =
-      let a = clear visits-rules e in (
-        not-below (λ (h : k < 1). a 16 0 (inr (inl (refl, (refl, inl (omega arith)))))),
-        not-below (λ h. a 16 0 (inr (inl (refl, (refl, inr h))))),
-        (let l : n ≤ mostDigits = not-below (λ h. a 2 0 (inl (refl, (refl, inr h)))) in l),
-        not-below (λ h. a 7 0 (inr (inr (inl (refl, (refl, h)))))),
-      )
+  visits-spans e = let c = cleared visits-rules e in (pos-of-ne-zero (c .1 .0 .0), c .1 .0 .1, c .0 .1, c .1 .1 .0)
+
+  -- and the other way round
+  visits-clear : 1 ≤ n → n ≤ 28 → 1 ≤ k → k ≤ 6 → 2048 ≤ len → firstRefusal (visitsRules k n len) ≡ Admitted
+  unfolding visitsRules
+  visits-clear some most h l r = clear-admits visits-rules (((λ e. omega arith), most), (((λ e. omega arith), l), (r, tt)))
 
 module _ (t : List ℕ) (k n : ℕ) (v : List ℕ) where
   room : ((m p : ℕ) → Wrongs (visitsRules k n (length v) ++ tableRules t) m p → ⊥) → 2048 ≤ length v
   unfolding visitsRules
-  room a = not-below (λ h. a 7 0 (inr (inr (inl (refl, (refl, h))))))
+  room a = none-clear (visits-lent k n (length v) t) a .1 .1 .0
 
   pub visits-right : Visits t k n v (visitsLeft t k n v) (visitsAnswer t k n v)
   visits-right =
       let c = visits-lent k n (length v) t in
       record {
-        refuses = refuses c (λ f. f) (λ f. f) (refusal 0 0) refl (λ f. refl) refl .by;
+        refuses = refused-by c;
         keeps = λ m p x. ap (answerBy (λ f. v) (filled (visitsOf t k n) 2048 v)) (first-is c m p x);
         counts = λ a. let e = admits c a in rw e (fill-right (visitsOf t k n) 2048 v (room a));
       }
 
   -- what the code asks: by the first refusal r
   pub visits-told : {r : Admission} {w : List ℕ} {f : Refusal} → firstRefusal (visitsRules k n (length v) ++ tableRules t) ≡ r
-      → f ≡ answerBy (λ f. f) (refusal 0 0) r → w ≡ answerBy (λ f. v) (filled (visitsOf t k n) 2048 v) r
+      → f ≡ refusalOf r → w ≡ answerBy (λ f. v) (filled (visitsOf t k n) 2048 v) r
       → (f ≡ visitsAnswer t k n v) × (w ≡ visitsLeft t k n v) × Visits t k n v w f
   visits-told e g h =
-      let x = answered (λ f. f) (refusal 0 0) e g in
+      let x = g ∙ sym (ap refusalOf e) in
       let y = answered (λ f. v) (filled (visitsOf t k n) 2048 v) e h in
       (x, y, rw (x, y) visits-right)
 
--- the conditions in numbers: where one holds and none before it, the call refuses so
-module _ (t : List ℕ) (k n : ℕ) (v : List ℕ) where
-  wrong-digits : Condition
-  wrong-digits = eitherOf (same n 0) (below mostDigits n)
-
-  wrong-bits : Condition
-  wrong-bits = eitherOf (same k 0) (below 6 k)
-
-  -- the rules after the second
-  later : List Rule
-  later = number 7 (below (length v) 2048) ∷ tableRules t
-
-  pub digits-refused : (n ≡ 0) ⊎ (28 < n) → visitsAnswer t k n v ≡ refusal 2 0
-  unfolding visitsRules wrong-digits wrong-bits later
-  digits-refused h = ap (answerBy (λ f. f) (refusal 0 0)) (rule-holds 2 0 wrong-digits (number 16 wrong-bits ∷ later) h)
-
-  module _ (some : 1 ≤ n) (most : n ≤ 28) where
-    past-digits : firstRefusal (visitsRules k n (length v) ++ tableRules t) ≡ firstRefusal (number 16 wrong-bits ∷ later)
-    unfolding visitsRules wrong-digits wrong-bits later
-    past-digits = rule-past 2 0 wrong-digits (number 16 wrong-bits ∷ later) (⊎-elim (λ x. omega arith) (λ x. omega arith))
-
-    pub bits-refused : (k ≡ 0) ⊎ (6 < k) → visitsAnswer t k n v ≡ refusal 16 0
-    unfolding wrong-bits
-    bits-refused h = ap (answerBy (λ f. f) (refusal 0 0)) (past-digits ∙ rule-holds 16 0 wrong-bits later h)
-
-    pub list-refused : 1 ≤ k → k ≤ 6 → length v < 2048 → visitsAnswer t k n v ≡ refusal 7 0
-    unfolding wrong-bits later
-    list-refused h l r =
-        ap (answerBy (λ f. f) (refusal 0 0))
-        (past-digits ∙ rule-past 16 0 wrong-bits later (⊎-elim (λ x. omega arith) (λ x. omega arith)) ∙ rule-holds 7 0 (below (length v) 2048) (tableRules t) r)
-
-    admitted : 1 ≤ k → k ≤ 6 → 2048 ≤ length v → Passes t → firstRefusal (visitsRules k n (length v) ++ tableRules t) ≡ Admitted
-    unfolding wrong-bits later
-    admitted h l r p =
-        past-digits ∙ rule-past 16 0 wrong-bits later (⊎-elim (λ x. omega arith) (λ x. omega arith)) ∙ rule-past 7 0 (below (length v) 2048) (tableRules t) (λ (x : length v < 2048). omega arith)
-        ∙ passed-last p []
-
-    -- what is accepted, and what the list then shows
-    visits-shown : 1 ≤ k → k ≤ 6 → 2048 ≤ length v → Passes t → VisitsShown t k n v
-    visits-shown h l r p =
-        let e = admitted h l r p in
-        let w : FilledWith (visitsOf t k n) 2048 v (visitsLeft t k n v) = rw e (fill-right (visitsOf t k n) 2048 v r) in
-        let claim = visits-claim t k n in
-        record {
-          accepted = ap (answerBy (λ f. f) (refusal 0 0)) e;
-          shown = w .each;
-          kept = w .kept;
-          total = sum-as (λ c. getD (visitsLeft t k n v) c 0) (visitsOf t k n) 2048 (w .each) ∙ claim .total;
-          zero = λ c i. (λ z. claim .zero c .0 (sym (w .each c i) ∙ z), λ f. w .each c i ∙ claim .zero c .1 f);
-        }
+-- what is accepted, and what the list then shows
+visits-shown : (t : List ℕ) (k n : ℕ) (v : List ℕ) → 1 ≤ n → n ≤ 28 → 1 ≤ k → k ≤ 6 → 2048 ≤ length v → Passes t → VisitsShown t k n v
+visits-shown t k n v some most h l r p =
+    let e = passed-last p (visitsRules k n (length v)) ∙ visits-clear k n (length v) some most h l r in
+    let w : FilledWith (visitsOf t k n) 2048 v (visitsLeft t k n v) = rw e (fill-right (visitsOf t k n) 2048 v r) in
+    let claim = visits-claim t k n in
+    record {
+      accepted = ap refusalOf e;
+      shown = w .each;
+      kept = w .kept;
+      total = sum-as (λ c. getD (visitsLeft t k n v) c 0) (visitsOf t k n) 2048 (w .each) ∙ claim .total;
+      zero = λ c i. (λ z. claim .zero c .0 (sym (w .each c i) ∙ z), λ f. w .each c i ∙ claim .zero c .1 f);
+    }
 
 -- ---- the operands: all numbers of k significant bits, each once
 
@@ -205,7 +164,7 @@ pub visits-demand : VisitsDemand
 visits-demand = record {
   operands = λ k N h l. (significant-once k N h l, once-significant k N h l);
   claim = visits-claim;
-  shown = λ t k n v some most. visits-shown t k n v some most;
+  shown = visits-shown;
 }
 
 -- no other answer fits

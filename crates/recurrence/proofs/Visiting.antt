@@ -1,17 +1,44 @@
 -- The loops over digits, divisors and dividends: each adds to the counts what its turns add.
-use Rattle.laws.proofs.Basics.{_≡_, refl, sym, ap, _∙_, Bool, true, false, List, ℕ, zero, suc, _+_, _-_, _*_, _%_, _^_, _≤_, _<_, arith, add-one, length, getD, set, length-set, eqb, eqb-true, eqb-false}
-use native.Mathlib.Nat.{mul-le-mul-right, mul-lt-mul-of-pos-right, suc-mul}
+use Rattle.laws.proofs.Basics.{_≡_, refl, sym, ap, _∙_, Bool, true, false, List, ℕ, zero, suc, _+_, _-_, _*_, _%_, _^_, _≤_, _<_, arith, length, getD, set, length-set, eqb, eqb-true, eqb-false, ⊎-elim, eq-eqb, ne-eqb}
+use native.Mathlib.Nat.{mul-le-mul-right, mul-lt-mul-of-pos-right, suc-mul, eq-or-lt-of-le}
 use lib.Pow.{pow-add, pow-mono}
 use lib.Seq.{getD-set-same, getD-set-other}
 use Rattle.laws.specs.Lists.{filled}
 use Rattle.laws.proofs.Lists.{fill-at, fill-rest, fill-length, fill-right, filled-one}
+use Rattle.laws.specs.Sums.{sumBelow}
+use Rattle.laws.proofs.Sums.{sum-more, sum-most, sum-nothing}
+use Rattle.laws.proofs.Counting.{bit-most}
 use Rattle.selection.specs.Cell.{row}
 use Rattle.recurrence.specs.Recurrence.{State, cellAt, startOf, nextOf, after}
 use Rattle.recurrence.specs.FastRun.{withColumn, stateOf}
-use Rattle.recurrence.specs.Visits.{sumBelow, isAt, runVisits, visitsOf}
+use Rattle.recurrence.specs.Visits.{isAt, runVisits, visitsOf}
 use Rattle.recurrence.specs.VisitSteps.{Added, Room, Placed, visitsByDivisors, visitsByPairs}
-use Rattle.recurrence.specs.declared.RunState.{RunState}
-use Rattle.recurrence.proofs.Sums.{sum-more, sum-most, at-most, at-here, at-other}
+use Rattle.recurrence.specs.declared.state.RunState.{RunState}
+use Rattle.recurrence.proofs.Digits.{divisor-after}
+use Rattle.recurrence.proofs.Loop.{stands-next}
+
+-- ---- one cell
+
+pub at-most : (a c : ℕ) → isAt a c ≤ 1
+unfolding isAt
+at-most a c = bit-most (eqb a c)
+
+pub at-here : (a c : ℕ) → a ≡ c → isAt a c ≡ 1
+unfolding isAt
+at-here a c e = rw (eq-eqb a c e) refl
+
+pub at-other : (a c : ℕ) → (a ≡ c → ⊥) → isAt a c ≡ 0
+unfolding isAt
+at-other a c n = rw (ne-eqb a c n) refl
+
+-- of all cells, a is one
+pub sum-at : (a m : ℕ) → a < m → sumBelow (isAt a) m ≡ 1
+unfolding sumBelow
+sum-at a zero h = absurd (omega arith)
+sum-at a (suc m) h = ⊎-elim
+    (λ (e : a ≡ m). omega (arith, sum-nothing (isAt a) m (λ i l. at-other a i (λ q. omega arith)), at-here a m e))
+    (λ (l : a < m). omega (arith, sum-at a m l, at-other a m (λ q. omega arith)))
+    (eq-or-lt-of-le (omega arith))
 
 -- ---- what is added
 
@@ -68,15 +95,6 @@ pub record Visited (t : List ℕ) (N D : ℕ) (v₀ v : List ℕ) (state : RunSt
   pub added : Added (λ c. sumBelow (λ j. isAt (cellAt (after t N D j)) c) i) v₀ v
 
 module _ (t : List ℕ) (N D : ℕ) where
-  pub divisor-after : (i : ℕ) → after t N D i .divisor ≡ D
-  unfolding after nextOf
-  divisor-after zero = refl
-  divisor-after (suc i) = divisor-after i
-
-  after-more : (i : ℕ) → after t N D (i + 1) ≡ nextOf t (after t N D i)
-  unfolding after
-  after-more i = rw add-one refl
-
   pub visited-none : (v : List ℕ) (p : RunState) → p ≡ withColumn (startOf N D) → Visited t N D v v p 0
   unfolding after
   visited-none v p e = record { stands = e; added = added-none (λ j. isAt (cellAt (after t N D j))) v }
@@ -88,14 +106,14 @@ module _ (t : List ℕ) (N D : ℕ) where
   module _ {v₀ v : List ℕ} {p : RunState} {i start : ℕ} (x : Visited t N D v₀ v p i) (s : start ≡ 128 * row D) where
     -- the index of the state's cell
     pub cell-is : start + p .column ≡ cellAt (after t N D i)
-    cell-is = rw (x .stands, s, divisor-after i) refl
+    cell-is = rw (x .stands, s, divisor-after t N D i) refl
 
     pub cell-small : start + p .column < 2048
     cell-small = rw cell-is (cell-below (after t N D i))
 
     pub visited-more : {q : RunState} → 2048 ≤ length v₀ → q ≡ withColumn (nextOf t (stateOf p)) → Visited t N D v₀ (set v (start + p .column) (getD v (start + p .column) 0 + 1)) q (i + 1)
     visited-more {q} h e = record {
-      stands = e ∙ ap (λ (p : RunState). withColumn (nextOf t (stateOf p))) (x .stands) ∙ ap withColumn (sym (after-more i));
+      stands = stands-next t N D i (x .stands) e;
       added = rw cell-is (added-more (λ j. isAt (cellAt (after t N D j))) i (x .added) (added-one v (cellAt (after t N D i)) (cell-below (after t N D i)) (omega (arith, x .added .size))));
     }
 

@@ -8,7 +8,7 @@ use lib.Dec.{ltb}
 use lib.ListN.{length, getD}
 use Rattle.selection.specs.Cell.{column}
 use Rattle.recurrence.specs.Recurrence.{State, appended}
-use Rattle.recurrence.specs.declared.RunState.{RunState}
+use Rattle.recurrence.specs.declared.state.RunState.{RunState}
 use Rattle.recurrence.specs.declared.RunResult.{RunResult}
 
 -- a state with its column, and without it
@@ -19,8 +19,8 @@ abbrev pub stateOf : RunState → State
 stateOf p = record { sum = p .sum; carry = p .carry; divisor = p .divisor; digit = p .digit; value = p .value; decremented = p .decremented }
 
 -- the multiple of the divisor for each digit byte
-abbrev pub multiplesOf : ℕ → List ℕ
-multiplesOf D = 2 * D ∷ D ∷ 0 ∷ (2 ^ 64 - 1 - D) ∷ (2 ^ 64 - 1 - 2 * D) ∷ []
+abbrev pub divisorMultiples : ℕ → List ℕ
+divisorMultiples D = 2 * D ∷ D ∷ 0 ∷ (2 ^ 64 - 1 - D) ∷ (2 ^ 64 - 1 - 2 * D) ∷ []
 
 -- the nine bits of a multiple that the next column needs, plus 256: two bits up, the column's 64
 abbrev pub topBitsOf : ℕ → ℕ
@@ -39,7 +39,7 @@ pub record DigitBytes (bytes : List ℕ) : Type 0 where
 -- what a step asks of the row's bytes, the multiples, their top bits and the state
 pub record StepReady (bytes ms : List ℕ) (tops : ℕ) (p : RunState) : Type 0 where
   pub digits : DigitBytes bytes
-  pub multiples : ms ≡ multiplesOf (p .divisor)
+  pub multiples : ms ≡ divisorMultiples (p .divisor)
   pub top-bits : tops ≡ allTopBits ms
   pub current : p .column ≡ column (p .sum) (p .carry)
 

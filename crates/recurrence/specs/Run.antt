@@ -4,7 +4,7 @@ use Prim.Native.Nat.{ℕ, _+_, _-_, _^_}
 use lib.ListN.{length, take, drop}
 use Rattle.selection.specs.Answer.{refusal, answerBy}
 use Rattle.selection.specs.Table.{tableRules}
-use Rattle.selection.specs.Refusals.{Rule, below, same, eitherOf, number, firstRefusal}
+use Rattle.selection.specs.Refusals.{Condition, Rule, tooShort, below, same, eitherOf, number, firstRefusal}
 use Rattle.selection.specs.declared.Refusal.{Refusal}
 use Rattle.recurrence.specs.Recurrence.{digits, resultOf}
 use Rattle.recurrence.specs.declared.RunResult.{RunResult}
@@ -18,12 +18,20 @@ longest = 31
 abbrev pub mostDigits : ℕ
 mostDigits = 28
 
+-- a number of digits that a caller may not ask for: 0, or above the most
+abbrev pub digitsOutside : ℕ → Condition
+digitsOutside n = eitherOf (same n 0) (below mostDigits n)
+
+-- a divisor outside its span, from 2^60 to 2^61 - 1
+abbrev pub divisorOutside : ℕ → Condition
+divisorOutside D = eitherOf (below D (2 ^ 60)) (below (2 ^ 61 - 1) D)
+
 -- what a run refuses of its arguments. 2: n is 0 or above the most that a caller may ask for. 3: D or N outside its span, from 2^60 to 2^61 - 1 and from 0 to 2^61 - 1. 7: the buffer ends before the last byte to write
 unfoldable pub runRules : ℕ → ℕ → ℕ → ℕ → ℕ → List Rule
 runRules N D n len place =
-    number 2 (eitherOf (same n 0) (below mostDigits n))
-    ∷ number 3 (eitherOf (below D (2 ^ 60)) (eitherOf (below (2 ^ 61 - 1) D) (below (2 ^ 61 - 1) N)))
-    ∷ number 7 (below len (place + n))
+    number 2 (digitsOutside n)
+    ∷ number 3 (eitherOf (divisorOutside D) (below (2 ^ 61 - 1) N))
+    ∷ number 7 (tooShort len (place + n))
     ∷ []
 
 -- n digit bytes from the place on, and the other bytes as they were

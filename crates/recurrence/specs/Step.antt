@@ -1,20 +1,21 @@
 -- One step for a caller: document 02, Wish 9. The refusals in their order, the answer, and the answers of a caller who feeds each returned pair back.
 use mathlib.Core.List.{List, [], _∷_, _++_}
-use Prim.Native.Nat.{ℕ, zero, suc, _+_, _-_, _*_, _^_}
+use Prim.Native.Nat.{ℕ, zero, suc, _+_, _*_}
 use lib.IntN.{pos, negℤ, _*ℤ_}
 use Rattle.selection.specs.Answer.{refusal, answerBy}
 use Rattle.selection.specs.Cell.{digit}
 use Rattle.selection.specs.Table.{tableRules}
-use Rattle.selection.specs.Refusals.{Rule, below, belowℤ, eitherOf, number, firstRefusal}
+use Rattle.selection.specs.Refusals.{Rule, belowℤ, eitherOf, number, firstRefusal}
 use Rattle.selection.specs.Word.{signed}
 use Rattle.selection.specs.declared.Refusal.{Refusal}
 use Rattle.recurrence.specs.Recurrence.{State, stateFrom, nextOf}
+use Rattle.recurrence.specs.Run.{divisorOutside}
 use Rattle.recurrence.specs.declared.step.StepAnswer.{StepAnswer}
 
 -- what a step with PS = s, PC = k refuses of its arguments. 3: D outside its span, from 2^60 to 2^61 - 1. 14: with P read from both words, 3P is below −8D or above 8D
 unfoldable pub stepRules : ℕ → ℕ → ℕ → List Rule
 stepRules s k D =
-    number 3 (eitherOf (below D (2 ^ 60)) (below (2 ^ 61 - 1) D))
+    number 3 (divisorOutside D)
     ∷ number 14 (eitherOf (belowℤ (pos 3 *ℤ signed (s + k)) (negℤ (pos (8 * D)))) (belowℤ (pos (8 * D)) (pos 3 *ℤ signed (s + k))))
     ∷ []
 

@@ -3,7 +3,8 @@ use mathlib.Core.Path.{_≡_}
 use mathlib.Core.List.{List}
 use Prim.Native.Nat.{ℕ, _+_, _*_, _^_, _≤_, _<_}
 use lib.ListN.{length, getD}
-use Rattle.recurrence.specs.Visits.{sumBelow, runVisits}
+use Rattle.laws.specs.Sums.{sumBelow}
+use Rattle.recurrence.specs.Visits.{runVisits}
 
 -- b is the list a with f c added at each place c of the first 2,048
 pub record Added (f : ℕ → ℕ) (a b : List ℕ) : Type 0 where

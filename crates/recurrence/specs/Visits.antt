@@ -3,24 +3,20 @@ use mathlib.Core.Path.{_≡_}
 use mathlib.Core.Bool.{cond}
 use mathlib.Core.List.{List, [], _∷_, _++_}
 use mathlib.Core.Logic.{_↔_}
-use Prim.Native.Nat.{ℕ, zero, suc, _+_, _-_, _*_, _%_, _^_, _≤_, _<_}
+use Prim.Native.Nat.{ℕ, _+_, _-_, _*_, _%_, _^_, _≤_, _<_}
 use lib.Dec.{eqb}
 use lib.ListN.{length, getD}
 use Rattle.laws.specs.Lists.{filled, KeptFrom, FilledWith}
-use Rattle.selection.specs.Answer.{refusal, answerBy}
+use Rattle.laws.specs.Sums.{sumBelow}
+use Rattle.selection.specs.Answer.{refusal, refusalOf, answerBy}
 use Rattle.selection.specs.Computed.{madeTable}
-use Rattle.selection.specs.Refusals.{Rule, below, same, eitherOf, number, Wrongs, FirstRefusal, RefusedBy, firstRefusal}
+use Rattle.selection.specs.Refusals.{Rule, tooShort, below, same, eitherOf, number, Wrongs, FirstRefusal, RefusedBy, firstRefusal}
 use Rattle.selection.specs.Table.{Passes, tableRules}
 use Rattle.selection.specs.declared.Refusal.{Refusal}
 use Rattle.recurrence.specs.Recurrence.{cellAt, after}
-use Rattle.recurrence.specs.Run.{mostDigits}
+use Rattle.recurrence.specs.Run.{digitsOutside}
 
 -- ---- the counts
-
--- f 0 + f 1 + .. + f (m - 1)
-unfoldable pub sumBelow : (ℕ → ℕ) → ℕ → ℕ
-sumBelow f zero = 0
-sumBelow f (suc m) = sumBelow f m + f m
 
 -- 1 where a is c, else 0
 unfoldable pub isAt : ℕ → ℕ → ℕ
@@ -62,14 +58,14 @@ pub record VisitsClaim (t : List ℕ) (k n : ℕ) : Type 0 where
 -- what is refused of the arguments. 2: n is 0 or above 28. 16: k is 0 or above 6. 7: the list is too short
 unfoldable pub visitsRules : ℕ → ℕ → ℕ → List Rule
 visitsRules k n len =
-    number 2 (eitherOf (same n 0) (below mostDigits n))
+    number 2 (digitsOutside n)
     ∷ number 16 (eitherOf (same k 0) (below 6 k))
-    ∷ number 7 (below len 2048)
+    ∷ number 7 (tooShort len 2048)
     ∷ []
 
 -- the answer, and what is left in the list that held v: after the arguments' refusals the table's, 8, 9, 10
 abbrev pub visitsAnswer : List ℕ → ℕ → ℕ → List ℕ → Refusal
-visitsAnswer t k n v = answerBy (λ f. f) (refusal 0 0) (firstRefusal (visitsRules k n (length v) ++ tableRules t))
+visitsAnswer t k n v = refusalOf (firstRefusal (visitsRules k n (length v) ++ tableRules t))
 
 abbrev pub visitsLeft : List ℕ → ℕ → ℕ → List ℕ → List ℕ
 visitsLeft t k n v = answerBy (λ f. v) (filled (visitsOf t k n) 2048 v) (firstRefusal (visitsRules k n (length v) ++ tableRules t))

@@ -1,6 +1,7 @@
 // One step of the run by itself, for a test bench: any two words, divisor and table are tested, and the step is the run's own.
-use crate::RunState;
+use crate::state::RunState;
 use selection::Admission;
+use selection::NO_REFUSAL;
 use selection::Refusal;
 use selection::refused;
 use std::num::wrapping_add_u64;
@@ -25,7 +26,7 @@ pub struct StepAnswer {
 fn distance(word: u64) -> u64
     ensures { λ r. ⌜ r ≡ distanceOf word ⌝ }
 {
-    if word < crate::SIGN {
+    if word < crate::state::SIGN {
         return word;
     }
     !word + 1
@@ -52,10 +53,10 @@ fn admitted(sum: u64, carry: u64, divisor: u64, table: &[u8]) -> RunState
     requires { ⌜ (Passes (now table)) × (divisor < 2 ^ 61) ⌝ }
     ensures { λ r. ⌜ r ≡ withColumn (nextOf (now (table .entry)) (stateFrom sum carry divisor)) ⌝ }
 {
-    let multiples = crate::multiples_of(divisor);
-    let tops = crate::all_top_bits(&multiples);
-    let first = selection::table::row_start(divisor);
-    RunState::new(sum, carry, divisor).next(&table[first..first + 128], &multiples, tops)
+    let multiples = crate::state::divisor_multiples(divisor);
+    let tops = crate::state::all_top_bits(&multiples);
+    let row = selection::table::row_of(table, divisor);
+    RunState::new(sum, carry, divisor).next(row, &multiples, tops)
 }
 
 // A refused step.
@@ -75,10 +76,7 @@ fn values(p: RunState) -> StepAnswer
     ensures { λ r. ⌜ r ≡ stepValues (stateOf p) ⌝ }
 {
     StepAnswer {
-        refusal: Refusal {
-            number: 0,
-            place: 0,
-        },
+        refusal: NO_REFUSAL,
         digit: selection::digit_of(p.digit),
         sum: p.sum,
         carry: p.carry,

@@ -1,5 +1,6 @@
 // How often each cell is met by the runs of all operands of so many bits.
 use selection::Admission;
+use selection::NO_REFUSAL;
 use selection::Refusal;
 use selection::refused;
 ghost use mathlib.Core.Path.{_≡_};
@@ -14,9 +15,9 @@ ghost use Rattle.recurrence.specs.Row.{Row};
 ghost use Rattle.recurrence.specs.Visits.{visitsRules, runVisits, visitsOf, visitsAnswer, visitsLeft, Visits};
 ghost use Rattle.recurrence.specs.VisitSteps.{Added, Room, Placed, visitsByDivisors, visitsByPairs};
 use crate::MOST_DIGITS;
-use crate::RunState;
-use crate::all_top_bits;
-use crate::multiples_of;
+use crate::state::RunState;
+use crate::state::all_top_bits;
+use crate::state::divisor_multiples;
 
 // How many significant bits an operand may have.
 const MOST_BITS: u64 = 6;
@@ -26,7 +27,7 @@ fn visit_row(row: &[u8], start: usize, dividend: u64, divisor: u64, n: usize, vi
     requires { ⌜ (Row divisor (now row)) × (start ≡ 128 * Cell.row divisor) × (divisor < 2 ^ 61) × (2048 ≤ length (now visits)) × (Room n (now visits)) ⌝ }
     ensures { λ r. ⌜ ((t : List ℕ) → now (row .entry) ≡ rowBytes t (Cell.row divisor) → Added (runVisits t dividend divisor n) (now (visits .entry)) (now (visits .exit))) ⌝ }
 {
-    let multiples = multiples_of(divisor);
+    let multiples = divisor_multiples(divisor);
     let tops = all_top_bits(&multiples);
     let mut state = RunState::new(dividend, 0, divisor);
     let mut i: usize = 0;
@@ -44,15 +45,9 @@ fn visit_run(table: &[u8], dividend: u64, divisor: u64, n: usize, visits: &mut [
     requires { ⌜ (Passes (now table)) × (divisor < 2 ^ 61) × (2048 ≤ length (now visits)) × (Room n (now visits)) ⌝ }
     ensures { λ r. ⌜ Added (runVisits (now (table .entry)) dividend divisor n) (now (visits .entry)) (now (visits .exit)) ⌝ }
 {
+    let row = selection::table::row_of(table, divisor);
     let start = selection::table::row_start(divisor);
-    visit_row(
-        &table[start..start + 128],
-        start,
-        dividend,
-        divisor,
-        n,
-        visits,
-    )
+    visit_row(row, start, dividend, divisor, n, visits)
 }
 
 // The runs of one dividend by all divisors: m and more units, less than 2m of them.
@@ -135,10 +130,7 @@ pub fn count_visits(table: &[u8], bits: u64, digits: usize, visits: &mut [u32]) 
         Admission::Refused(f) => f,
         Admission::Admitted => {
             visit_all(table, bits, digits, visits);
-            Refusal {
-                number: 0,
-                place: 0,
-            }
+            NO_REFUSAL
         }
     }
 }

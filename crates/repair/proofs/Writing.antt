@@ -5,17 +5,17 @@ use native.Mathlib.Nat.{lt-of-not-le}
 use lib.Seq.{take-all}
 use Rattle.laws.specs.Lists.{listFrom, filled}
 use Rattle.laws.proofs.Lists.{list-length, fill-all}
-use Rattle.selection.specs.Answer.{refusal, answerBy}
-use Rattle.selection.specs.Refusals.{firstRefusal}
-use Rattle.selection.specs.Allowed.{isReplaced}
-use Rattle.selection.specs.Table.{Passes}
-use Rattle.selection.specs.Computed.{countBelow, repairedByte, repairOf, repairedOf}
-use Rattle.selection.specs.Repair.{repairRules, repairZeros}
+use Rattle.laws.specs.Counting.{countBelow}
+use Rattle.selection.proofs.Refusing.{refusal, answerBy, firstRefusal}
 use Rattle.selection.specs.declared.Refusal.{Refusal}
 use Rattle.selection.specs.declared.Admission.{Admission}
 use Rattle.selection.specs.declared.Admission.the-variants.{Admitted}
+use Rattle.selection.specs.Allowed.{isReplaced}
+use Rattle.selection.specs.Table.{Passes}
+use Rattle.selection.specs.Computed.{repairedByte, repairOf, repairedOf}
+use Rattle.selection.specs.Repair.{repairRules, repairZeros}
 use Rattle.selection.specs.declared.repair.RepairAnswer.{RepairAnswer}
-use Rattle.selection.proofs.Rules.{equal}
+use Rattle.laws.proofs.Comparisons.{equal}
 use Rattle.selection.proofs.RepairAnswers.{repair-admits, length-refused, repair-told}
 use Rattle.selection.proofs.RepairDemand.{repair-demand}
 use Rattle.printing.specs.Text.{decimalUpto, decimalOf, refusalText}

@@ -1,5 +1,6 @@
 -- The test of a cell says which digits are allowed, and which cells of a table are bad.
 use Rattle.laws.proofs.Basics.{_≡_, refl, ap, Bool, true, false, not, cond, List, ℕ, _+_, _*_, _/_, _%_, _≤_, _<_, ltb, getD}
+use Rattle.laws.proofs.Tests.{Decides, decides-yes, decides-no}
 use Rattle.selection.specs.Cell.{Allows, IsCell, CellChecked, digit}
 use Rattle.selection.specs.Table.{Table, BadAt}
 use Rattle.selection.specs.Multiples.{Finding, RowOf, multiplesOf, greatestByte, allowsBy, foundAt, testOf, cellVerdictOf}
@@ -7,7 +8,6 @@ use Rattle.selection.specs.Multiples.Finding.{NoWitness, LeastAt}
 use Rattle.selection.specs.Allowed.{allowsOf, isBad, isBadIn}
 use Rattle.selection.specs.declared.multiples.RowMultiples.{RowMultiples}
 use Rattle.selection.proofs.BiasedPoints.{verdict-checked, not-allowed}
-use Rattle.selection.proofs.Counts.{Decides, decides-yes, decides-no}
 use Rattle.selection.proofs.Tables.{cell-at, cell-row, cell-column}
 
 abbrev clear : Finding → Bool

@@ -1,5 +1,5 @@
 -- Document 01's points over the integers, and those over natural numbers, are the same: P is W - 2^63.
-use Rattle.laws.proofs.Basics.{_≡_, refl, sym, subst, ap, _∙_, _⊎_, inl, inr, ⊎-elim, ℕ, _+_, _*_, _-_, _%_, _^_, _≤_, _<_, arith, ltb, ltb→lt, nltb→le, ℤ, pos, _-ℤ_, _*ℤ_, le-ltb}
+use Rattle.laws.proofs.Basics.{_≡_, refl, sym, subst, ap, _∙_, _⊎_, inl, inr, ⊎-elim, ℕ, _+_, _*_, _-_, _%_, _^_, _≤_, _<_, arith, ltb, ltb→lt, nltb→le, ℤ, pos, _-ℤ_, _*ℤ_}
 use mir.Syntax.{w64}
 use mir.Val.{SFits}
 use Rattle.laws.proofs.Tests.{by-cond}
@@ -16,7 +16,8 @@ use Rattle.selection.specs.declared.Admission.the-variants as A
 use Rattle.selection.specs.Computed.{cellOf}
 use Rattle.selection.specs.declared.CellVerdict.{CellVerdict}
 use Rattle.selection.specs.declared.CellVerdict.the-variants.{Allowed, Disallowed, Refused}
-use Rattle.selection.proofs.Rules.{WellFormed, Meets, rules-meet, not-below}
+use Rattle.selection.proofs.Rules.{WellFormed, Meets, rules-meet}
+use Rattle.selection.proofs.Clear.{none-clear, clear-none, clear-admits}
 use Rattle.selection.proofs.Breaking.{BiasedPointUnder, BiasedPoint, Low, High, Breaks, IsLeast}
 use Rattle.selection.proofs.Tested.{test-right}
 
@@ -118,7 +119,7 @@ cell-rules r c b = record { sound = (tt, λ _. (tt, λ _. tt)); in-order = tt }
 
 -- what is not refused is a cell and a digit
 pub is-cell : {r c b : ℕ} → ((n p : ℕ) → Wrongs (cellRules r c b) n p → ⊥) → IsCell r c b
-is-cell a = record { row = not-below (λ h. a 1 0 (inl (refl, (refl, inl h)))); column = not-below (λ h. a 1 0 (inl (refl, (refl, inr h)))); byte = not-below (λ h. a 9 _ (inr (inl (refl, (refl, h))))) }
+is-cell {r} {c} {b} a = let k = none-clear (cell-rules r c b) a in record { row = k .0 .0; column = k .0 .1; byte = k .1 .0 }
 
 -- the computed verdict is document 01's
 pub cell-checked : (r c b : ℕ) → CellChecked r c b (cellOf r c b)
@@ -133,13 +134,13 @@ answers r c b e = (e, subst (CellChecked r c b) (sym e) (cell-checked r c b))
 
 -- a cell and a byte that are taken: the test tells
 pub cell-known : {r c b : ℕ} → IsCell r c b → cellOf r c b ≡ cellVerdictOf (testOf (multiplesOf r) c b)
-cell-known {r} {c} {b} k = simp (le-ltb 15 r (k .row), le-ltb 127 c (k .column), le-ltb 4 b (k .byte))
+cell-known {r} {c} {b} k = ap (answerBy Refused _) (clear-admits (cell-rules r c b) ((k .row, k .column), (k .byte, tt)))
 
 pub verdict-checked : {r c b : ℕ} {h : Finding} → IsCell r c b → h ≡ testOf (multiplesOf r) c b → (cellVerdictOf h ≡ cellOf r c b) × CellChecked r c b (cellVerdictOf h)
 verdict-checked {r} {c} {b} k e = answers r c b (ap cellVerdictOf e ∙ sym (cell-known k))
 
 pub known-not-refused : {r c b n p : ℕ} {X : Type 0} → IsCell r c b → FirstRefusal (Wrongs (cellRules r c b)) n p → X
-known-not-refused k u = absurd (⊎-elim (λ l. ⊎-elim (λ x. omega (arith, k .row)) (λ x. omega (arith, k .column)) (l .1 .1)) (⊎-elim (λ l. omega (arith, k .byte, l .1 .1)) (λ z. z)) (u .holds))
+known-not-refused {r} {c} {b} k u = absurd (clear-none (cellRules r c b) ((k .row, k .column), (k .byte, tt)) _ _ (u .holds))
 
 pub not-allowed : {r c D : ℕ} {q : ℤ} {P : ℤ} → Against r c q D P → Allows r c q → ⊥
 not-allowed {D = D} {P = P} a h = a .broken (h D P (a .point))

@@ -6,11 +6,11 @@ use Rattle.laws.proofs.Diff.{diff}
 use Rattle.laws.proofs.Words.{same-mod}
 use Rattle.selection.specs.Word.{signed}
 use Rattle.selection.specs.Cell.{earlierSpan, PointUnder, digit}
-use Rattle.selection.specs.Table.{tableRules, Passes, PassesUnder}
+use Rattle.selection.specs.Table.{Passes, PassesUnder}
 use Rattle.selection.specs.Allowed.{allowsOf}
-use Rattle.selection.specs.Answer.{refusal, reportNumbers, reportZeros}
+use Rattle.selection.specs.Answer.{reportNumbers, reportZeros}
 use Rattle.selection.specs.Computed.{madeOf, madeTable, reportOf}
-use Rattle.selection.specs.Refusals.{firstRefusal}
+use Rattle.selection.proofs.Refusing.{refusal, firstRefusal, tableRules}
 use Rattle.selection.specs.declared.Admission.the-variants.{Admitted}
 use Rattle.selection.specs.Burned.{earlierColumn, earlierTruncationError, TruncatesBy, BurnedTables}
 use Rattle.selection.proofs.BiasedPoints.{signed-diff}

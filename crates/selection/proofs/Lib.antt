@@ -24,8 +24,12 @@ pub mod EarlierSpan
 pub mod EarlierKept
 pub mod CellCases
 pub mod Verdicts
+pub mod ConditionTests
+pub mod OneRule
 pub mod Rules
+pub mod Clear
 pub mod Orders
+pub mod Refusing
 pub mod RepairCells
 pub mod RepairRows
 pub mod RepairAnswers

@@ -1,5 +1,5 @@
 -- The computed made table, and the buffer that the maker fills.
-use Rattle.laws.proofs.Basics.{_≡_, refl, sym, ap, subst, _∙_, List, _++_, inl, ℕ, _+_, _/_, _%_, _≤_, _<_, arith, length, drop, lt-ltb, le-ltb}
+use Rattle.laws.proofs.Basics.{_≡_, refl, sym, ap, subst, _∙_, List, _++_, ℕ, _+_, _/_, _%_, _≤_, _<_, arith, length, drop, lt-ltb, le-ltb}
 use native.Mathlib.Nat.{zero-add}
 use Rattle.laws.proofs.Lists.{list-length, list-at}
 use Rattle.selection.specs.Maker.{Made, MadeTable, Limits, limitsRules, limitsZeros, makeRules, Limited, Makes}
@@ -8,7 +8,8 @@ use Rattle.selection.specs.Refusals.{Wrongs, RefusedBy}
 use Rattle.selection.specs.declared.Refusal.{Refusal}
 use Rattle.selection.specs.declared.Admission.{Admission}
 use Rattle.selection.specs.declared.maker.RowLimits.{RowLimits}
-use Rattle.selection.proofs.Rules.{WellFormed, not-below, first-is, admits, refuses}
+use Rattle.selection.proofs.Rules.{WellFormed, first-is, admits, refused-by, refuses}
+use Rattle.selection.proofs.Clear.{none-clear}
 use Rattle.laws.specs.Lists.{filled}
 use Rattle.selection.specs.Computed.{madeAt, limitsOf, rowLimitsOf, madeTable, madeBuffer, makeOf}
 use Rattle.selection.specs.Table.{Passes}
@@ -47,7 +48,7 @@ make-answer s t f e g =
       e,
       g,
       record {
-        refuses = subst (RefusedBy (Wrongs (makeRules (length s)))) (sym e) (refuses c (λ f. f) (λ f. f) (refusal 0 0) refl (λ f. refl) refl .by);
+        refuses = subst (RefusedBy (Wrongs (makeRules (length s)))) (sym e) (refused-by c);
         keeps = λ n p x. g ∙ ap (answerBy (λ f. s) (madeTable ++ drop 2048 s)) (first-is c n p x);
         makes = λ a. (madeTable, made-table-is, g ∙ ap (answerBy (λ f. s) (madeTable ++ drop 2048 s)) (admits c a));
       },
@@ -66,7 +67,7 @@ limits-told r e = (
   e,
   subst (Limited r) (sym e) (record {
     refuses = refuses c (λ x. x .refusal) limitsZeros done refl (λ f. refl) refl;
-    limits = λ a. subst (λ (v : Admission). Limits r (answerBy limitsZeros done v .limits)) (sym (admits c a)) (limits-right r (not-below (λ h. a 1 0 (inl (refl, (refl, h))))));
+    limits = λ a. subst (λ (v : Admission). Limits r (answerBy limitsZeros done v .limits)) (sym (admits c a)) (limits-right r (none-clear c a .0));
   }),
 )
   where

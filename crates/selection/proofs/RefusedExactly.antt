@@ -1,11 +1,11 @@
 -- Refused exactly when a point leaves the range, and a single cell's verdict: demand 3's words on the check.
-use Rattle.laws.proofs.Basics.{refl, sym, _↔_, List, ℕ, zero, suc, _+_, _*_, _/_, _%_, _<_, arith, ℤ, pos, _-ℤ_, _*ℤ_, getD}
+use Rattle.laws.proofs.Basics.{refl, sym, _↔_, List, ℕ, _+_, _*_, _/_, _%_, _<_, arith, ℤ, pos, _-ℤ_, _*ℤ_, getD}
 use Rattle.laws.proofs.Diff.{diffs, by-diff}
+use Rattle.laws.proofs.Counting.{tally-as, tally-nothing}
 use Rattle.selection.specs.Word.{Within}
 use Rattle.selection.specs.Answer.{refusal, cellNumbers, outcomeNumbers, reportNumbers}
 use Rattle.selection.specs.Cell.{Against, LeastWitness, IsCell, CellChecked, digit}
-use Rattle.selection.specs.Table.{Table, Tally, BadAt, FirstBad, Passes, Checked, ReportMeaning}
-use Rattle.selection.specs.Table.Tally.{none, one, other}
+use Rattle.selection.specs.Table.{Table, BadAt, FirstBad, Passes, Checked, ReportMeaning}
 use Rattle.selection.specs.Demand.{Leaves, SomeLeaves, FirstLeaves, RefusedExactly, CellTold}
 use Rattle.selection.specs.declared.table.Outcome.{Outcome}
 use Rattle.selection.specs.declared.table.Outcome.the-variants.{Passed, Bad, Refused}
@@ -38,15 +38,6 @@ module _ {t : List ℕ} {k : ℕ} where
   to-bad : SomeLeaves t k → BadAt t k
   to-bad s = record { divisor = s .divisor; remainder = s .remainder; against = to-against (s .leaves) }
 
-tally-as : {t : List ℕ} {m n : ℕ} → Tally (BadAt t) m n → Tally (SomeLeaves t) m n
-tally-as none = none
-tally-as (one p x) = one (of-bad p) (tally-as x)
-tally-as (other p x) = other (λ s. p (to-bad s)) (tally-as x)
-
-tally-none : {P : ℕ → Type 0} (m : ℕ) → ((k : ℕ) → k < m → P k → ⊥) → Tally P m 0
-tally-none zero h = none
-tally-none (suc m) h = other (h m (omega arith)) (tally-none m (λ k l. h k (omega arith)))
-
 kept : {t : List ℕ} → Passes t → (k : ℕ) → k < 2048 → SomeLeaves t k → ⊥
 kept p k h s = let a = to-against (s .leaves) in a .broken (p .allowed k h _ _ (a .point))
 
@@ -70,13 +61,13 @@ refused-exactly {t} {a} h x = go (a .count) (a .outcome) (x .means)
     go : (n : ℕ) (o : Outcome) → ReportMeaning t n o → RefusedExactly t (outcomeNumbers n o)
     go n Passed w = record {
       when = ((λ e. absurd (omega arith)), λ l. absurd (kept (w .0) (l .0) (l .1) (l .2)));
-      count = tally-none 2048 (kept (w .0));
+      count = tally-nothing 2048 (kept (w .0));
       first = λ e. absurd (omega arith);
       otherwise = λ e. refl;
     }
     go n (Bad b) w = record {
       when = ((λ e. let f = w .2 in let hr = f .row in let hc = f .column in (128 * b .row + b .column, omega arith, of-bad (f .first .here))), λ l. refl);
-      count = tally-as (w .1);
+      count = tally-as (λ k. of-bad) (λ k. to-bad) (w .1);
       first = λ e. first-leaves n (w .2);
       otherwise = λ e. absurd (e refl);
     }

@@ -1,20 +1,18 @@
 -- The answer of the repair: its refusals, that the computed answer is document 02's, and that there is no other.
-use Rattle.laws.proofs.Basics.{_≡_, refl, sym, ap, ap₂, _∙_, List, [], _∷_, _⊎_, inl, inr, ⊎-elim, ℕ, _≤_, _<_, arith, length}
+use Rattle.laws.proofs.Basics.{_≡_, refl, sym, ap, ap₂, _∙_, List, ℕ, _≤_, _<_, length}
 use Rattle.laws.specs.Lists.{filled}
 use Rattle.laws.proofs.Lists.{fill-at, fill-kept, kept-one}
-use Rattle.selection.specs.Answer.{refusal, answerBy}
-use Rattle.selection.specs.Refusals.{below, differ, eitherOf, number, Wrongs, firstRefusal, rank}
-use Rattle.selection.specs.Allowed.{isReplaced}
-use Rattle.selection.specs.Computed.{countBelow, repairedByte, changeMark, repairOf, repairedOf, changedOf}
-use Rattle.selection.specs.Repair.{DifferAt, Repaired, repairRules, repairZeros, RepairAccepts, Repairs, RepairClaim}
+use Rattle.selection.proofs.Refusing.{refusal, answerBy, Wrongs, firstRefusal, rank, WellFormed, Meets, rules-meet, first-is, admits, refuses, cleared, clear-admits, refused-at, answered}
+use Rattle.laws.specs.Counting.{countBelow}
+use Rattle.laws.proofs.Tests.{Decides}
+use Rattle.laws.proofs.Counting.{count-tally, tally-one}
 use Rattle.selection.specs.declared.Refusal.{Refusal}
 use Rattle.selection.specs.declared.Admission.{Admission}
 use Rattle.selection.specs.declared.Admission.the-variants.{Admitted, Refused}
+use Rattle.selection.specs.Allowed.{isReplaced}
+use Rattle.selection.specs.Computed.{repairedByte, changeMark, repairOf, repairedOf, changedOf}
+use Rattle.selection.specs.Repair.{DifferAt, Repaired, repairRules, repairZeros, RepairAccepts, Repairs, RepairClaim}
 use Rattle.selection.specs.declared.repair.RepairAnswer.{RepairAnswer}
-use Rattle.selection.proofs.Counts.{Decides, count-tally}
-use Rattle.selection.proofs.Rules.{WellFormed, Meets, rules-meet, not-below, equal, clear, admits, first-is, refuses, rule-holds, rule-past}
-use Rattle.selection.proofs.Orders.{answered}
-use Rattle.selection.proofs.UniqueReport.{tally-one}
 use Rattle.selection.proofs.RepairCells.{replaced-decides, cell-repaired, changed-replaced, replaced-changed, repaired-one, repaired-claim}
 
 -- ---- refusals
@@ -27,17 +25,11 @@ module _ (len r c : ℕ) where
   -- nothing is refused exactly if all is accepted
   pub repair-accepts : firstRefusal (repairRules len r c) ≡ Admitted → RepairAccepts len r c
   unfolding repairRules
-  repair-accepts e =
-      let k = clear repair-rules e in
-      record {
-        repaired-room = not-below (λ h. k 7 0 (inl (refl, (refl, inl h))));
-        changed-room = not-below (λ h. k 7 0 (inl (refl, (refl, inr h))));
-        size = equal len 2048 (λ n. k 8 0 (inr (inl (refl, (refl, n)))));
-      }
+  repair-accepts e = let c = cleared repair-rules e in record { repaired-room = c .0 .0; changed-room = c .0 .1; size = c .1 .0 }
 
   pub repair-admits : RepairAccepts len r c → firstRefusal (repairRules len r c) ≡ Admitted
   unfolding repairRules
-  repair-admits a = admits repair-rules (λ n p. ⊎-elim (λ x. ⊎-elim (λ h. omega (arith, a .repaired-room)) (λ h. omega (arith, a .changed-room)) (x .1 .1)) (⊎-elim (λ x. x .1 .1 (a .size)) (λ z. z)))
+  repair-admits a = clear-admits repair-rules ((a .repaired-room, a .changed-room), (a .size, tt))
 
 -- ---- the call
 
@@ -79,16 +71,9 @@ module _ (t rs cs : List ℕ) where
       (x, y, z, rw (x, y, z) repairs-right)
 
 -- the conditions in numbers: where one holds and none before it, the call refuses so
-pub short-refused : (t rs cs : List ℕ) → (length rs < 2048) ⊎ (length cs < 2048) → repairOf t rs cs ≡ repairZeros (refusal 7 0)
-unfolding repairRules
-short-refused t rs cs h = ap (answerBy repairZeros _) (rule-holds 7 0 (eitherOf (below (length rs) 2048) (below (length cs) 2048)) (number 8 (differ (length t) 2048) ∷ []) h)
-
 pub length-refused : (t rs cs : List ℕ) → 2048 ≤ length rs → 2048 ≤ length cs → (length t ≡ 2048 → ⊥) → repairOf t rs cs ≡ repairZeros (refusal 8 0)
 unfolding repairRules
-length-refused t rs cs hr hc h =
-    ap (answerBy repairZeros _)
-    (rule-past 7 0 (eitherOf (below (length rs) 2048) (below (length cs) 2048)) (number 8 (differ (length t) 2048) ∷ []) (⊎-elim (λ x. omega arith) (λ x. omega arith))
-    ∙ rule-holds 8 0 (differ (length t) 2048) [] h)
+length-refused t rs cs hr hc h = ap (answerBy repairZeros _) (refused-at (repair-rules (length t) (length rs) (length cs)) 1 0 ((hr, hc), (refl, h)))
 
 -- and where none does, it refuses nothing
 pub repair-told : (t rs cs : List ℕ) → length t ≡ 2048 → 2048 ≤ length rs → 2048 ≤ length cs → repairOf t rs cs .refusal ≡ refusal 0 0

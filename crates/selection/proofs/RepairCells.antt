@@ -1,18 +1,19 @@
 -- The repair, cell by cell: the computed one is document 02's; and what is claimed of every repair.
-use Rattle.laws.proofs.Basics.{_≡_, refl, sym, _∙_, Bool, true, false, cond, _||_, List, _⊎_, inl, inr, ⊎-elim, ℕ, zero, suc, _/_, _%_, _≤_, _<_, arith, ltb, eqb, ltb-true, ltb-false, eqb-true, eqb-false, length, getD, take, length-take}
-use native.Mathlib.Nat.{not-le-of-lt, eq-or-lt-of-le}
+use Rattle.laws.proofs.Basics.{_≡_, refl, sym, _∙_, Bool, true, false, cond, _||_, List, _⊎_, inl, inr, ⊎-elim, ℕ, _/_, _%_, _≤_, _<_, arith, ltb, eqb, ltb-true, ltb-false, eqb-true, eqb-false, length, getD, take, length-take}
+use Rattle.laws.specs.Counting.{Tally}
+use Rattle.laws.proofs.Tests.{Decides, decides-yes, decides-no}
+use Rattle.laws.proofs.Counting.{count-tally, tally-most, tally-nothing, tally-some}
+use native.Mathlib.Nat.{not-le-of-lt}
 use lib.Seq.{getD-take, ext-getD}
 use Rattle.selection.specs.Cell.{Allows, digit}
-use Rattle.selection.specs.Table.{Passes, Tally}
-use Rattle.selection.specs.Table.Tally.{none, one, other}
+use Rattle.selection.specs.Table.{Passes}
 use Rattle.selection.specs.Maker.{Made}
 use Rattle.selection.specs.Allowed.{isBad, isReplaced}
 use Rattle.selection.specs.Computed.{madeAt, repairedByte, changeMark}
 use Rattle.selection.specs.Repair.{ReplacedAt, DifferAt, RepairedAt, Repaired, RepairClaim}
 use Rattle.selection.proofs.BiasedPoints.{not-allowed, allows-unless}
-use Rattle.selection.proofs.Counts.{Decides, decides-yes, decides-no, count-tally}
 use Rattle.selection.proofs.Allowed.{cell-decides}
-use Rattle.selection.proofs.Rules.{not-below, equal}
+use Rattle.laws.proofs.Comparisons.{not-below, equal}
 use Rattle.selection.proofs.Making.{made-right}
 use Rattle.selection.proofs.Tables.{table-of}
 use Rattle.selection.proofs.UniqueMade.{byte-one}
@@ -80,20 +81,6 @@ module _ (t : List ℕ) (k : ℕ) (h : k < 2048) where
       go true d = let w = d .yes refl in (byte-one (x .made w) (y .made w), x .marked (replaced-changed x w) ∙ sym (y .marked (replaced-changed y w)))
       go false d = let w = d .no refl in (x .copied w ∙ sym (y .copied w), x .unmarked (sym (x .copied w)) ∙ sym (y .unmarked (sym (y .copied w))))
 
--- ---- tallies
-
--- where every number that has P has Q, no fewer have Q
-tally-most : {P Q : ℕ → Type 0} {m i j : ℕ} → ((k : ℕ) → k < m → P k → Q k) → Tally P m i → Tally Q m j → i ≤ j
-tally-most f none none = omega arith
-tally-most f (one p x) (one q y) = omega (arith, tally-most (λ k h. f k (omega arith)) x y)
-tally-most f (one p x) (other q y) = absurd (q (f _ (omega arith) p))
-tally-most f (other p x) (one q y) = omega (arith, tally-most (λ k h. f k (omega arith)) x y)
-tally-most f (other p x) (other q y) = tally-most (λ k h. f k (omega arith)) x y
-
-tally-nothing : {P : ℕ → Type 0} (m : ℕ) → ((k : ℕ) → k < m → P k → ⊥) → Tally P m 0
-tally-nothing zero f = none
-tally-nothing (suc m) f = other (f m (omega arith)) (tally-nothing m (λ k h. f k (omega arith)))
-
 -- the tally of the cells in which two tables differ
 pub differ-tally : (t u : List ℕ) → (n : ℕ) × Tally (DifferAt t u) 2048 n
 differ-tally t u = (_, count-tally (λ k. differ k) 2048 (λ k h. decides k))
@@ -134,12 +121,7 @@ module _ {t rs cs a b : List ℕ} {n : ℕ} (room : 2048 ≤ length rs) (size : 
   unchanged-same z = ext-getD 0 (take 2048 a) t (first-size ∙ sym size) (λ k l. let h : k < 2048 = omega (arith, first-size) in first-at k h ∙ sym (equal (getD t k 0) (getD a k 0) (λ d. here k h d)))
     where
       here : (k : ℕ) → k < 2048 → DifferAt t a k → ⊥
-      here k h d = omega (arith, some (r .count) k h d)
-        where
-          some : {m i : ℕ} → Tally (DifferAt t a) m i → (k : ℕ) → k < m → DifferAt t a k → 0 < i
-          some none k h d = absurd (omega arith)
-          some (one p x) k h d = omega arith
-          some (other p x) k h d = ⊎-elim (λ e. absurd (p (rw (← e) d))) (λ l. some x k l d) (eq-or-lt-of-le (omega arith))
+      here k h d = omega (arith, tally-some (r .count) k h d)
 
   pub repaired-claim : RepairClaim t a n
   repaired-claim = record {

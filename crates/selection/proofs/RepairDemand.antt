@@ -1,20 +1,22 @@
 -- Tables read back are repaired rightly: document 02's sentences, and the example.
-use Rattle.laws.proofs.Basics.{_≡_, refl, sym, ap, subst, _∙_, Bool, true, false, not, cond, _||_, List, _⊎_, inl, inr, ⊎-elim, _≢_, ℕ, zero, suc, _+_, _/_, _%_, _≤_, _<_, arith, ltb, eqb, eqb-true, eqb-false, length, getD, set, length-set, replicate, length-replicate}
-use native.Mathlib.Nat.{zero-add, eq-or-lt-of-le}
+use Rattle.laws.proofs.Basics.{_≡_, refl, sym, ap, subst, _∙_, Bool, true, false, true≢false, not, _||_, List, _⊎_, ⊎-elim, _≢_, ℕ, _+_, _/_, _%_, _≤_, _<_, arith, ltb, length, getD, set, length-set, replicate, length-replicate}
+use native.Mathlib.Nat.{zero-add}
 use lib.ListN.{getD-replicate}
 use lib.Seq.{getD-set-same, getD-set-other, ext-getD}
 use Rattle.laws.specs.Lists.{filled}
 use Rattle.laws.proofs.Lists.{list-at, fill-at, fill-length}
-use Rattle.selection.specs.Answer.{refusal, answerBy}
-use Rattle.selection.specs.Allowed.{allowsOf, isReplaced}
-use Rattle.selection.specs.Computed.{countBelow, madeAt, madeTable, repairedByte, changeMark, repairOf}
-use Rattle.selection.specs.Refusals.{firstRefusal}
-use Rattle.selection.specs.Repair.{ReplacedAt, repairRules, repairZeros}
+use Rattle.selection.proofs.Refusing.{refusal, answerBy, firstRefusal}
 use Rattle.selection.specs.declared.Admission.{Admission}
 use Rattle.selection.specs.declared.Admission.the-variants.{Admitted}
+use Rattle.laws.specs.Counting.{countBelow}
+use Rattle.laws.proofs.Tests.{Decides}
+use Rattle.laws.proofs.Counting.{count-more, count-none}
+use Rattle.laws.proofs.Division.{same-or-other}
+use Rattle.selection.specs.Allowed.{allowsOf, isReplaced}
+use Rattle.selection.specs.Computed.{madeAt, madeTable, repairedByte, changeMark, repairOf}
+use Rattle.selection.specs.Repair.{ReplacedAt, repairRules, repairZeros}
 use Rattle.selection.specs.declared.repair.RepairAnswer.{RepairAnswer}
 use Rattle.selection.specs.RepairDemand.{RepairTold, readBack, lent, RepairExample, RepairDemand}
-use Rattle.selection.proofs.Counts.{Decides}
 use Rattle.selection.proofs.MadeTables.{kept-passes}
 use Rattle.selection.proofs.Reports.{report-passed}
 use Rattle.selection.proofs.RepairCells.{replaced-decides, not-replaced, differ-tally}
@@ -31,31 +33,6 @@ module _ (t rs cs : List ℕ) (size : length t ≡ 2048) (room : 2048 ≤ length
         claim = claim;
         checked = report-passed (claim .passes);
       }
-
--- ---- counts of tests that differ in one place
-
-count-same : (f g : ℕ → Bool) (m : ℕ) → ((k : ℕ) → k < m → f k ≡ g k) → countBelow f m ≡ countBelow g m
-unfolding countBelow
-count-same f g zero e = refl
-count-same f g (suc m) e = rw (e m (omega arith), count-same f g m (λ k h. e k (omega arith)))
-
-count-more : (f g : ℕ → Bool) (j m : ℕ) → j < m → f j ≡ true → g j ≡ false → ((k : ℕ) → k < m → k ≢ j → f k ≡ g k) → countBelow f m ≡ countBelow g m + 1
-unfolding countBelow
-count-more f g j zero h y n e = absurd (omega arith)
-count-more f g j (suc m) h y n e =
-    ⊎-elim
-    (λ q. rw (← q, y, n, count-same f g j (λ k l. e k (omega arith) (λ x. omega arith))))
-    (λ l. rw (e m (omega arith) (λ x. omega arith), count-more f g j m l y n (λ k i. e k (omega arith))) (go (g m) (countBelow g m)))
-    (eq-or-lt-of-le {n = j} {m = m} (omega arith))
-  where
-    go : (x : Bool) (i : ℕ) → cond x (i + 1 + 1) (i + 1) ≡ cond x (i + 1) i + 1
-    go true i = refl
-    go false i = refl
-
-count-none : (f : ℕ → Bool) (m : ℕ) → ((k : ℕ) → k < m → f k ≡ false) → countBelow f m ≡ 0
-unfolding countBelow
-count-none f zero e = refl
-count-none f (suc m) e = rw (e m (omega arith), count-none f m (λ k h. e k (omega arith)))
 
 -- ---- the example
 
@@ -96,18 +73,11 @@ two : countBelow (isReplaced readBack) 2048 ≡ 2
 two =
     count-more (isReplaced readBack) (isReplaced above) 215 2048 (omega arith) at-215 (above-at 215 (λ e. omega arith) ∙ made-kept 215 (omega arith)) (λ k h x. read-at k x)
     ∙ ap (λ (n : ℕ). n + 1) (count-more (isReplaced above) (isReplaced madeTable) 0 2048 (omega arith) at-0 (made-kept 0 (omega arith)) (λ k h x. above-at k x)
-    ∙ ap (λ (n : ℕ). n + 1) (count-none (isReplaced madeTable) 2048 made-kept))
+    ∙ ap (λ (n : ℕ). n + 1) (count-none (isReplaced madeTable) 2048 (λ k h e. true≢false (sym e ∙ made-kept k h))))
 
 -- what holds in the two cells and in all others holds in each
 in-each : (P : ℕ → Type 0) → P 0 → P 215 → ((k : ℕ) → k < 2048 → k ≢ 0 → k ≢ 215 → P k) → (k : ℕ) → k < 2048 → P k
 in-each P x y z k h = ⊎-elim (λ e. subst P (sym e) x) (λ n. ⊎-elim (λ e. subst P (sym e) y) (λ m. z k h n m) (same-or-other k 215)) (same-or-other k 0)
-  where
-    same-or-other : (k m : ℕ) → (k ≡ m) ⊎ (k ≢ m)
-    same-or-other k m = go (eqb k m) refl
-      where
-        go : (x : Bool) → eqb k m ≡ x → (k ≡ m) ⊎ (k ≢ m)
-        go true e = inl (eqb-true k m e)
-        go false e = inr (eqb-false k m e)
 
 first-replaced : isReplaced readBack 0 ≡ true
 first-replaced = read-at 0 (λ e. omega arith) ∙ at-0

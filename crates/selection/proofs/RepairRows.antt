@@ -1,11 +1,14 @@
 -- The code's two loops over a row: where each stands before column c, and what one turn does.
-use Rattle.laws.proofs.Basics.{_≡_, refl, ap, subst, _∙_, Bool, true, false, not, cond, _||_, List, ℕ, _+_, _*_, _-_, _/_, _%_, _≤_, _<_, add-one, arith, ltb, eqb, length, getD, set, length-set, length-append, length-drop}
+use Rattle.laws.proofs.Basics.{_≡_, refl, ap, subst, _∙_, Bool, true, false, not, cond, _||_, List, ℕ, _+_, _*_, _-_, _/_, _%_, _≤_, _<_, arith, ltb, eqb, length, getD, set, length-set, length-append, length-drop, sym}
 use Rattle.laws.specs.Lists.{filled}
 use Rattle.laws.proofs.Lists.{list-length, fill-more, fill-length, fill-at}
+use Rattle.laws.specs.Counting.{countBelow}
+use Rattle.laws.proofs.Sums.{sum-more}
 use Rattle.selection.specs.Allowed.{isReplaced}
 use Rattle.selection.specs.Maker.{Made, Limits, stepAt}
 use Rattle.selection.specs.Multiples.{RowOf, allowsBy}
-use Rattle.selection.specs.Computed.{countBelow, madeAt, repairedByte, changeMark, FillsRow}
+use Rattle.selection.specs.Computed.{madeAt, repairedByte, changeMark}
+use Rattle.selection.specs.RepairRows.{FillsRow}
 use Rattle.selection.specs.declared.multiples.RowMultiples.{RowMultiples}
 use Rattle.selection.proofs.Allowed.{bad-in-row}
 use Rattle.selection.proofs.Tables.{cell-row, cell-column}
@@ -75,8 +78,4 @@ module _ (f : ℕ → ℕ) (o : List ℕ) (r : ℕ) {b : List ℕ} where
 -- the marks that are 1
 pub count-mark : (t : List ℕ) (r i : ℕ) {count n : ℕ} → count ≡ countBelow (λ c. isReplaced t (128 * r + c)) i → n ≡ changeMark t (128 * r + i) → count + n ≡ countBelow (λ c. isReplaced t (128 * r + c)) (i + 1)
 unfolding changeMark countBelow
-count-mark t r i e g = rw (e, g, add-one) (go (isReplaced t (128 * r + i)) (countBelow (λ c. isReplaced t (128 * r + c)) i))
-  where
-    go : (x : Bool) (k : ℕ) → k + cond x 1 0 ≡ cond x (k + 1) k
-    go true k = refl
-    go false k = omega arith
+count-mark t r i e g = rw (e, g) (sym (sum-more _ i))

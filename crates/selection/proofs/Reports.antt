@@ -1,12 +1,15 @@
 -- The computed report is the check's answer in document 01's words, and a table is admitted exactly if it passes.
-use Rattle.laws.proofs.Basics.{_≡_, refl, sym, subst, ap, ap₂, _∙_, List, [], _∷_, _⊎_, inl, inr, ⊎-elim, ℕ, _+_, _*_, _/_, _%_, _≤_, _<_, arith, ltb, ltb→lt, nltb→le, lt-ltb, length, getD}
+use Rattle.laws.proofs.Basics.{_≡_, refl, sym, subst, ap, ap₂, _∙_, List, [], _∷_, _⊎_, ⊎-elim, ℕ, _+_, _*_, _/_, _%_, _≤_, _<_, arith, ltb, ltb→lt, nltb→le, lt-ltb, length, getD}
 use native.Mathlib.Nat.{not-le-of-lt}
-use Rattle.laws.proofs.Tests.{by-cond}
-use Rattle.selection.specs.Refusals.{First, Wrongs, firstFrom, numberFirst, firstRefusal, rank}
+use Rattle.laws.proofs.Tests.{by-cond, less-decides}
+use Rattle.laws.specs.Search.{First, firstFrom}
+use Rattle.laws.specs.Counting.{countBelow}
+use Rattle.laws.proofs.Counting.{count-tally}
+use Rattle.selection.specs.Refusals.{Wrongs, numberFirst, firstRefusal, rank}
 use Rattle.selection.specs.Cell.{Allows, CellChecked, digit}
 use Rattle.selection.specs.Table.{Table, BadAt, Passes, formRules, Checked, ReportMeaning, tableRules}
 use Rattle.selection.specs.Allowed.{aboveFour, isBad}
-use Rattle.selection.specs.Computed.{cellOf, countBelow, badReport, reportAt, passedReport, refusedReport, tableReport, reportOf}
+use Rattle.selection.specs.Computed.{cellOf, badReport, reportAt, passedReport, refusedReport, tableReport, reportOf}
 use Rattle.selection.specs.Answer.{refusal, outcomeNumbers, reportNumbers, reportZeros, admission, admissionOf, firstOf, answerBy}
 use Rattle.selection.specs.declared.Admission.{Admission}
 use Rattle.selection.specs.declared.Admission.the-variants as A
@@ -17,32 +20,26 @@ use Rattle.selection.specs.declared.table.Outcome.the-variants as O
 use Rattle.selection.specs.declared.table.Report.{Report}
 use Rattle.selection.specs.declared.table.BadCell.{BadCell}
 use Rattle.selection.proofs.BiasedPoints.{not-allowed, known-not-refused, allows-unless, cell-checked}
-use Rattle.selection.proofs.Counts.{less-decides, count-tally, first-below}
 use Rattle.selection.proofs.Allowed.{bad-decides}
 use Rattle.selection.proofs.Tables.{table-of, no-table, cell-at, cell-row, cell-column, first-bad-of}
-use Rattle.selection.proofs.Rules.{WellFormed, Meets, rules-meet, first-is, admits, rules-append, equal}
+use Rattle.selection.proofs.OneRule.{found, not-found}
+use Rattle.selection.proofs.Rules.{WellFormed, Meets, rules-meet, first-is, rules-append}
+use Rattle.selection.proofs.Clear.{none-clear, clear-admits, refused-at}
 
 module _ (t : List ℕ) where
-  above-first : let f = firstFrom (aboveFour t) 0 2048 in ((f ≡ 2048) × ((k : ℕ) → k < 2048 → 4 < getD t k 0 → ⊥)) ⊎ ((f < 2048) × First (λ k. 4 < getD t k 0) f)
-  above-first = first-below (aboveFour t) 2048 (λ k h. less-decides 4 (getD t k 0))
-
   -- 2,048 bytes in which no byte above 4 is found are a table
   pub is-table : length t ≡ 2048 → 2048 ≤ firstFrom (aboveFour t) 0 2048 → Table t
-  is-table e h = table-of t e (⊎-elim (λ l. l .1) (λ r. absurd (omega (arith, r .0))) above-first)
-
-  bad-first : Table t → let f = firstFrom (isBad t) 0 2048 in ((f ≡ 2048) × ((k : ℕ) → k < 2048 → BadAt t k → ⊥)) ⊎ ((f < 2048) × First (BadAt t) f)
-  bad-first a = first-below (isBad t) 2048 (bad-decides a)
+  is-table e h = table-of t e (not-found (aboveFour t) 2048 (λ k l. less-decides 4 (getD t k 0)) h)
 
   passed : Table t → 2048 ≤ firstFrom (isBad t) 0 2048 → Checked t passedReport
   passed a h =
-      let n = ⊎-elim (λ l. l .1) (λ r. absurd (omega (arith, r .0))) (bad-first a) in
+      let n = not-found (isBad t) 2048 (bad-decides a) h in
       record { means = (record { table = a; allowed = λ k h. allows-unless (cell-at a k h) (λ D P x. n k h (record { divisor = D; remainder = P; against = x })) }, refl) }
 
   bad : Table t → let k = firstFrom (isBad t) 0 2048 in k < 2048 → Checked t (reportAt (countBelow (isBad t) 2048) t k)
   bad a h =
       let k = firstFrom (isBad t) 0 2048 in
-      let f : First (BadAt t) k = ⊎-elim (λ l. absurd (omega (arith, l .0))) (λ r. r .1) (bad-first a) in
-      go k h f (cellOf (k / 128) (k % 128) (getD t k 0)) (cell-checked (k / 128) (k % 128) (getD t k 0))
+      go k h (found (isBad t) 2048 (bad-decides a) refl h .1) (cellOf (k / 128) (k % 128) (getD t k 0)) (cell-checked (k / 128) (k % 128) (getD t k 0))
     where
       go : (k : ℕ) → k < 2048 → First (BadAt t) k → (v : CellVerdict) → CellChecked (k / 128) (k % 128) (getD t k 0) v → Checked t (badReport (countBelow (isBad t) 2048) (k / 128) (k % 128) v)
       go k h f Allowed j = absurd (not-allowed (f .here .against) (j .means .1))
@@ -55,7 +52,7 @@ form-rules t = record { sound = (tt, λ _. ((λ k h. less-decides 4 (getD t k 0)
 
 -- what no rule of the form refuses is a table
 form-table : (t : List ℕ) → ((n p : ℕ) → Wrongs (formRules t) n p → ⊥) → Table t
-form-table t a = table-of t (equal (length t) 2048 (λ n. a 8 0 (inl (refl, (refl, n))))) (⊎-elim (λ l. l .1) (λ r. absurd (a 9 _ (inr (inl (refl, r))))) (above-first t))
+form-table t a = let c = none-clear (form-rules t) a in table-of t (c .0) (c .1 .0)
 
 -- the report of a first bad cell, by its row and its column
 pub report-in : (n : ℕ) (t : List ℕ) (r c : ℕ) {v : CellVerdict} → c ≤ 127 → v ≡ cellOf r c (getD t (128 * r + c) 0) → badReport n r c v ≡ reportAt n t (128 * r + c)
@@ -122,11 +119,8 @@ unfolding tableRules
 admission-rules t = go (reportOf t .outcome) (report-checked t .means)
   where
     go : (o : Outcome) → ReportMeaning t (reportOf t .count) o → admissionOf o ≡ firstRefusal (tableRules t)
-    go O.Passed w = sym (admits (table-rules t) (λ n p. ⊎-elim (λ x. x .1 .1 (w .0 .table .size)) (⊎-elim (λ x. not-le-of-lt (x .1 .1 .here) (w .0 .table .digits p)) (⊎-elim (λ x. not-allowed (x .1 .1 .here .against) (w .0 .allowed p (x .1 .0))) (λ z. z)))))
-    go (O.Bad b) w = sym (first-is (table-rules t) _ _ (record {
-      holds = inr (inr (inl (refl, (omega (arith, w .2 .row, w .2 .column), w .2 .first))));
-      before = λ m q l. ⊎-elim (λ x. x .1 .1 (w .0 .size)) (⊎-elim (λ x. not-le-of-lt (x .1 .1 .here) (w .0 .digits q)) (⊎-elim (λ x. omega (arith, ap rank (x .0))) (λ z. z)));
-    }))
+    go O.Passed w = sym (clear-admits (table-rules t) (w .0 .table .size, ((λ k h x. not-le-of-lt x (w .0 .table .digits k)), ((λ k h x. not-allowed (x .against) (w .0 .allowed k h)), tt))))
+    go (O.Bad b) w = sym (refused-at (table-rules t) 2 _ (w .0 .size, ((λ k h x. not-le-of-lt x (w .0 .digits k)), (omega (arith, w .2 .row, w .2 .column), w .2 .first))))
     go (O.Refused f) w = sym (rules-append (formRules t) (numberFirst 10 (BadAt t) (isBad t) 2048 ∷ []) ∙ ap (λ (v : Admission). firstOf v (firstRefusal (numberFirst 10 (BadAt t) (isBad t) 2048 ∷ []))) (first-is (form-rules t) _ _ (w .0)))
 
 -- the digit of a table that passes, at a row and a column

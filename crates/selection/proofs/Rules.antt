@@ -1,106 +1,14 @@
 -- What a list of rules gives is the first refusal, by rank, of those whose condition holds.
-use Rattle.laws.proofs.Basics.{_≡_, refl, sym, ap, ap₂, subst, _∙_, Bool, true, false, not, cond, _||_, List, [], _∷_, _++_, _⊎_, inl, inr, ⊎-elim, ℕ, zero, suc, _+_, _≤_, _<_, arith, T, ltb, eqb, ltb→lt, lt-ltb, ltb-true, ltb-false, le-leb, leb-true, eq-eqb, eqb-true, eqb-false, ne-eqb, ltZ}
-use Rattle.laws.proofs.Division.{le-or-lt}
-use Rattle.laws.proofs.Tests.{is-true, both, both-left, both-right, upto, upto-at}
-use Rattle.selection.proofs.Counts.{Decides, first-below}
+use Rattle.laws.proofs.Basics.{_≡_, refl, sym, ap, ap₂, subst, _∙_, Bool, true, List, [], _∷_, _++_, _⊎_, inl, inr, ⊎-elim, ℕ, zero, suc, _+_, _<_, arith, T, ltb, ltb→lt}
+use Rattle.laws.proofs.Tests.{both, both-left, both-right, upto, upto-at}
+use Rattle.selection.proofs.OneRule.{Gives, Tells, decided}
 use Rattle.selection.specs.Answer.{refusal, refusalOf, firstOf, answerBy}
-use Rattle.selection.specs.Refusals.{Condition, below, belowℤ, atMost, same, differ, eitherOf, Holds, holds, First, firstFrom, Rule, numberAt, numberFirst, numberOf, Wrong, given, Wrongs, firstRefusal, rank, FirstRefusal, RefusedBy, Refuses}
+use Rattle.selection.specs.Refusals.{Rule, numberOf, Wrong, given, Wrongs, firstRefusal, rank, FirstRefusal, RefusedBy, Refuses, RefusesLent}
 use Rattle.selection.specs.declared.Refusal.{Refusal}
 use Rattle.selection.specs.declared.Admission.{Admission}
 use Rattle.selection.specs.declared.Admission.the-variants.{Admitted, Refused}
 
--- ---- the test of a condition tells whether it holds
-
-pub test-true : (c : Condition) → holds c ≡ true → Holds c
-test-true (below a b) e = ltb-true a b e
-test-true (belowℤ a b) e = record { lt = subst T (sym e) tt }
-test-true (atMost a b) e = leb-true a b e
-test-true (same a b) e = eqb-true a b e
-test-true (differ a b) e = eqb-false a b (other (eqb a b) e)
-  where
-    other : (x : Bool) → not x ≡ true → x ≡ false
-    other true e = sym e
-    other false e = refl
-test-true (eitherOf c d) e = go (holds c) (test-true c) (test-true d) e
-  where
-    go : {P Q : Type 0} (x : Bool) → (x ≡ true → P) → (holds d ≡ true → Q) → (x || holds d) ≡ true → P ⊎ Q
-    go true f g e = inl (f refl)
-    go false f g e = inr (g e)
-
-pub holds-test : (c : Condition) → Holds c → holds c ≡ true
-holds-test (below a b) h = lt-ltb a b h
-holds-test (belowℤ a b) h = is-true (ltZ a b) (h .lt)
-holds-test (atMost a b) h = le-leb a b h
-holds-test (same a b) h = eq-eqb a b h
-holds-test (differ a b) h = rw (ne-eqb a b h) refl
-holds-test (eitherOf c d) h = ⊎-elim (λ p. rw (holds-test c p) refl) (λ q. rw (holds-test d q) (always (holds c))) h
-  where
-    always : (x : Bool) → (x || true) ≡ true
-    always true = refl
-    always false = refl
-
-pub holds-decides : (c : Condition) → Decides (Holds c) (holds c)
-holds-decides c = record { yes = test-true c; no = λ e h. let f = holds-test c h in let z : _≡_ {A = ℕ} 0 1 = cc in omega arith }
-
-pub not-below : {a b : ℕ} → (a < b → ⊥) → b ≤ a
-not-below {a} {b} n = ⊎-elim (λ h. h) (λ h. absurd (n h)) (le-or-lt b a)
-
-pub not-most : {a b : ℕ} → (a ≤ b → ⊥) → b < a
-not-most {a} {b} n = ⊎-elim (λ h. absurd (n h)) (λ h. h) (le-or-lt a b)
-
--- numbers that do not differ
-pub equal : (a b : ℕ) → ((a ≡ b → ⊥) → ⊥) → a ≡ b
-equal a b n = go (eqb a b) refl
-  where
-    go : (x : Bool) → eqb a b ≡ x → a ≡ b
-    go true e = eqb-true a b e
-    go false e = absurd (n (eqb-false a b e))
-
--- ---- a rule
-
--- what it gives is right
-abbrev pub Gives : Rule → Admission → Type 0
-Gives r Admitted = (p : ℕ) → Wrong r p → ⊥
-Gives r (Refused f) = (f .number ≡ numberOf r) × Wrong r (f .place)
-
--- and its place is one
-pub record Decided (r : Rule) : Type 0 where
-  pub gives : Gives r (given r)
-  pub one : (p q : ℕ) → Wrong r p → Wrong r q → p ≡ q
-
-decided-at : (k p : ℕ) (c : Condition) → Decided (numberAt k p c)
-decided-at k p c = record { gives = go (holds c) refl; one = λ x y a b. a .0 ∙ sym (b .0) }
-  where
-    go : (x : Bool) → holds c ≡ x → Gives (numberAt k p c) (cond x (Refused (refusal k p)) Admitted)
-    go true e = (refl, (refl, test-true c e))
-    go false e = λ q h. holds-decides c .no e (h .1)
-
-pub first-one : {P : ℕ → Type 0} {i j : ℕ} → First P i → First P j → i ≡ j
-first-one {i = i} {j = j} x y = ⊎-elim
-    (λ (g : i ≤ j). ⊎-elim (λ (h : j ≤ i). omega arith) (λ (h : i < j). absurd (y .before i h (x .here))) (le-or-lt j i))
-    (λ (g : j < i). absurd (x .before j g (y .here)))
-    (le-or-lt i j)
-
-decided-first : (k : ℕ) {P : ℕ → Type 0} (f : ℕ → Bool) (m : ℕ) → ((j : ℕ) → j < m → Decides (P j) (f j)) → Decided (numberFirst k P f m)
-decided-first k {P} f m d = record { gives = go (ltb j m) refl; one = λ p q x y. first-one (x .1) (y .1) }
-  where
-    j : ℕ
-    j = firstFrom f 0 m
-
-    go : (x : Bool) → ltb j m ≡ x → Gives (numberFirst k P f m) (cond x (Refused (refusal k j)) Admitted)
-    go true e = let l = ltb-true j m e in (refl, (l, ⊎-elim (λ x. absurd (omega (arith, x .0))) (λ x. x .1) (first-below f m d)))
-    go false e = λ p h. let l = ltb-false j m e in ⊎-elim (λ x. x .1 p (h .0) (h .1 .here)) (λ x. absurd (omega (arith, x .0))) (first-below f m d)
-
--- the test of a search tells; the other rules bring theirs
-abbrev pub Tells : Rule → Type 0
-Tells (numberAt k p c) = Unit {0}
-Tells (numberFirst k P f m) = (j : ℕ) → j < m → Decides (P j) (f j)
-
-decided : (r : Rule) → Tells r → Decided r
-decided (numberAt k p c) t = decided-at k p c
-decided (numberFirst k P f m) t = decided-first k f m t
-
--- ---- a firstRefusal
+-- ---- a list of rules
 
 -- each rule's test tells, where no condition before it holds
 abbrev pub Sound : List Rule → Type 0
@@ -168,7 +76,7 @@ by-number m n h l =
     ltb→lt (rank (m + 1)) (rank (n + 1))
     (upto-at (λ k. ltb (rank (k + 1)) (rank (n + 1))) n (upto-at (λ j. upto (λ k. ltb (rank (k + 1)) (rank (j + 1))) j) 10 tt n l) m h)
 
--- ---- what a firstRefusal says
+-- ---- what its first refusal says
 
 module _ {rs : List Rule} (c : WellFormed rs) where
   pub rules-meet : (v : Admission) → firstRefusal rs ≡ v → Meets (Wrongs rs) v
@@ -224,18 +132,12 @@ module _ {rs : List Rule} (c : WellFormed rs) where
       same Admitted = e
       same (Refused f) = z f
 
--- the first rule of a firstRefusal: where its condition holds, and where not
-pub rule-holds : (k p : ℕ) (c : Condition) (rs : List Rule) → Holds c → firstRefusal (numberAt k p c ∷ rs) ≡ Refused (refusal k p)
-rule-holds k p c rs h = rw (holds-test c h) refl
+  -- and one that writes s into a lent list b
+  pub refuses-lent : {X : Type 0} (refused : X → Refusal) (zeros : Refusal → X) (done : X) (b s : List ℕ) → refused done ≡ refusal 0 0 → ((f : Refusal) → refused (zeros f) ≡ f)
+      → {v : Admission} → v ≡ firstRefusal rs → RefusesLent (Wrongs rs) refused zeros (answerBy zeros done v) b (answerBy (λ f. b) s v)
+  refuses-lent refused zeros done b s e z g = record { answer = refuses refused zeros done e z g; kept = λ n p x. ap (answerBy (λ f. b) s) (g ∙ first-is n p x) }
 
-pub rule-past : (k p : ℕ) (c : Condition) (rs : List Rule) → (Holds c → ⊥) → firstRefusal (numberAt k p c ∷ rs) ≡ firstRefusal rs
-rule-past k p c rs n = go (holds c) refl
-  where
-    go : (x : Bool) → holds c ≡ x → firstOf (cond x (Refused (refusal k p)) Admitted) (firstRefusal rs) ≡ firstRefusal rs
-    go true e = absurd (n (test-true c e))
-    go false e = refl
-
--- one firstRefusal after another
+-- ---- one list after another
 pub rules-append : (rs ss : List Rule) → firstRefusal (rs ++ ss) ≡ firstOf (firstRefusal rs) (firstRefusal ss)
 rules-append [] ss = refl
 rules-append (r ∷ rs) ss = go (rules-append rs ss) (given r)

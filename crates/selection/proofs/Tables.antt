@@ -1,8 +1,9 @@
 -- Tables, and a table's index as a row and a column.
 use Rattle.laws.proofs.Basics.{_≡_, subst, List, ⊎-elim, ℕ, _+_, _*_, _/_, _%_, _≤_, _<_, arith, ℤ, length, getD, List·getD-eq-default}
-use native.Mathlib.Nat.{lt-of-not-le, le-of-suc-le-suc, not-le-of-lt}
+use Rattle.laws.specs.Search.{First}
+use Rattle.laws.proofs.Comparisons.{not-below}
+use native.Mathlib.Nat.{not-le-of-lt}
 use native.Mathlib.Decide.{decLt}
-use Rattle.selection.specs.Refusals.{First}
 use Rattle.selection.specs.Cell.{LeastWitness, IsCell, digit}
 use Rattle.selection.specs.Table.{Table, BadAt, FirstBad, NoTable}
 
@@ -13,13 +14,10 @@ table-of t e h =
       size = e;
       digits = λ k.
           elim (decLt k 2048) [
-            | yes l ↦ le-of-not-lt (h k l)
-            | no n ↦ rw (List·getD-eq-default t 0 {n = k} (le-of-not-lt (λ l. n (omega arith)))) (omega arith)
+            | yes l ↦ not-below (h k l)
+            | no n ↦ rw (List·getD-eq-default t 0 {n = k} (not-below (λ l. n (omega arith)))) (omega arith)
           ];
     }
-  where
-    le-of-not-lt : {a b : ℕ} → (a < b → ⊥) → b ≤ a
-    le-of-not-lt n = le-of-suc-le-suc (lt-of-not-le n)
 
 -- index f as a cell
 pub first-bad-of : {t : List ℕ} {f D : ℕ} {P : ℤ} → f < 2048 → First (BadAt t) f → LeastWitness (f / 128) (f % 128) (digit (getD t f 0)) D P → FirstBad t (f / 128) (f % 128) D P

@@ -1,24 +1,18 @@
 -- The check has one answer to each table: one count, one first bad cell, one witness.
-use Rattle.laws.proofs.Basics.{_≡_, refl, sym, subst, ap, ap₂, _∙_, List, ℕ, suc, _+_, _*_, _/_, _%_, arith, getD}
+use Rattle.laws.proofs.Basics.{_≡_, refl, sym, subst, ap, ap₂, _∙_, List, ℕ, _+_, _*_, _/_, _%_, arith, getD}
+use Rattle.laws.proofs.Counting.{tally-one}
 use Rattle.selection.specs.Cell.{LeastWitness, Allows, digit}
-use Rattle.selection.specs.Table.{Tally, BadAt, FirstBad, Checked, ReportMeaning}
-use Rattle.selection.specs.Table.Tally.{none, one, other}
+use Rattle.selection.specs.Table.{BadAt, FirstBad, Checked, ReportMeaning}
 use Rattle.selection.specs.declared.table.Outcome.{Outcome}
 use Rattle.selection.specs.declared.table.Outcome.the-variants.{Passed, Bad, Refused}
 use Rattle.selection.specs.declared.table.Report.{Report}
 use Rattle.selection.specs.declared.table.BadCell.{BadCell}
 use Rattle.selection.specs.declared.Witness.{Witness}
-use Rattle.selection.proofs.Rules.{first-one, refusal-one}
+use Rattle.selection.proofs.OneRule.{first-one}
+use Rattle.selection.proofs.Rules.{refusal-one}
 use Rattle.selection.proofs.Tables.{no-table}
 use Rattle.selection.proofs.Reports.{form-rules}
 use Rattle.selection.proofs.UniqueCell.{one-witness}
-
-pub tally-one : {P : ℕ → Type 0} {m i j : ℕ} → Tally P m i → Tally P m j → i ≡ j
-tally-one none none = refl
-tally-one (one p x) (one q y) = ap suc (tally-one x y)
-tally-one (one p x) (other q y) = absurd (q p)
-tally-one (other p x) (one q y) = absurd (p q)
-tally-one (other p x) (other q y) = tally-one x y
 
 bad-one : {t : List ℕ} (a b : BadCell) → FirstBad t (a .row) (a .column) (a .witness .divisor) (a .witness .remainder)
     → FirstBad t (b .row) (b .column) (b .witness .divisor) (b .witness .remainder) → a ≡ b

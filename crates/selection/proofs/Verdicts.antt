@@ -1,14 +1,14 @@
 -- What the answers to a table and to a cell tell a caller, by their cases.
-use Rattle.laws.proofs.Basics.{_≡_, refl, sym, subst, List, [], _∷_, ℕ, _≤_, ap, _∙_, _⊎_, ⊎-elim, _<_, _+_, _*_, arith}
-use Rattle.selection.specs.Answer.{refusal, answerBy, cellNumbers, cellZeros}
-use Rattle.selection.specs.Refusals.{Wrongs, firstRefusal, Refuses, below, eitherOf, numberAt}
+use Rattle.laws.proofs.Basics.{_≡_, refl, sym, subst, List, ℕ, _≤_}
+use Rattle.selection.specs.Answer.{cellNumbers, cellZeros}
+use Rattle.selection.proofs.Refusing.{refusal, answerBy, Wrongs, firstRefusal, Refuses, refuses}
+use Rattle.selection.specs.declared.Refusal.{Refusal}
+use Rattle.selection.specs.declared.Admission.{Admission}
 use Rattle.selection.specs.Cell.{cellRules, CellChecked, CellMeaning}
 use Rattle.selection.specs.Multiples.{Finding, multiplesOf, testOf, cellVerdictOf}
 use Rattle.selection.specs.Multiples.Finding.{NoWitness, LeastAt}
 use Rattle.selection.specs.Computed.{cellOf}
 use Rattle.selection.specs.Table.{Table, Checked, ReportMeaning}
-use Rattle.selection.specs.declared.Refusal.{Refusal}
-use Rattle.selection.specs.declared.Admission.{Admission}
 use Rattle.selection.specs.declared.Admission.the-variants as A
 use Rattle.selection.specs.declared.CellVerdict.{CellVerdict}
 use Rattle.selection.specs.declared.CellVerdict.the-variants as C
@@ -17,7 +17,6 @@ use Rattle.selection.specs.declared.table.Outcome.{Outcome}
 use Rattle.selection.specs.declared.table.Outcome.the-variants as O
 use Rattle.selection.specs.declared.table.Report.{Report}
 use Rattle.selection.proofs.BiasedPoints.{cell-rules, known-not-refused}
-use Rattle.selection.proofs.Rules.{refuses, rule-holds, rule-past}
 
 -- the check's answer, by its case
 outcome-says : {t : List ℕ} {a : Report} {o : Outcome} → Checked t a → a .outcome ≡ o → ReportMeaning t (a .count) o
@@ -50,12 +49,3 @@ module _ (r c b : ℕ) where
       none : (h : Finding) → cellNumbers (cellVerdictOf h) .refusal ≡ refusal 0 0
       none NoWitness = refl
       none (LeastAt d w) = refl
-
-  -- and these are its two refusals in numbers
-  pub cell-row-column : (15 < r) ⊎ (127 < c) → cellNumbers (cellOf r c b) ≡ cellZeros (refusal 1 0)
-  cell-row-column h = ap (λ (v : Admission). cellNumbers (answerBy C.Refused (cellVerdictOf (testOf (multiplesOf r) c b)) v)) (rule-holds 1 0 (eitherOf (below 15 r) (below 127 c)) (numberAt 9 (128 * r + c) (below 4 b) ∷ []) h)
-
-  pub cell-byte : r ≤ 15 → c ≤ 127 → 4 < b → cellNumbers (cellOf r c b) ≡ cellZeros (refusal 9 (128 * r + c))
-  cell-byte hr hc h =
-      ap (λ (v : Admission). cellNumbers (answerBy C.Refused (cellVerdictOf (testOf (multiplesOf r) c b)) v))
-      (rule-past 1 0 (eitherOf (below 15 r) (below 127 c)) (numberAt 9 (128 * r + c) (below 4 b) ∷ []) (⊎-elim (λ x. omega arith) (λ x. omega arith)) ∙ rule-holds 9 (128 * r + c) (below 4 b) [] h)

@@ -1,20 +1,21 @@
 -- The answers, computed: `cellOf`, `rowLimitsOf`, `madeTable`, `makeOf`, `reportOf`, `repairOf`. A reader need not believe them: `cell-checked`, `allows-decides`, `limits-right`,
 -- `made-table-is`, `report-checked` and the contracts of `row_limits`, `make_table` and `repair_table` show that each is the answer in the documents' words, and
 -- `cell-checked-one`, `limited-one`, `made-one`, `makes-one`, `checked-one`, `repairs-one` that there is no other.
-use mathlib.Core.Path.{_≡_}
-use mathlib.Core.Bool.{Bool, cond}
+use mathlib.Core.Bool.{cond}
 use mathlib.Core.List.{List, [], _∷_, _++_}
-use Prim.Native.Nat.{ℕ, zero, suc, _+_, _*_, _/_, _%_}
+use Prim.Native.Nat.{ℕ, zero, _+_, _/_, _%_}
 use lib.Dec.{ltb}
 use lib.ListN.{length, getD, drop}
 use Rattle.laws.specs.Lists.{listFrom, filled}
-use Rattle.selection.specs.Answer.{refusal, answerBy}
+use Rattle.laws.specs.Search.{firstFrom}
+use Rattle.laws.specs.Counting.{countBelow}
+use Rattle.selection.specs.Answer.{refusal, refusalOf, answerBy}
 use Rattle.selection.specs.Cell.{cellRules}
 use Rattle.selection.specs.Allowed.{allowsOf, isBad, isReplaced}
 use Rattle.selection.specs.Table.{formRules}
 use Rattle.selection.specs.Maker.{limitsRules, limitsZeros, makeRules}
 use Rattle.selection.specs.Repair.{repairRules, repairZeros}
-use Rattle.selection.specs.Refusals.{firstFrom, firstRefusal}
+use Rattle.selection.specs.Refusals.{firstRefusal}
 use Rattle.selection.specs.Multiples.{multiplesOf, testOf, cellVerdictOf}
 use Rattle.selection.specs.declared.Refusal.{Refusal}
 use Rattle.selection.specs.declared.CellVerdict.{CellVerdict}
@@ -47,7 +48,7 @@ abbrev pub madeBuffer : List ℕ → List ℕ
 madeBuffer s = answerBy (λ f. s) (madeTable ++ drop 2048 s) (firstRefusal (makeRules (length s)))
 
 abbrev pub makeOf : List ℕ → Refusal
-makeOf s = answerBy (λ f. f) (refusal 0 0) (firstRefusal (makeRules (length s)))
+makeOf s = refusalOf (firstRefusal (makeRules (length s)))
 
 -- the columns at which the made digits of a row change: -2 begins past the last column without a point, -1 and 0 past the last in which they are too low, 1 and 2 past
 -- the last in which 0 and 1 are not too high, and 0 again past the last column with a point
@@ -59,11 +60,6 @@ limitsOf r = limitsBy (multiplesOf r)
 
 abbrev pub rowLimitsOf : ℕ → RowLimits
 rowLimitsOf r = answerBy limitsZeros (record { refusal = refusal 0 0; limits = limitsOf r }) (firstRefusal (limitsRules r))
-
--- how many numbers below m pass the test f
-unfoldable pub countBelow : (ℕ → Bool) → ℕ → ℕ
-countBelow f zero = 0
-countBelow f (suc m) = cond (f m) (countBelow f m + 1) (countBelow f m)
 
 abbrev pub passedReport : Report
 passedReport = record { count = 0; outcome = O.Passed }
@@ -97,10 +93,6 @@ repairedByte t k = cond (isReplaced t k) (madeAt k) (getD t k 0)
 
 unfoldable pub changeMark : List ℕ → ℕ → ℕ
 changeMark t k = cond (isReplaced t k) 1 0
-
--- what the code asks of a row r: where the list a has the values of f before that row, the list b has them up to its end as well
-abbrev pub FillsRow : (ℕ → ℕ) → ℕ → List ℕ → List ℕ → Type 0
-FillsRow f r a b = (o : List ℕ) → a ≡ filled f (128 * r) o → b ≡ filled f (128 * r + 128) o
 
 -- the answer to the table t, and what is left in the two buffers that held rs and cs
 abbrev pub repairOf : List ℕ → List ℕ → List ℕ → RepairAnswer

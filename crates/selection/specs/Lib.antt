@@ -10,6 +10,7 @@ pub mod Answer
 pub mod Refusals
 pub mod Repair
 pub mod Computed
+pub mod RepairRows
 pub mod RepairDemand
 pub mod WordBytes
 pub mod Demand

@@ -7,7 +7,7 @@ use Prim.Native.Nat.{ℕ, _+_, _-_, _/_, _%_, _≤_, _<_}
 use lib.Dec.{ltb}
 use lib.ListN.{length, getD, drop}
 use Rattle.selection.specs.Cell.{Allows, digit}
-use Rattle.selection.specs.Refusals.{Rule, below, number, Wrongs, FirstRefusal, RefusedBy, Refuses}
+use Rattle.selection.specs.Refusals.{Rule, tooShort, below, number, Wrongs, FirstRefusal, RefusedBy, Refuses}
 use Rattle.selection.specs.declared.Refusal.{Refusal}
 use Rattle.selection.specs.declared.maker.RowLimits.{RowLimits}
 
@@ -43,7 +43,7 @@ abbrev pub limitsRules : ℕ → List Rule
 limitsRules r = number 1 (below 15 r) ∷ []
 
 abbrev pub makeRules : ℕ → List Rule
-makeRules len = number 7 (below len 2048) ∷ []
+makeRules len = number 7 (tooShort len 2048) ∷ []
 
 abbrev pub limitsZeros : Refusal → RowLimits
 limitsZeros f = record { refusal = f; limits = 0 ∷ 0 ∷ 0 ∷ 0 ∷ 0 ∷ 0 ∷ [] }

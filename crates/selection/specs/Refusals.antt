@@ -3,10 +3,11 @@ use mathlib.Core.Path.{_≡_}
 use mathlib.Core.Bool.{Bool, cond, not, _||_}
 use mathlib.Core.List.{List, [], _∷_}
 use mathlib.Core.Logic.{_⊎_, _↔_}
-use Prim.Native.Nat.{ℕ, zero, suc, _+_, _≤_, _<_}
+use Prim.Native.Nat.{ℕ, suc, _≤_, _<_}
 use lib.Dec.{leb, ltb, eqb}
 use lib.IntN.{ℤ}
 use lib.Signed.{ltZ, _<ℤ_}
+use Rattle.laws.specs.Search.{First, firstFrom}
 use Rattle.selection.specs.Answer.{refusal, firstOf}
 use Rattle.selection.specs.declared.Refusal.{Refusal}
 use Rattle.selection.specs.declared.Admission.{Admission}
@@ -40,17 +41,9 @@ holds (same a b) = eqb a b
 holds (differ a b) = not (eqb a b)
 holds (eitherOf c d) = holds c || holds d
 
--- k is the first number with the property P
-pub record First (P : ℕ → Type 0) (k : ℕ) : Type 0 where
-  pub here : P k
-  pub before : (j : ℕ) → j < k → P j → ⊥
-
--- of n numbers from i on, the first that passes the test f; else the number past them
-unfoldable pub firstFrom : (ℕ → Bool) → ℕ → ℕ → ℕ
-firstFrom f i zero = i
-firstFrom f i (suc n) =
-    let rest = firstFrom f (i + 1) n in
-    cond (f i) i rest
+-- a list of len places is too short for n
+abbrev pub tooShort : ℕ → ℕ → Condition
+tooShort len n = below len n
 
 -- ---- rules
 
@@ -116,3 +109,8 @@ pub record RefusedBy (C : ℕ → ℕ → Type 0) (f : Refusal) : Type 0 where
 pub record Refuses {X : Type 0} (C : ℕ → ℕ → Type 0) (refused : X → Refusal) (zeros : Refusal → X) (x : X) : Type 0 where
   pub by : RefusedBy C (refused x)
   pub besides : (n p : ℕ) → FirstRefusal C n p → x ≡ zeros (refusal n p)
+
+-- a call that refuses by C and is lent a list to write, b before and c after
+pub record RefusesLent {X : Type 0} (C : ℕ → ℕ → Type 0) (refused : X → Refusal) (zeros : Refusal → X) (x : X) (b c : List ℕ) : Type 0 where
+  pub answer : Refuses C refused zeros x
+  pub kept : (n p : ℕ) → FirstRefusal C n p → c ≡ b

@@ -5,8 +5,9 @@ use mathlib.Core.Logic.{_⊎_, _↔_}
 use Prim.Native.Nat.{ℕ, _/_, _%_, _≤_, _<_}
 use lib.ListN.{length, getD, take}
 use Rattle.laws.specs.Lists.{KeptFrom}
-use Rattle.selection.specs.Refusals.{Rule, below, differ, eitherOf, number, Wrongs, FirstRefusal, Refuses}
-use Rattle.selection.specs.Table.{BadAt, Passes, Tally}
+use Rattle.laws.specs.Counting.{Tally}
+use Rattle.selection.specs.Refusals.{Rule, tooShort, differ, eitherOf, number, Wrongs, FirstRefusal, Refuses}
+use Rattle.selection.specs.Table.{BadAt, Passes}
 use Rattle.selection.specs.Maker.{Made}
 use Rattle.selection.specs.declared.Refusal.{Refusal}
 use Rattle.selection.specs.declared.repair.RepairAnswer.{RepairAnswer}
@@ -37,7 +38,7 @@ pub record Repaired (t rs cs a b : List ℕ) (n : ℕ) : Type 0 where
 
 -- what is refused of a table of len bytes and two buffers of r and c. 7: a buffer is too short. 8: length not 2,048
 unfoldable pub repairRules : ℕ → ℕ → ℕ → List Rule
-repairRules len r c = number 7 (eitherOf (below r 2048) (below c 2048)) ∷ number 8 (differ len 2048) ∷ []
+repairRules len r c = number 7 (eitherOf (tooShort r 2048) (tooShort c 2048)) ∷ number 8 (differ len 2048) ∷ []
 
 abbrev pub repairZeros : Refusal → RepairAnswer
 repairZeros f = record { refusal = f; count = 0 }

@@ -3,8 +3,8 @@ use mathlib.Core.Path.{_≡_}
 use mathlib.Core.List.{List}
 use Prim.Native.Nat.{ℕ, _≤_}
 use lib.ListN.{length, set, take, replicate}
+use Rattle.laws.specs.Counting.{Tally}
 use Rattle.selection.specs.Answer.{refusal, reportNumbers, reportZeros}
-use Rattle.selection.specs.Table.{Tally}
 use Rattle.selection.specs.Computed.{madeTable, reportOf, repairOf, repairedOf, changedOf}
 use Rattle.selection.specs.Repair.{DifferAt, Repaired, Repairs, RepairClaim}
 use Rattle.selection.specs.declared.repair.RepairAnswer.{RepairAnswer}

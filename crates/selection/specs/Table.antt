@@ -1,10 +1,12 @@
 -- Tables and their check: document 01, "Cells" and "Check". A table is the list of its bytes.
 use mathlib.Core.Path.{_≡_}
 use mathlib.Core.List.{List, [], _∷_, _++_}
-use Prim.Native.Nat.{ℕ, suc, _+_, _*_, _/_, _%_, _≤_, _<_}
+use Prim.Native.Nat.{ℕ, _+_, _*_, _/_, _%_, _≤_, _<_}
 use lib.IntN.{ℤ}
 use lib.ListN.{length, getD, take, drop}
-use Rattle.selection.specs.Refusals.{First, Rule, differ, number, numberFirst, Wrongs, FirstRefusal}
+use Rattle.laws.specs.Search.{First}
+use Rattle.laws.specs.Counting.{Tally}
+use Rattle.selection.specs.Refusals.{Rule, differ, number, numberFirst, Wrongs, FirstRefusal}
 use Rattle.selection.specs.Allowed.{aboveFour, isBad}
 use Rattle.selection.specs.Cell.{span, AllowsUnder, Against, LeastWitness, digit}
 use Rattle.selection.specs.declared.table.Outcome.{Outcome}
@@ -33,12 +35,6 @@ pub record PassesUnder (m : ℕ) (t : List ℕ) : Type 0 where
 
 abbrev pub Passes : List ℕ → Type 0
 Passes t = PassesUnder span t
-
--- n of the numbers below m have the property P
-pub data Tally (P : ℕ → Type 0) : ℕ → ℕ → Type 0 where
-  none : Tally P 0 0
-  one : {m n : ℕ} → P m → Tally P m n → Tally P (suc m) (suc n)
-  other : {m n : ℕ} → (P m → ⊥) → Tally P m n → Tally P (suc m) n
 
 -- refused as no table: 8, length not 2,048; 9, a byte above 4, the place is the first such index
 abbrev pub formRules : List ℕ → List Rule

@@ -28,6 +28,11 @@ pub struct Refusal {
     pub place: u64,
 }
 
+pub const NO_REFUSAL: Refusal = Refusal {
+    number: 0,
+    place: 0,
+};
+
 pub enum CellVerdict {
     Allowed,
     Disallowed(Witness),

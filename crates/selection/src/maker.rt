@@ -5,6 +5,7 @@ ghost use Prim.Native.Nat.{ℕ, _≤_, _<_};
 ghost use lib.ListN.{getD};
 ghost use Rattle.selection.specs.Computed.{limitsOf, rowLimitsOf, makeOf, madeBuffer};
 ghost use Rattle.selection.specs.Maker.{Limits, Limited, stepAt, Makes};
+use crate::NO_REFUSAL;
 use crate::Refusal;
 use crate::multiples::row_multiples;
 
@@ -47,10 +48,7 @@ pub fn row_limits(row: u64) -> RowLimits
     }
     let l = limits_of(row);
     RowLimits {
-        refusal: Refusal {
-            number: 0,
-            place: 0,
-        },
+        refusal: NO_REFUSAL,
         limits: l,
     }
 }
@@ -112,8 +110,5 @@ pub fn make_table(buffer: &mut [u8]) -> Refusal
         buffer[k] = digit_at(l, (k % 128) as u8);
         k += 1;
     }
-    Refusal {
-        number: 0,
-        place: 0,
-    }
+    NO_REFUSAL
 }

@@ -5,9 +5,8 @@ ghost use mathlib.Core.Logic.{_↔_};
 ghost use Prim.Native.Nat.{_+_, _*_, _-_, _^_, _≤_, _<_, max};
 ghost use lib.IntN.{subℕ};
 ghost use Rattle.selection.specs.Computed.{cellOf};
-ghost use Rattle.selection.specs.Multiples.{leftColumn, rightColumn, beginsAtMost, beginsBelowMinus, endsAtMost, endsBelowMinus, RowOf, past, leastByte, greatestByte, hasPoint, allowsBy};
+ghost use Rattle.selection.specs.Multiples.{leftColumn, rightColumn, beginsAtMost, beginsBelowMinus, endsAtMost, endsBelowMinus, RowOf, past, leastByte, greatestByte, hasPoint, allowsBy, above, under, leastPast, leastDivisor, lowDivisor, highDivisor, lowAt, highAt, witnessOf};
 ghost use Rattle.selection.specs.declared.CellVerdict.the-variants as Verdict;
-ghost use Rattle.selection.specs.Multiples.{above, under, leastPast, leastDivisor, lowDivisor, highDivisor, lowAt, highAt, witnessOf};
 use crate::CellVerdict;
 use crate::Witness;
 

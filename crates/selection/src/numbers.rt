@@ -5,6 +5,7 @@ ghost use Rattle.selection.specs.Answer.{cellNumbers, badNumbers, report
 ghost use Rattle.selection.specs.Computed.{cellOf, reportOf};
 ghost use Rattle.selection.specs.declared.CellVerdict.the-variants as C;
 use crate::CellVerdict;
+use crate::NO_REFUSAL;
 use crate::Refusal;
 use crate::Witness;
 use crate::table::Outcome;
@@ -35,10 +36,7 @@ fn disallowed(witness: Witness) -> CellNumbers
     ensures { λ r. ⌜ r ≡ cellNumbers (C.Disallowed witness) ⌝ }
 {
     CellNumbers {
-        refusal: Refusal {
-            number: 0,
-            place: 0,
-        },
+        refusal: NO_REFUSAL,
         allowed: 0,
         divisor: witness.divisor,
         remainder: witness.remainder,
@@ -51,10 +49,7 @@ fn verdict_numbers(x: CellVerdict) -> CellNumbers
 {
     match x {
         CellVerdict::Allowed => CellNumbers {
-            refusal: Refusal {
-                number: 0,
-                place: 0,
-            },
+            refusal: NO_REFUSAL,
             allowed: 1,
             divisor: 0,
             remainder: 0,
@@ -95,10 +90,7 @@ fn report_numbers(x: Report) -> ReportNumbers
     let outcome = x.outcome;
     match outcome {
         Outcome::Passed => ReportNumbers {
-            refusal: Refusal {
-                number: 0,
-                place: 0,
-            },
+            refusal: NO_REFUSAL,
             count: 0,
             row: 0,
             column: 0,

@@ -5,13 +5,16 @@ ghost use Prim.Native.Nat.{ℕ, _+_, _*_, _≤_, _<_};
 ghost use lib.Dec.{ltb, eqb};
 ghost use lib.ListN.{length, getD};
 ghost use Rattle.laws.specs.Lists.{filled};
+ghost use Rattle.laws.specs.Counting.{countBelow};
 ghost use Rattle.selection.specs.Refusals.{firstRefusal};
 ghost use Rattle.selection.specs.Allowed.{isReplaced};
 ghost use Rattle.selection.specs.Maker.{Limits, stepAt};
 ghost use Rattle.selection.specs.Multiples.{RowOf, allowsBy};
-ghost use Rattle.selection.specs.Computed.{countBelow, repairedByte, changeMark, FillsRow, repairOf, repairedOf, changedOf};
+ghost use Rattle.selection.specs.Computed.{repairedByte, changeMark, repairOf, repairedOf, changedOf};
+ghost use Rattle.selection.specs.RepairRows.{FillsRow};
 ghost use Rattle.selection.specs.Repair.{repairRules, Repairs};
 use crate::Admission;
+use crate::NO_REFUSAL;
 use crate::Refusal;
 use crate::maker::digit_at;
 use crate::maker::limits_of;
@@ -129,10 +132,7 @@ pub fn repair_table(table: &[u8], repaired: &mut [u8], changed: &mut [u8]) -> Re
         Admission::Admitted => {
             let count = repair_rows(table, repaired, changed);
             RepairAnswer {
-                refusal: Refusal {
-                    number: 0,
-                    place: 0,
-                },
+                refusal: NO_REFUSAL,
                 count,
             }
         }

@@ -4,13 +4,15 @@ ghost use mathlib.Core.Bool.{true, cond};
 ghost use mathlib.Core.Logic.{_↔_};
 ghost use Prim.Native.Nat.{_+_, _*_, _≤_, _<_, min};
 ghost use lib.ListN.{length};
-ghost use Rattle.selection.specs.Refusals.{firstFrom, firstRefusal};
+ghost use Rattle.laws.specs.Search.{firstFrom};
+ghost use Rattle.laws.specs.Counting.{countBelow};
+ghost use Rattle.selection.specs.Refusals.{firstRefusal};
 ghost use Rattle.selection.specs.Answer.{refusal, admission, firstOf};
 ghost use Rattle.selection.specs.Cell as Cell;
 ghost use Rattle.selection.specs.Allowed.{aboveFour, isBad, isBadIn};
 ghost use Rattle.selection.specs.Multiples.{RowOf};
-ghost use Rattle.selection.specs.Table.{tableRules, Table, Checked};
-ghost use Rattle.selection.specs.Computed.{countBelow, refusedReport, reportAt, tableReport, reportOf};
+ghost use Rattle.selection.specs.Table.{rowBytes, tableRules, Table, Checked};
+ghost use Rattle.selection.specs.Computed.{refusedReport, reportAt, tableReport, reportOf};
 use crate::Admission;
 use crate::CellVerdict;
 use crate::Refusal;
@@ -43,6 +45,15 @@ pub fn row_start(divisor: u64) -> usize
     ensures { λ r. ⌜ r ≡ 128 * Cell.row divisor ⌝ }
 {
     128 * ((divisor >> 56) % 16) as usize
+}
+
+// The row of a divisor: the one place where a part of a table is lent. Only our own crates call it, with a table that passed.
+pub fn row_of(table: &[u8], divisor: u64) -> &[u8]
+    requires { ⌜ length (now table) ≡ 2048 ⌝ }
+    ensures { λ r. ⌜ now r ≡ rowBytes (now (table .entry)) (Cell.row divisor) ⌝ }
+{
+    let start = row_start(divisor);
+    &table[start..start + 128]
 }
 
 // Whether no byte is above 4: a loop without an exit, for bytes side by side.

@@ -1,6 +1,6 @@
 -- What is told of a file is small.
 use Rattle.laws.proofs.Basics.{_≡_, sym, _∙_, Bool, true, false, cond, List, ℕ, _≤_, arith, leb, length, take, length-take, leb-false}
-use Rattle.selection.proofs.Counts.{count-most}
+use Rattle.laws.proofs.Counting.{count-most}
 use Rattle.vectors.specs.Vectors.{Ran, countsOf, differsAt, linesIn}
 use Rattle.vectors.specs.declared.Counts.{Counts}
 use Rattle.vectors.specs.declared.FileRun.{FileRun}

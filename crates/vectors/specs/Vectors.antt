@@ -7,8 +7,9 @@ use Prim.Native.Char.{code}
 use Prim.Native.Nat.{ℕ, zero, suc, _+_, _*_, _-_, _/_}
 use lib.Dec.{ltb, leb, eqb}
 use lib.ListN.{length, getD, take, drop}
-use Rattle.division.specs.declared.binary64.Binary64Answer.{Binary64Answer}
-use Rattle.selection.specs.Computed.{madeTable, countBelow}
+use Rattle.laws.specs.Counting.{countBelow}
+use Rattle.division.specs.declared.format.Binary64Answer.{Binary64Answer}
+use Rattle.selection.specs.Computed.{madeTable}
 use Rattle.division.specs.Binary64.{binary64Of}
 use Rattle.division.specs.RootCalls.{rootBinary64Of}
 use Rattle.printing.specs.declared.input.Input.{Input}

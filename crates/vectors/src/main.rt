@@ -6,7 +6,7 @@ ghost use Rattle.io.specs.Counts.{Counts as Counts·io};
 ghost use Rattle.printing.specs.Text.{Appended};
 ghost use Rattle.vectors.specs.Vectors.{nibbleOf, hexOf, isRoot, vectorOf, isDecimal, isHex, fitsAt, blankAt, lineFits, formedUpto, answerOf, differsIn, lineDiffers, lineAt, countsOf, runOf, Ran};
 ghost use Rattle.vectors.specs.Report.{countsText, added, Room, WithFile, Reports};
-use division::binary64::Binary64Answer;
+use division::format::Binary64Answer;
 use libc::STDERR_FILENO;
 use libc::STDOUT_FILENO;
 use printing::input::Input;

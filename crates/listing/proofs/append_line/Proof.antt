@@ -13,14 +13,16 @@ returns c = (appended-as (appended-none _ _) (sym (ap lineText (c .enum-told .gi
 
 returns-2 : tie.Need-returns-2
 returns-2 c =
-    let q = toZ-ofZ {w = w64} {z = c .before .before .before .before .before .before .before .before .before .before .before .before .before .before .before .before .before .before .before .before .line .given .0 .1 .1 .0} (record { sfits = c .before .before .before .before .before .before .before .before .before .before .before .before .before .before .before .before .before .before .before .known-told .given .1 .1 .0 .1 }) in
-    let room = c .before .before .before .before .before .before .before .before .before .before .before .before .before .before .before .before .before .before .before .before .before .before .before .pre in
-    let row = c .before .before .before .before .before .before .before .before .before .before .before .before .before .before .before .before .append-number .ensures in
-    let column = c .before .before .before .before .before .before .before .before .before .before .before .append-number2 .ensures in
-    let digit = c .before .before .before .before .before .before .append-signed .ensures in
-    let witness = c .before .before .append-witness .ensures in
-    let tail = appended-then (column .0) (appended-then (appended-as (digit .0) (ap (λ (z : ℤ). signedOf z ++ ascii " ") q)) (witness .0) (omega arith)) (omega arith) in
-    (appended-as (appended-then (row .0) tail (omega arith)) (sym (ap lineText (c .before .before .before .before .before .before .before .before .before .before .before .before .before .before .before .before .before .before .before .before .line .given .1))), omega arith)
+    let witness = c .before .before in
+    let digit = witness .before .before .before .before in
+    let column = digit .before .before .before .before .before in
+    let row = column .before .before .before .before .before in
+    let told = row .before .before .before in
+    let line = told .before .line .given in
+    let room = told .before .before .before .before .pre in
+    let q = toZ-ofZ {w = w64} {z = line .0 .1 .1 .0} (record { sfits = told .known-told .given .1 .1 .0 .1 }) in
+    let tail = appended-then (column .append-number2 .ensures .0) (appended-then (appended-as (digit .append-signed .ensures .0) (ap (λ (z : ℤ). signedOf z ++ ascii " ") q)) (witness .append-witness .ensures .0) (omega arith)) (omega arith) in
+    (appended-as (appended-then (row .append-number .ensures .0) tail (omega arith)) (sym (ap lineText (line .1))), omega arith)
 
 pub append-line-spec : {M : Type 1} → statement M
 append-line-spec =

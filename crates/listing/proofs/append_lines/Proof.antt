@@ -17,19 +17,13 @@ loop-holds : tie.Need-loop-holds Inv-loop μ-loop
 unfolding linesUpto
 loop-holds c = (omega arith, refl, omega arith, appended-none _ _)
 
-line-of-requires : tie.Need-line-of-requires Inv-loop μ-loop
-line-of-requires c κs = (c .before .before .before .before .before .pre .0, omega arith)
-
 loop-again : tie.Need-loop-again Inv-loop μ-loop
 loop-again c =
-    let l = c .before .before .before .before .before .before .loop in
-    let line = c .before .before .append-line .ensures in
-    let e = lines-more _ _ (c .before .before .before .line-of .ensures .0) in
-    let h : length (c .before .before .append-line .last .0) ≡ length (l .out) = appended-size (line .0) (omega arith) in
-    (omega arith, h ∙ l .inv .1, omega arith, appended-as (appended-then (l .inv .3) (line .0) (omega arith)) e)
-
-same-length : tie.Need-same-length Inv-loop μ-loop
-same-length c = c .before .loop .inv .1
+    let line = c .before .before in
+    let l = line .before .before .before .before .loop in
+    let e = lines-more _ _ (line .before .line-of .ensures .0) in
+    let h : length (line .append-line .last .0) ≡ length (l .out) = appended-size (line .append-line .ensures .0) (omega arith) in
+    (omega arith, h ∙ l .inv .1, omega arith, appended-as (appended-then (l .inv .3) (line .append-line .ensures .0) (omega arith)) e)
 
 returns : tie.Need-returns Inv-loop μ-loop
 returns c =
@@ -38,5 +32,5 @@ returns c =
 
 pub append-lines-spec : {M : Type 1} → statement M
 append-lines-spec =
-    tie.close (tie.spec Inv-loop μ-loop loop-holds line-of-requires (λ c κs. omega arith)
-    (λ c. omega arith) (λ c. omega arith) loop-again same-length returns)
+    tie.close (tie.spec Inv-loop μ-loop loop-holds
+    (λ c κs. (c .before .before .before .before .before .pre .0, omega arith)) (λ c κs. omega arith) (λ c. omega arith) (λ c. omega arith) loop-again (λ c. c .before .loop .inv .1) returns)

@@ -6,9 +6,9 @@ use Rattle.listing.proofs.append_table.Tie as tie
 
 returns : tie.Need-returns
 returns c =
-    let names = c .before .before .before .before .before .before .append .ensures in
-    let lines = c .before .before .append-lines .ensures in
-    (appended-then names (lines .0) (omega arith), omega arith)
+    let lines = c .before .before in
+    let names = lines .before .before .before .before .append .ensures in
+    (appended-then names (lines .append-lines .ensures .0) (omega arith), omega arith)
 
 pub append-table-spec : {M : Type 1} → statement M
 append-table-spec =

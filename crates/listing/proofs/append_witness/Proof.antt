@@ -9,10 +9,11 @@ use Rattle.listing.proofs.append_witness.Tie as tie
 
 returns : tie.Need-returns
 returns c =
-    let e = toZ-ofZ {w = w64} {z = c .before .before .before .before .before .before .before .before .before .before .before .before .args .witness .remainder} (record { sfits = c .before .before .before .struct-told .given .1 .0 .1 }) in
-    let divisor = c .before .before .before .before .before .before .before .before .append-number .ensures in
-    let remainder = c .before .before .append-signed .ensures in
-    (appended-then (divisor .0) (appended-as (remainder .0) (ap (λ (z : ℤ). signedOf z ++ ascii "\n") e)) (omega arith), omega arith)
+    let remainder = c .before .before in
+    let told = remainder .before in
+    let divisor = told .before .before .before .before .before in
+    let e = toZ-ofZ {w = w64} {z = divisor .before .before .before .before .args .witness .remainder} (record { sfits = told .struct-told .given .1 .0 .1 }) in
+    (appended-then (divisor .append-number .ensures .0) (appended-as (remainder .append-signed .ensures .0) (ap (λ (z : ℤ). signedOf z ++ ascii "\n") e)) (omega arith), omega arith)
 
 pub append-witness-spec : {M : Type 1} → statement M
 append-witness-spec =

@@ -5,12 +5,10 @@ use Rattle.listing.proofs.Listings.{lists-read}
 use Rattle.listing.proofs.listing_of_input.Statement.{statement}
 use Rattle.listing.proofs.listing_of_input.Tie as tie
 
-slice-aggregate-listing : tie.Need-slice-aggregate-listing
-slice-aggregate-listing c = sym (length-take-le _ _ (c .before .before .pre))
-
 returns : tie.Need-returns
 returns c = let text = c .listing .ensures in (lists-read (omega arith) (text .0 .0), text .1)
 
 pub listing-of-input-spec : {M : Type 1} → statement M
 listing-of-input-spec =
-    tie.close (tie.spec slice-aggregate-listing (λ c κs. search needs) returns)
+    tie.close (tie.spec (λ c. sym (length-take-le _ _ (c .before .before .pre)))
+    (λ c κs. search needs) returns)

@@ -8,7 +8,7 @@ draw-table-requires : tie.Need-draw-table-requires
 draw-table-requires c κs = passed-table (c .before .before .before .before .before .check-table .ensures .1) (c .before .before .before .enum-told .given .1)
 
 draw-table-requires-2 : tie.Need-draw-table-requires-2
-draw-table-requires-2 c κs = bad-table (c .before .before .before .before .before .before .check-table .ensures .1) (c .before .before .before .before .outcome .given .1)
+draw-table-requires-2 c κs = let bad = c .before .before .before .before in bad-table (bad .before .before .check-table .ensures .1) (bad .outcome .given .1)
 
 pub draw-spec : {M : Type 1} → statement M
 draw-spec =

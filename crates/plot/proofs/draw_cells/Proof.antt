@@ -9,10 +9,8 @@ Inv-loop table k₀ k = k ≤ 2048
 abbrev μ-loop : tie.MeasureT-loop
 μ-loop table k₀ k = 2048 - k
 
-draw-cell-requires : tie.Need-draw-cell-requires Inv-loop μ-loop
-draw-cell-requires c κs = (c .before .before .before .pre, omega arith)
-
 pub draw-cells-spec : {M : Type 1} → statement M
 draw-cells-spec =
-    tie.close (tie.spec Inv-loop μ-loop (λ c. omega arith) draw-cell-requires (λ c. search needs)
-    (λ c. omega arith) (λ c. omega arith) (λ c. omega arith) (λ c. search needs))
+    tie.close (tie.spec Inv-loop μ-loop (λ c. omega arith)
+    (λ c κs. (c .before .before .before .pre, omega arith)) (λ c. search needs) (λ c. omega arith)
+    (λ c. omega arith) (λ c. omega arith) (λ c. search needs))

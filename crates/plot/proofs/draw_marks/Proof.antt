@@ -9,10 +9,8 @@ Inv-loop table rings row₀ row = row ≤ 16
 abbrev μ-loop : tie.MeasureT-loop
 μ-loop table rings row₀ row = 16 - row
 
-mark-row-requires : tie.Need-mark-row-requires Inv-loop μ-loop
-mark-row-requires c κs = (c .before .before .before .pre, omega arith)
-
 pub draw-marks-spec : {M : Type 1} → statement M
 draw-marks-spec =
-    tie.close (tie.spec Inv-loop μ-loop (λ c. omega arith) mark-row-requires (λ c. search needs)
-    (λ c. omega arith) (λ c. omega arith) (λ c. omega arith) (λ c. search needs))
+    tie.close (tie.spec Inv-loop μ-loop (λ c. omega arith)
+    (λ c κs. (c .before .before .before .pre, omega arith)) (λ c. search needs) (λ c. omega arith)
+    (λ c. omega arith) (λ c. omega arith) (λ c. search needs))

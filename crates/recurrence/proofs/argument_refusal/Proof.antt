@@ -5,24 +5,27 @@ use Rattle.recurrence.specs.Run.{runRules}
 use Rattle.recurrence.proofs.argument_refusal.Statement.{statement}
 use Rattle.recurrence.proofs.argument_refusal.Tie as tie
 
+abbrev start : tie.Else5 → tie.Start
+start c = c .before .before .before .before .before
+
 returns-6 : tie.Need-returns-6
 unfolding runRules
 returns-6 c =
-    let a = c .before .before .before .before .before .before .before .args in
+    let a = start (c .before .before) .args in
     let h : a .len < a .place + a .n = omega arith in
     search tests
 
 returns-7 : tie.Need-returns-7
 unfolding runRules
 returns-7 c =
-    let a = c .before .before .before .before .before .before .before .before .args in
+    let a = start (c .before .before .before) .args in
     let h : a .len < a .place + a .n = omega arith in
     search tests
 
 returns-8 : tie.Need-returns-8
 unfolding runRules
 returns-8 c =
-    let a = c .before .before .before .before .before .before .before .args in
+    let a = start (c .before .before) .args in
     let h : a .place + a .n ≤ a .len = omega arith in
     search tests
 

@@ -14,17 +14,21 @@ run-admitted-requires c κs =
 
 returns : tie.Need-returns
 returns c =
-    let a = c .before .before .before .before .before .before .before .before .args in
+    let k = c .before .before .before .before in
+    let a = k .before .before .before .before .args in
     run-answered (now (a .table)) (a .dividend) (a .divisor) (a .digits) (now (a .buffer)) (a .place)
-    (first-lent (runRules (a .dividend) (a .divisor) (a .digits) (length (now (a .buffer))) (a .place)) _ (c .before .before .before .before .admit-after .ensures) (c .before .before .before .before .before .argument-refusal .ensures) (c .before .before .admission .given .1))
+    (first-lent (runRules (a .dividend) (a .divisor) (a .digits) (length (now (a .buffer))) (a .place)) _ (k .admit-after .ensures) (k .before .argument-refusal .ensures) (c .before .before .admission .given .1))
     (c .zeros .ensures, refl)
 
 returns-2 : tie.Need-returns-2
 returns-2 c =
-    let a = c .before .before .before .before .before .before .before .before .before .before .before .args in
-    let r = c .before .before .before .run-admitted .ensures in
+    let ran = c .before .before .before in
+    let told = ran .before .before in
+    let k = told .before .before in
+    let a = k .before .before .before .before .args in
+    let r = ran .run-admitted .ensures in
     run-answered (now (a .table)) (a .dividend) (a .divisor) (a .digits) (now (a .buffer)) (a .place)
-    (first-lent (runRules (a .dividend) (a .divisor) (a .digits) (length (now (a .buffer))) (a .place)) _ (c .before .before .before .before .before .before .before .admit-after .ensures) (c .before .before .before .before .before .before .before .before .argument-refusal .ensures) (c .before .before .before .before .before .enum-told .given .1))
+    (first-lent (runRules (a .dividend) (a .divisor) (a .digits) (length (now (a .buffer))) (a .place)) _ (k .admit-after .ensures) (k .before .argument-refusal .ensures) (told .enum-told .given .1))
     (c .values .ensures ∙ ap runValues (r .1), r .0)
 
 pub run-spec : {M : Type 1} → statement M

@@ -16,18 +16,20 @@ run-part-requires c κs =
 
 returns : tie.Need-returns
 returns c =
-    let a = c .before .before .before .before .before .before .args in
+    let k = c .before .before .before .before in
+    let a = k .before .before .args in
     run-answered madeTable (a .dividend) (a .divisor) (a .digits) (now (a .buffer)) (a .place)
-    (first-kept (runRules (a .dividend) (a .divisor) (a .digits) (length (now (a .buffer))) (a .place)) (c .before .before .before .before .argument-refusal .ensures) (c .before .before .admission .given .1))
+    (first-kept (runRules (a .dividend) (a .divisor) (a .digits) (length (now (a .buffer))) (a .place)) (k .argument-refusal .ensures) (c .before .before .admission .given .1))
     (c .zeros .ensures, refl)
 
 returns-2 : tie.Need-returns-2
 returns-2 c =
-    let a = c .before .before .before .before .before .before .before .before .before .before .before .args in
-    let e = c .before .before .before .before .before .before .before .before .before .argument-refusal .ensures in
-    let g = c .before .before .before .before .before .before .before .enum-told .given .1 in
-    let r = c .before .before .before .run-part .ensures madeTable kept-passes (c .before .before .before .before .before .before .kept-row .ensures) in
-    run-answered madeTable (a .dividend) (a .divisor) (a .digits) (now (a .buffer)) (a .place) (first-kept (runRules (a .dividend) (a .divisor) (a .digits) (length (now (a .buffer))) (a .place)) e g) (c .values .ensures ∙ ap runValues (r .1), r .0)
+    let ran = c .before .before .before in
+    let row = ran .before .before .before in
+    let k = row .before .before .before in
+    let a = k .before .before .args in
+    let r = ran .run-part .ensures madeTable kept-passes (row .kept-row .ensures) in
+    run-answered madeTable (a .dividend) (a .divisor) (a .digits) (now (a .buffer)) (a .place) (first-kept (runRules (a .dividend) (a .divisor) (a .digits) (length (now (a .buffer))) (a .place)) (k .argument-refusal .ensures) (row .before .enum-told .given .1)) (c .values .ensures ∙ ap runValues (r .1), r .0)
 
 pub run-kept-spec : {M : Type 1} → statement M
 run-kept-spec =

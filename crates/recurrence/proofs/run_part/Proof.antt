@@ -7,10 +7,11 @@ use Rattle.recurrence.proofs.run_part.Tie as tie
 
 returns : tie.Need-returns
 returns c t ok is =
-    let a = c .before .before .before .before .before .before .args in
-    let e = c .before .before .run-row .ensures t ok is in
+    let ran = c .before .before in
+    let a = ran .before .before .before .before .args in
+    let e = ran .run-row .ensures t ok is in
     let n = part-length (a .buffer .now) (a .place) (a .n) (omega arith) in (
-      put-back (a .buffer .now) (c .before .before .run-row .last .1 .1 .1 .0) (a .place) (a .n)
+      put-back (a .buffer .now) (ran .run-row .last .1 .1 .1 .0) (a .place) (a .n)
           ∙ ap (λ (ds : List ℕ). written (a .buffer .now) (a .place) ds (a .n)) (e .0 ∙ ap (digits t (a .dividend) (a .divisor)) n),
       e .1 ∙ ap (resultOf t (a .dividend) (a .divisor)) n,
     )

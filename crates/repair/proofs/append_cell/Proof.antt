@@ -9,12 +9,12 @@ returns c = (appended-as (appended-none _ _) (let e = eq-eqb _ _ (c .if1 .taken)
 
 returns-2 : tie.Need-returns-2
 returns-2 c =
-    let row = c .before .before .before .before .before .before .before .before .before .before .before .before .before .before .before .before .before .append-number .ensures in
-    let column = c .before .before .before .before .before .before .before .before .before .before .before .before .append-number2 .ensures in
-    let byte = c .before .before .before .before .before .before .before .append-number3 .ensures in
-    let new = c .before .before .append-number4 .ensures in
-    let e = ne-eqb _ _ (c .before .before .before .before .before .before .before .before .before .before .before .before .before .before .before .before .before .before .before .before .if1 .left) in
-    (appended-as (appended-then (row .0) (appended-then (column .0) (appended-then (byte .0) (new .0) (omega arith)) (omega arith)) (omega arith)) (rw e), omega arith)
+    let new = c .before .before in
+    let byte = new .before .before .before .before .before in
+    let column = byte .before .before .before .before .before in
+    let row = column .before .before .before .before .before in
+    let e = ne-eqb _ _ (row .before .before .before .if1 .left) in
+    (appended-as (appended-then (row .append-number .ensures .0) (appended-then (column .append-number2 .ensures .0) (appended-then (byte .append-number3 .ensures .0) (new .append-number4 .ensures .0) (omega arith)) (omega arith)) (omega arith)) (rw e), omega arith)
 
 pub append-cell-spec : {M : Type 1} → statement M
 append-cell-spec =

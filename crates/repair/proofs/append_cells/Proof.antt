@@ -19,13 +19,10 @@ loop-holds c = (omega arith, refl, omega arith, appended-none _ _)
 
 loop-again : tie.Need-loop-again Inv-loop μ-loop
 loop-again c =
-    let l = c .before .before .before .before .before .before .before .loop in
-    let cell = c .before .before .append-cell .ensures in
-    let h : length (c .before .before .append-cell .last .0) ≡ length (l .out) = appended-size (cell .0) (omega arith) in
-    (omega arith, h ∙ l .inv .1, omega arith, appended-as (appended-then (l .inv .3) (cell .0) (omega arith)) (cells-more _ _ _))
-
-same-length : tie.Need-same-length Inv-loop μ-loop
-same-length c = c .before .loop .inv .1
+    let cell = c .before .before in
+    let l = cell .before .before .before .before .before .loop in
+    let h : length (cell .append-cell .last .0) ≡ length (l .out) = appended-size (cell .append-cell .ensures .0) (omega arith) in
+    (omega arith, h ∙ l .inv .1, omega arith, appended-as (appended-then (l .inv .3) (cell .append-cell .ensures .0) (omega arith)) (cells-more _ _ _))
 
 returns : tie.Need-returns Inv-loop μ-loop
 returns c =
@@ -34,5 +31,6 @@ returns c =
 
 pub append-cells-spec : {M : Type 1} → statement M
 append-cells-spec =
-    tie.close (tie.spec Inv-loop μ-loop loop-holds (λ c. omega arith) (λ c. omega arith) (λ c κs. omega arith)
-    (λ c. omega arith) (λ c. omega arith) loop-again same-length returns)
+    tie.close (tie.spec Inv-loop μ-loop loop-holds (λ c. omega arith) (λ c. omega arith)
+    (λ c κs. omega arith) (λ c. omega arith) (λ c. omega arith) loop-again
+    (λ c. c .before .loop .inv .1) returns)

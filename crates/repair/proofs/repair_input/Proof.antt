@@ -5,11 +5,10 @@ use Rattle.repair.proofs.Writing.{writes-read}
 use Rattle.repair.proofs.repair_input.Statement.{statement}
 use Rattle.repair.proofs.repair_input.Tie as tie
 
-slice-aggregate-repair : tie.Need-slice-aggregate-repair
-slice-aggregate-repair c = sym (length-take-le _ _ (c .before .before .pre))
-
 returns : tie.Need-returns
 returns c = let r = c .repair .ensures in (writes-read (omega arith) (r .0), r .1)
 
 pub repair-input-spec : {M : Type 1} → statement M
-repair-input-spec = tie.close (tie.spec slice-aggregate-repair (λ c κs. search needs) returns)
+repair-input-spec =
+    tie.close (tie.spec (λ c. sym (length-take-le _ _ (c .before .before .pre)))
+    (λ c κs. search needs) returns)

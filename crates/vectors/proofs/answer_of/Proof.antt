@@ -3,11 +3,8 @@ use Rattle.laws.proofs.Basics.{needs}
 use Rattle.vectors.proofs.answer_of.Statement.{statement}
 use Rattle.vectors.proofs.answer_of.Tie as tie
 
-returns : tie.Need-returns
-returns c = rw (c .before .if1 .taken) (c .root-binary64 .ensures)
-
-returns-2 : tie.Need-returns-2
-returns-2 c = rw (c .before .if1 .left) (c .divide-binary64-kept .ensures)
-
 pub answer-of-spec : {M : Type 1} → statement M
-answer-of-spec = tie.close (tie.spec (λ c κs. search needs) returns (λ c κs. search needs) returns-2)
+answer-of-spec =
+    tie.close (tie.spec (λ c κs. search needs)
+    (λ c. rw (c .before .if1 .taken) (c .root-binary64 .ensures)) (λ c κs. search needs)
+    (λ c. rw (c .before .if1 .left) (c .divide-binary64-kept .ensures)))

@@ -6,11 +6,11 @@ use Rattle.vectors.proofs.append_counts.Tie as tie
 
 returns : tie.Need-returns
 returns c =
-    let name = c .before .before .before .before .before .before .before .before .before .before .before .before .before .before .before .before .before .append .ensures in
-    let parted = c .before .before .before .before .before .before .before .before .before .before .before .before .append2 .ensures in
-    let run = c .before .before .before .before .before .before .before .append-number .ensures in
-    let differ = c .before .before .append-number2 .ensures in
-    (appended-then (appended-then (appended-then name parted (omega arith)) (run .0) (omega arith)) (differ .0) (omega arith), omega arith)
+    let differ = c .before .before in
+    let run = differ .before .before .before .before .before in
+    let parted = run .before .before .before .before .before in
+    let name = parted .before .before .before .before .before in
+    (appended-then (appended-then (appended-then (name .append .ensures) (parted .append2 .ensures) (omega arith)) (run .append-number .ensures .0) (omega arith)) (differ .append-number2 .ensures .0) (omega arith), omega arith)
 
 pub append-counts-spec : {M : Type 1} → statement M
 append-counts-spec =

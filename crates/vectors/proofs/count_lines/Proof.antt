@@ -1,7 +1,7 @@
 -- `vectors::count_lines` meets its contract: after k lines, so many of them differ.
-use Rattle.laws.proofs.Basics.{_≡_, refl, sym, ap, _∙_, ⊎-elim, ℕ, _+_, _-_, _≤_, arith, needs}
-use Rattle.selection.specs.Computed.{countBelow}
-use Rattle.selection.proofs.Counts.{count-one, count-other, count-most}
+use Rattle.laws.proofs.Basics.{_≡_, sym, ap, _∙_, ⊎-elim, ℕ, _+_, _-_, _≤_, arith, needs}
+use Rattle.laws.specs.Counting.{countBelow}
+use Rattle.laws.proofs.Counting.{count-start, count-one, count-other, count-most}
 use Rattle.vectors.specs.Vectors.{lineDiffers, differsAt, linesIn, countsOf}
 use Rattle.vectors.proofs.count_lines.Statement.{statement}
 use Rattle.vectors.proofs.count_lines.Tie as tie
@@ -12,14 +12,10 @@ Inv-loop bytes lines differ₀ k₀ differ k = (k ≤ lines) × (differ ≡ coun
 abbrev μ-loop : tie.MeasureT-loop
 μ-loop bytes lines differ₀ k₀ differ k = lines - k
 
-loop-holds : tie.Need-loop-holds Inv-loop μ-loop
-unfolding countBelow
-loop-holds c = (omega arith, refl)
-
 add-differ : tie.Need-add-differ Inv-loop μ-loop
 add-differ c =
-    let l = c .before .before .before .before .loop in
-    omega (arith, l .inv .1, count-most (differsAt (c .before .before .before .before .before .before .args .bytes .now)) (l .k))
+    let l = c .before .before .before .before in
+    omega (arith, l .loop .inv .1, count-most (differsAt (l .before .before .args .bytes .now)) (l .loop .k))
 
 loop-again : tie.Need-loop-again Inv-loop μ-loop
 loop-again c =
@@ -38,5 +34,5 @@ returns c = let e : c .before .loop .k ≡ linesIn (c .before .before .before .a
 
 pub count-lines-spec : {M : Type 1} → statement M
 count-lines-spec =
-    tie.close (tie.spec Inv-loop μ-loop (λ c. omega arith) loop-holds (λ c κs. omega arith)
+    tie.close (tie.spec Inv-loop μ-loop (λ c. omega arith) (λ c. (omega arith, sym (count-start _))) (λ c κs. omega arith)
     (λ c κs. search needs) add-differ (λ c. omega arith) (λ c. omega arith) loop-again returns)

@@ -1,6 +1,6 @@
 -- `vectors::differs` meets its contract: the unit's answer is the one that the contracts of division and root name.
 use Rattle.laws.proofs.Basics.{_≡_, subst, Bool, true, not, eqb, needs, eq-eqb, ne-eqb}
-use Rattle.division.specs.declared.binary64.Binary64Answer.{Binary64Answer}
+use Rattle.division.specs.declared.format.Binary64Answer.{Binary64Answer}
 use Rattle.vectors.specs.declared.Vector.{Vector}
 use Rattle.vectors.specs.Vectors.{answerOf, differsFrom, differsIn}
 use Rattle.vectors.proofs.differs.Statement.{statement}
@@ -29,15 +29,18 @@ returns c =
 
 returns-2 : tie.Need-returns-2
 returns-2 c =
-    let v = c .before .before .before .before .before .before .args .v in
-    let d = c .before .before .before .before .before .answer-of in
+    let k = c .before .before .before .before .before in
+    let v = k .before .args .v in
+    let d = k .answer-of in
     as-told v (d .ensures) (other-pattern v (d .result) (c .before .before .before .if1 .left) (c .if2 .taken))
 
 returns-3 : tie.Need-returns-3
 returns-3 c =
-    let v = c .before .before .before .before .before .before .before .before .args .v in
-    let d = c .before .before .before .before .before .before .before .answer-of in
-    as-told v (d .ensures) (same-pattern v (d .result) (c .before .before .before .before .before .if1 .left) (c .before .before .if2 .left))
+    let i = c .before .before .before .before .before in
+    let k = i .before .before in
+    let v = k .before .args .v in
+    let d = k .answer-of in
+    as-told v (d .ensures) (same-pattern v (d .result) (i .if1 .left) (c .before .before .if2 .left))
 
 pub differs-spec : {M : Type 1} → statement M
 differs-spec = tie.close (tie.spec (λ c κs. search needs) returns returns-2 returns-3)

@@ -20,12 +20,6 @@ outside {i} = ⊎-elim (λ l. rw (lt-ltb i 53 l)) (λ l. rw (le-ltb i 53 (omega 
 returns : tie.Need-returns
 returns c = ⊎-elim (λ e. rw e) (⊎-elim (λ e. rw e) (⊎-elim (λ e. rw e) (λ e. rw e))) (c .match .keys1)
 
-returns-2 : tie.Need-returns-2
-returns-2 c = c .is-decimal .ensures ∙ rw (c .before .match .keys2)
-
-returns-3 : tie.Need-returns-3
-returns-3 c = rw (c .match .keys3)
-
 returns-4 : tie.Need-returns-4
 returns-4 c =
     let i = c .before .before .before .before .args .i in
@@ -40,4 +34,5 @@ returns-5 c =
 pub fits-spec : {M : Type 1} → statement M
 fits-spec =
     tie.close (tie.spec (λ c κs. search needs) (λ c κs. search needs) (λ c κs. search needs) returns
-    returns-2 returns-3 returns-4 returns-5)
+    (λ c. c .is-decimal .ensures ∙ rw (c .before .match .keys2)) (λ c. rw (c .match .keys3))
+    returns-4 returns-5)

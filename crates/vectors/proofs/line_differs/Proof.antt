@@ -5,9 +5,6 @@ use Rattle.vectors.proofs.NegatedTests.{negated-test}
 use Rattle.vectors.proofs.line_differs.Statement.{statement}
 use Rattle.vectors.proofs.line_differs.Tie as tie
 
-returns : tie.Need-returns
-returns c = rw (ne-eqb _ _ (c .if1 .taken))
-
 returns-2 : tie.Need-returns-2
 returns-2 c = rw (eq-eqb _ _ (c .before .before .if1 .left), negated-test _ (c .before .well-formed .ensures) (c .if2 .taken))
 
@@ -18,5 +15,5 @@ returns-3 c =
 
 pub line-differs-spec : {M : Type 1} → statement M
 line-differs-spec =
-    tie.close (tie.spec returns (λ c κs. search needs) returns-2 (λ c κs. search needs)
-    (λ c κs. search needs) returns-3)
+    tie.close (tie.spec (λ c. rw (ne-eqb _ _ (c .if1 .taken))) (λ c κs. search needs) returns-2
+    (λ c κs. search needs) (λ c κs. search needs) returns-3)

@@ -3,11 +3,10 @@ use Rattle.laws.proofs.Basics.{sym, _∙_, needs}
 use Rattle.vectors.proofs.line_fits.Statement.{statement}
 use Rattle.vectors.proofs.line_fits.Tie as tie
 
-returns : tie.Need-returns
-returns c = rw (sym (c .before .blank-at .ensures) ∙ c .if1 .taken)
-
 returns-2 : tie.Need-returns-2
 returns-2 c = rw (sym (c .before .before .blank-at .ensures) ∙ c .before .if1 .left) (c .fits2 .ensures)
 
 pub line-fits-spec : {M : Type 1} → statement M
-line-fits-spec = tie.close (tie.spec (λ c κs. search needs) returns (λ c κs. search needs) returns-2)
+line-fits-spec =
+    tie.close (tie.spec (λ c κs. search needs)
+    (λ c. rw (sym (c .before .blank-at .ensures) ∙ c .if1 .taken)) (λ c κs. search needs) returns-2)

@@ -3,9 +3,6 @@ use Rattle.laws.proofs.Basics.{arith, needs, lt-ltb, le-ltb, le-leb, lt-leb}
 use Rattle.vectors.proofs.nibble.Statement.{statement}
 use Rattle.vectors.proofs.nibble.Tie as tie
 
-returns : tie.Need-returns
-returns c = (simp (lt-ltb _ _ (c .if1 .taken)), omega arith)
-
 returns-2 : tie.Need-returns-2
 returns-2 c = (simp (le-ltb _ _ (c .before .if1 .left), le-leb _ _ (c .if2 .taken)), omega arith)
 
@@ -20,5 +17,5 @@ returns-5 c = (simp (le-ltb _ _ (c .before .before .before .if1 .left), lt-leb _
 
 pub nibble-spec : {M : Type 1} → statement M
 nibble-spec =
-    tie.close (tie.spec returns (λ c. search needs) returns-2 returns-3 (λ c. search needs)
-    (λ c. search needs) returns-4 returns-5)
+    tie.close (tie.spec (λ c. (simp (lt-ltb _ _ (c .if1 .taken)), omega arith)) (λ c. search needs)
+    returns-2 returns-3 (λ c. search needs) (λ c. search needs) returns-4 returns-5)

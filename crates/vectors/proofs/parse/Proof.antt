@@ -5,7 +5,8 @@ use Rattle.vectors.proofs.parse.Tie as tie
 
 returns : tie.Need-returns
 returns c =
-    rw (c .before .before .before .before .before .before .is-root .ensures, c .before .before .before .before .before .hex .ensures .0, c .before .before .before .before .hex2 .ensures .0, c .before .before .before .hex3 .ensures .0, c .before .before .hex4 .ensures .0, c .before .hex5 .ensures .0, c .hex6 .ensures .0)
+    let third = c .before .before .before in
+    rw (third .before .before .before .is-root .ensures, third .before .before .hex .ensures .0, third .before .hex2 .ensures .0, third .hex3 .ensures .0, c .before .before .hex4 .ensures .0, c .before .hex5 .ensures .0, c .hex6 .ensures .0)
 
 pub parse-spec : {M : Type 1} → statement M
 parse-spec =

@@ -11,13 +11,10 @@ returns-2 c = rw (c .before .before .if1 .left, le-leb _ _ (c .before .if2 .take
 slice-aggregate-count-lines : tie.Need-slice-aggregate-count-lines
 slice-aggregate-count-lines c = sym (length-take-le _ _ (c .before .before .before .before .before .pre))
 
-count-lines-requires : tie.Need-count-lines-requires
-count-lines-requires c κs = simp length-take (omega arith)
-
 returns-3 : tie.Need-returns-3
 returns-3 c = rw (c .before .before .before .before .if1 .left, lt-leb _ _ (c .before .before .before .if2 .left)) (ap Counted (c .count-lines .ensures))
 
 pub run-of-spec : {M : Type 1} → statement M
 run-of-spec =
     tie.close (tie.spec (λ c. search needs) (λ c κs. search needs) returns-2
-    slice-aggregate-count-lines count-lines-requires returns-3)
+    slice-aggregate-count-lines (λ c κs. simp length-take (omega arith)) returns-3)

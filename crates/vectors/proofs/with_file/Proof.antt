@@ -9,8 +9,9 @@ use Rattle.vectors.proofs.with_file.Tie as tie
 
 with-counts-requires : tie.Need-with-counts-requires
 with-counts-requires c κs =
-    let small = few-told (c .before .before .before .before .run-file .ensures) (c .before .before .run .given .1) in
-    (c .before .before .before .before .before .before .before .pre, small .0, small .1)
+    let k = c .before .before .before .before in
+    let small = few-told (k .run-file .ensures) (c .before .before .run .given .1) in
+    (k .before .before .before .pre, small .0, small .1)
 
 returns : tie.Need-returns
 returns c = (record { file = Unread; ran = subst Ran (c .enum-told .given .1) (c .before .before .run-file .ensures); text = appended-none _ _; total = refl }, omega arith)
@@ -18,8 +19,9 @@ returns c = (record { file = Unread; ran = subst Ran (c .enum-told .given .1) (c
 returns-2 : tie.Need-returns-2
 returns-2 c =
     let told = c .before .before .with-counts .ensures in
-    let run = c .before .before .before .before .before .run .given in
-    let ran = subst Ran (run .1) (c .before .before .before .before .before .before .before .run-file .ensures) in
+    let k = c .before .before .before .before .before in
+    let run = k .run .given in
+    let ran = subst Ran (run .1) (k .before .before .run-file .ensures) in
     let small = few-told ran refl in
     (record { file = Counted (run .0 .0); ran = ran; text = told .0; total = told .1 .0 }, rw (told .1 .0) (omega arith))
 

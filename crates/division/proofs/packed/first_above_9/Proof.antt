@@ -1,7 +1,7 @@
 -- `first_above_9` meets its contract: no half byte is above 9 before the index that it gives.
 use Rattle.laws.proofs.Basics.{_≤_, _-_, _≡_, refl, sym, ap, _∙_, arith, needs}
-use Rattle.selection.specs.Refusals.{firstFrom}
-use Rattle.selection.proofs.Counts.{first-here, first-on, first-end}
+use Rattle.laws.specs.Search.{firstFrom}
+use Rattle.laws.proofs.Search.{first-here, first-on, first-end}
 use Rattle.division.specs.Packed.{operandByte, isAbove9, firstAbove9}
 use Rattle.division.proofs.packed.first_above_9.Statement.{statement}
 use Rattle.division.proofs.packed.first_above_9.Tie as tie

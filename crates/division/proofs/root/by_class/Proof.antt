@@ -1,10 +1,6 @@
 -- `by_class` meets its contract: class by class.
 use Rattle.laws.proofs.Basics.{_≡_, sym, ap, _∙_, Bool, true, false, cond, needs}
-use Rattle.division.specs.Format.{quietNan, invalidFlag}
-use Rattle.division.specs.RootSteps.{rootOfClass, rootByClass}
-use Rattle.division.specs.declared.binary64.ByClass.the-variants.{Decided}
-use Rattle.division.specs.declared.format.Class.{Class}
-use Rattle.division.specs.declared.format.Class.the-variants.{Zero, Subnormal, Normal, Infinite, Nan}
+use Rattle.division.proofs.Binary64Names.{quietNan, invalidFlag, Class, Zero, Subnormal, Normal, Infinite, Nan, Decided, rootOfClass, rootByClass}
 use Rattle.division.proofs.root.by_class.Statement.{statement}
 use Rattle.division.proofs.root.by_class.Tie as tie
 

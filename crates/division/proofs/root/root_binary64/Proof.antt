@@ -1,8 +1,7 @@
 -- `root_binary64` meets its contract: only the direction can be refused.
 use Rattle.laws.proofs.Basics.{sym, ap, _∙_, needs}
 use Rattle.selection.proofs.Orders.{answered}
-use Rattle.division.specs.Binary64.{binary64Zeros, binary64Values}
-use Rattle.division.specs.RootSteps.{rootOf}
+use Rattle.division.proofs.Binary64Names.{binary64Zeros, binary64Values, rootOf}
 use Rattle.division.proofs.Calls.{direction-span}
 use Rattle.division.proofs.root.root_binary64.Statement.{statement}
 use Rattle.division.proofs.root.root_binary64.Tie as tie

@@ -15,15 +15,17 @@ divide-requires c κs =
 
 returns : tie.Need-returns
 returns c =
-    let x = c .before .before .before .before .before .before .before .args in
+    let k = c .before .before .before .before in
+    let x = k .before .before .before .args in
     answered wholeZeros (wholeValues (wholeThrough (now (x .table)) (x .a) (x .b)))
-    (first-lent (wholeRules (x .a) (x .b)) _ (c .before .before .before .before .admit-after .ensures) (c .before .before .before .before .before .refusal-of .ensures) (c .before .before .admission .given .1)) (c .zeros .ensures)
+    (first-lent (wholeRules (x .a) (x .b)) _ (k .admit-after .ensures) (k .before .refusal-of .ensures) (c .before .before .admission .given .1)) (c .zeros .ensures)
 
 returns-2 : tie.Need-returns-2
 returns-2 c =
-    let x = c .before .before .before .before .before .before .before .args in
+    let k = c .before .before .before .before in
+    let x = k .before .before .before .args in
     answered wholeZeros (wholeValues (wholeThrough (now (x .table)) (x .a) (x .b)))
-    (first-lent (wholeRules (x .a) (x .b)) _ (c .before .before .before .before .admit-after .ensures) (c .before .before .before .before .before .refusal-of .ensures) (c .before .before .enum-told .given .1)) (c .values .ensures ∙ ap wholeValues (c .before .divide .ensures))
+    (first-lent (wholeRules (x .a) (x .b)) _ (k .admit-after .ensures) (k .before .refusal-of .ensures) (c .before .before .enum-told .given .1)) (c .values .ensures ∙ ap wholeValues (c .before .divide .ensures))
 
 pub divide-whole-spec : {M : Type 1} → statement M
 divide-whole-spec =

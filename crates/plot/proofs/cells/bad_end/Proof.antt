@@ -10,12 +10,6 @@ Inv-loop table row from end₀ end = (from ≤ end) × (end ≤ 128) × AllBad t
 abbrev μ-loop : tie.MeasureT-loop
 μ-loop table row from end₀ end = 128 - end
 
-loop-holds : tie.Need-loop-holds Inv-loop μ-loop
-loop-holds c = (omega arith, omega arith, λ k l h. absurd (omega arith))
-
-cell-at-requires : tie.Need-cell-at-requires Inv-loop μ-loop
-cell-at-requires c κs = (c .before .before .before .pre .0, omega arith)
-
 returns : tie.Need-returns Inv-loop μ-loop
 returns c =
     let inv = c .before .before .before .loop .inv in
@@ -31,5 +25,7 @@ returns-2 c = let inv = c .before .loop .inv in record { starts = inv .0; within
 
 pub bad-end-spec : {M : Type 1} → statement M
 bad-end-spec =
-    tie.close (tie.spec Inv-loop μ-loop loop-holds (λ c. omega arith) (λ c. omega arith)
-    cell-at-requires returns (λ c. omega arith) (λ c. omega arith) loop-again returns-2)
+    tie.close (tie.spec Inv-loop μ-loop
+    (λ c. (omega arith, omega arith, λ k l h. absurd (omega arith))) (λ c. omega arith)
+    (λ c. omega arith) (λ c κs. (c .before .before .before .pre .0, omega arith)) returns
+    (λ c. omega arith) (λ c. omega arith) loop-again returns-2)

@@ -9,10 +9,8 @@ Inv-loop visits k₀ k = k ≤ 2048
 abbrev μ-loop : tie.MeasureT-loop
 μ-loop visits k₀ k = 2048 - k
 
-draw-visited-requires : tie.Need-draw-visited-requires Inv-loop μ-loop
-draw-visited-requires c κs = (c .before .before .before .pre, omega arith)
-
 pub draw-all-spec : {M : Type 1} → statement M
 draw-all-spec =
-    tie.close (tie.spec Inv-loop μ-loop (λ c. omega arith) draw-visited-requires (λ c. search needs)
-    (λ c. omega arith) (λ c. omega arith) (λ c. omega arith) (λ c. search needs))
+    tie.close (tie.spec Inv-loop μ-loop (λ c. omega arith)
+    (λ c κs. (c .before .before .before .pre, omega arith)) (λ c. search needs) (λ c. omega arith)
+    (λ c. omega arith) (λ c. omega arith) (λ c. search needs))

@@ -23,27 +23,28 @@ clamped-moved (negsuc k) most h = omega arith
 few : {n m : ℕ} (z : ℤ) (most : ℕ) → SFits w64 z → Moved m z → n ≡ clamped (toZ w64 (ofZ w64 z)) most → n ≤ m
 few z most f h e = rw (e, toZ-ofZ f) (clamped-moved z most h)
 
-loop-holds : tie.Need-loop-holds Inv-loop μ-loop
-loop-holds c = (omega arith, refl)
+-- the turn that a read is of
+abbrev turn : tie.After-buffer Inv-loop μ-loop → tie.At-loop Inv-loop μ-loop
+turn b = b .before .before .before .before
+
+-- a read keeps what stands before it
+kept : (b : tie.After-buffer Inv-loop μ-loop) → turn b .loop .count ≤ length (b .before .read-from .last .1 .0)
+kept b = omega (arith, b .buffer .given)
 
 same-length : tie.Need-same-length Inv-loop μ-loop
-same-length c = c .before .before .buffer .given ∙ c .before .before .before .before .before .before .loop .inv .1
+same-length c = let b = c .before .before in b .buffer .given ∙ turn b .loop .inv .1
 
 returns : tie.Need-returns Inv-loop μ-loop
-returns c =
-    let h : c .before .before .before .before .before .before .loop .count ≤ length (c .before .before .before .read-from .last .1 .0) = omega (arith, c .before .before .buffer .given) in
-    (h, sym (length-take-le _ _ h))
+returns c = let h = kept (c .before .before) in (h, sym (length-take-le _ _ h))
 
 same-length-2 : tie.Need-same-length-2 Inv-loop μ-loop
-same-length-2 c = c .before .before .before .before .before .buffer .given ∙ c .before .before .before .before .before .before .before .before .before .loop .inv .1
+same-length-2 c = let b = c .before .before .before .before .before in b .buffer .given ∙ turn b .loop .inv .1
 
 returns-2 : tie.Need-returns-2 Inv-loop μ-loop
-returns-2 c =
-    let h : c .before .before .before .before .before .before .before .before .before .loop .count ≤ length (c .before .before .before .before .before .before .read-from .last .1 .0) = omega (arith, c .before .before .before .before .before .buffer .given) in
-    (h, sym (length-take-le _ _ h))
+returns-2 c = let h = kept (c .before .before .before .before .before) in (h, sym (length-take-le _ _ h))
 
 -- what was read fits
-fits : (c : tie.After-count Inv-loop μ-loop) → c .count .result ≤ length (c .before .before .before .before .before .before .before .before .loop .buffer) - c .before .before .before .before .before .before .before .before .loop .count
+fits : (c : tie.After-count Inv-loop μ-loop) → let l = turn (c .before .before .before .before) .loop in c .count .result ≤ length (l .buffer) - l .count
 fits c =
     let got = c .before .before .before .before .before .read-from in
     few (got .result) _ (record { sfits = got .ok }) (got .ensures) (c .count .ensures .1)
@@ -57,14 +58,11 @@ loop-less c = omega (arith, fits (c .before), c .before .before .before .before 
 loop-again : tie.Need-loop-again Inv-loop μ-loop
 loop-again c = omega (arith, fits (c .before), c .before .before .before .before .before .buffer .given)
 
-same-length-3 : tie.Need-same-length-3 Inv-loop μ-loop
-same-length-3 c = c .before .loop .inv .1
-
 returns-3 : tie.Need-returns-3 Inv-loop μ-loop
 returns-3 c = let h = c .before .loop .inv .0 in (h, sym (length-take-le _ _ h))
 
 pub read-input-spec : {M : Type 1} → statement M
 read-input-spec =
-    tie.close (tie.spec Inv-loop μ-loop loop-holds (λ c κs. omega arith) same-length returns
-    (λ c κs. search needs) same-length-2 returns-2 add-count loop-less loop-again same-length-3
-    returns-3)
+    tie.close (tie.spec Inv-loop μ-loop (λ c. (omega arith, refl)) (λ c κs. omega arith) same-length returns
+    (λ c κs. search needs) same-length-2 returns-2 add-count loop-less loop-again
+    (λ c. c .before .loop .inv .1) returns-3)

@@ -19,9 +19,6 @@ loop-again c =
     let l = c .before .before .loop in
     (omega arith, simp length-set (l .inv .1), pasted _ _ _ _ _ (l .inv .2) (omega arith) (omega arith))
 
-same-length : tie.Need-same-length Inv-loop μ-loop
-same-length c = c .before .loop .inv .1
-
 returns : tie.Need-returns Inv-loop μ-loop
 returns c = pasted-all _ _ _ _ (c .before .loop .i) (c .before .loop .inv .2) (omega arith)
 
@@ -29,4 +26,4 @@ pub append-spec : {M : Type 1} → statement M
 append-spec =
     tie.close (tie.spec Inv-loop μ-loop loop-holds (λ c. omega arith) (λ c. omega arith)
     (λ c. omega arith) (λ c. omega arith) (λ c. omega arith) loop-again (λ c. omega arith)
-    same-length returns)
+    (λ c. c .before .loop .inv .1) returns)

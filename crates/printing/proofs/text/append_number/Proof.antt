@@ -13,16 +13,17 @@ append-requires c κs = omega (arith, c .before .before .decimal .ensures .0 .1,
 
 append-requires-2 : tie.Need-append-requires-2
 append-requires-2 c κs =
-    let d = c .before .before .before .before .before .before in
-    omega (arith, c .before .before .before .append .ensures .past, d .decimal .ensures .0 .1, few d)
+    let a = c .before .before .before in
+    let d = a .before .before .before in
+    omega (arith, a .append .ensures .past, d .decimal .ensures .0 .1, few d)
 
 returns : tie.Need-returns
 returns c =
-    let d = c .before .before .before .before .before .before .before .before .before in
-    let a = c .before .before .before .before .before .before .append .ensures in
-    let b = c .before .before .append2 .ensures in
-    let h = few d in
-    (appended-then (appended-as a (d .decimal .ensures .1 .1 ∙ decimal-is _ _ (d .decimal .ensures .1 .0) h)) b (omega (arith, a .past, d .decimal .ensures .0 .1)), omega (arith, a .past, b .past, d .decimal .ensures .0 .1))
+    let b = c .before .before in
+    let a = b .before .before .before .before in
+    let d = a .before .before .before in
+    let x = appended-as (a .append .ensures) (d .decimal .ensures .1 .1 ∙ decimal-is _ _ (d .decimal .ensures .1 .0) (few d)) in
+    (appended-then x (b .append2 .ensures) (omega (arith, a .append .ensures .past, d .decimal .ensures .0 .1, few d)), omega (arith, a .append .ensures .past, b .append2 .ensures .past, d .decimal .ensures .0 .1, few d))
 
 pub append-number-spec : {M : Type 1} → statement M
 append-number-spec =

@@ -6,10 +6,10 @@ use Rattle.printing.proofs.text.append_refusal.Tie as tie
 
 returns : tie.Need-returns
 returns c =
-    let a = c .before .before .before .before .before .before .before .before .before .before .before .before .append .ensures in
-    let b = c .before .before .before .before .before .before .before .append-number .ensures in
-    let d = c .before .before .append-number2 .ensures in
-    (appended-then a (appended-then (b .0) (d .0) (omega arith)) (omega arith), omega arith)
+    let place = c .before .before in
+    let number = place .before .before .before .before .before in
+    let names = number .before .before .before .before .before in
+    (appended-then (names .append .ensures) (appended-then (number .append-number .ensures .0) (place .append-number2 .ensures .0) (omega arith)) (omega arith), omega arith)
 
 pub append-refusal-spec : {M : Type 1} → statement M
 append-refusal-spec =

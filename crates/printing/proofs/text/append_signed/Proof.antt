@@ -7,17 +7,18 @@ use Rattle.printing.proofs.text.append_signed.Tie as tie
 
 returns : tie.Need-returns
 returns c =
-    let n = c .before .before .before .before .before .before .before .before .before .before .before .before .before in
-    let a = c .before .before .before .before .before .before .before .append .ensures in
-    let b = c .before .before .append-number .ensures in
-    let e = with-sign _ _ _ (n .fits .number) (c .before .before .before .magnitude .ensures) (c .before .before .before .before .before .before .before .before .before .before .if1 .taken) in
-    (appended-as (appended-then a (b .0) (omega arith)) e, omega arith)
+    let number = c .before .before in
+    let sign = number .before .before .before .before .before in
+    let negative = sign .before .before .before in
+    let e = with-sign _ _ _ (negative .before .before .before .fits .number) (number .before .magnitude .ensures) (negative .if1 .taken) in
+    (appended-as (appended-then (sign .append .ensures) (number .append-number .ensures .0) (omega arith)) e, omega arith)
 
 returns-2 : tie.Need-returns-2
 returns-2 c =
-    let b = c .before .before .append-number2 .ensures in
-    let e = without-sign _ _ _ (c .before .before .before .before .before .before .before .before .fits .number) (c .before .before .before .magnitude2 .ensures) (c .before .before .before .before .before .if1 .left) in
-    (appended-as (b .0) e, omega arith)
+    let number = c .before .before in
+    let positive = number .before .before .before in
+    let e = without-sign _ _ _ (positive .before .before .before .fits .number) (number .before .magnitude2 .ensures) (positive .if1 .left) in
+    (appended-as (number .append-number2 .ensures .0) e, omega arith)
 
 pub append-signed-spec : {M : Type 1} → statement M
 append-signed-spec =

@@ -1,28 +1,24 @@
 use Rattle.laws.proofs.Basics.{needs, refl, _∙_}
-use Rattle.recurrence.proofs.Rows.{lent-row, row-of, row-digits}
+use Rattle.recurrence.specs.Recurrence.{stateFrom}
+use Rattle.recurrence.proofs.Rows.{row-of, step-ready}
 use Rattle.recurrence.proofs.step.admitted.Statement.{statement}
 use Rattle.recurrence.proofs.step.admitted.Tie as tie
 
 next-requires : tie.Need-next-requires
 next-requires c κs =
-    let s = c .before .before .before .before .before .before .before .before in
-    let is = lent-row (s .args .table .now) (s .args .divisor) (c .before .before .before .row-start .ensures) in
-    rw (c .before .before .new .ensures) (record {
-      digits = row-digits (s .pre .1) (row-of (s .pre .0) is);
-      multiples = c .before .before .before .before .before .before .multiples-of .ensures;
-      top-bits = c .before .before .before .before .all-top-bits .ensures;
-      current = refl;
-    })
+    let row = c .before .before in
+    let m = row .before .before .before in
+    let s = m .before .before in
+    step-ready (stateFrom (s .args .sum) (s .args .carry) (s .args .divisor)) (s .pre .1) (row-of (s .pre .0) (row .row-of .ensures))
+    (c .before .new .ensures) refl (m .divisor-multiples .ensures) (row .before .all-top-bits .ensures)
 
 returns : tie.Need-returns
 returns c =
-    let s = c .before .before .before .before .before .before .before .before .before in
-    let e = c .before .before .before .new .ensures in
-    let is = lent-row (s .args .table .now) (s .args .divisor) (c .before .before .before .before .row-start .ensures) in
-    c .next .ensures (s .args .table .now) (rw e is) ∙ rw e refl
+    let row = c .before .before .before in
+    let e = c .before .before .new .ensures in
+    c .next .ensures (row .before .before .before .before .before .args .table .now) (rw e (row .row-of .ensures)) ∙ rw e refl
 
 pub admitted-spec : {M : Type 1} → statement M
 admitted-spec =
     tie.close (tie.spec (λ c κs. search needs) (λ c κs. search needs) (λ c κs. search needs)
-    (λ c κs. search needs) (λ c. search needs) (λ c. search needs) (λ c. search needs)
-    (λ c. search needs) next-requires returns)
+    (λ c κs. search needs) next-requires returns)

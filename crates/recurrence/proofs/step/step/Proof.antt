@@ -3,7 +3,7 @@ use Rattle.laws.proofs.Basics.{needs, sym, ap, _∙_, now}
 use Rattle.selection.proofs.Orders.{admitted-both, answered, first-lent}
 use Rattle.recurrence.specs.Recurrence.{stateFrom, nextOf}
 use Rattle.recurrence.specs.FastRun.{stateOf}
-use Rattle.recurrence.specs.declared.RunState.{RunState}
+use Rattle.recurrence.specs.declared.state.RunState.{RunState}
 use Rattle.recurrence.specs.Step.{stepRules, stepZeros, stepValues}
 use Rattle.recurrence.proofs.StepRange.{step-span}
 use Rattle.recurrence.proofs.step.step.Statement.{statement}
@@ -17,16 +17,18 @@ admitted-requires c κs =
 
 returns : tie.Need-returns
 returns c =
-    let a = c .before .before .before .before .before .before .before .args in
+    let k = c .before .before .before .before in
+    let a = k .before .before .before .args in
     answered stepZeros (stepValues (nextOf (now (a .table)) (stateFrom (a .sum) (a .carry) (a .divisor))))
-    (first-lent (stepRules (a .sum) (a .carry) (a .divisor)) _ (c .before .before .before .before .admit-after .ensures) (c .before .before .before .before .before .refusal-of .ensures) (c .before .before .admission .given .1))
+    (first-lent (stepRules (a .sum) (a .carry) (a .divisor)) _ (k .admit-after .ensures) (k .before .refusal-of .ensures) (c .before .before .admission .given .1))
     (c .zeros .ensures)
 
 returns-2 : tie.Need-returns-2
 returns-2 c =
-    let a = c .before .before .before .before .before .before .before .args in
+    let k = c .before .before .before .before in
+    let a = k .before .before .before .args in
     answered stepZeros (stepValues (nextOf (now (a .table)) (stateFrom (a .sum) (a .carry) (a .divisor))))
-    (first-lent (stepRules (a .sum) (a .carry) (a .divisor)) _ (c .before .before .before .before .admit-after .ensures) (c .before .before .before .before .before .refusal-of .ensures) (c .before .before .enum-told .given .1))
+    (first-lent (stepRules (a .sum) (a .carry) (a .divisor)) _ (k .admit-after .ensures) (k .before .refusal-of .ensures) (c .before .before .enum-told .given .1))
     (c .values .ensures ∙ ap (λ (p : RunState). stepValues (stateOf p)) (c .before .admitted .ensures))
 
 pub step-spec : {M : Type 1} → statement M

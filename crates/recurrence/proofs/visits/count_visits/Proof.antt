@@ -14,16 +14,19 @@ visit-all-requires c κs =
 
 returns : tie.Need-returns
 returns c =
-    let a = c .before .before .before .before .before .before .before .args in
+    let k = c .before .before .before in
+    let a = k .before .before .before .before .args in
     visits-told (now (a .table)) (a .bits) (a .digits) (now (a .visits))
-    (first-lent (visitsRules (a .bits) (a .digits) (length (now (a .visits)))) _ (c .before .before .before .admit-after .ensures) (c .before .before .before .before .refusal-of .ensures) (c .before .admission .given .1))
+    (first-lent (visitsRules (a .bits) (a .digits) (length (now (a .visits)))) _ (k .admit-after .ensures) (k .before .refusal-of .ensures) (c .before .admission .given .1))
     refl refl
 
 returns-2 : tie.Need-returns-2
 returns-2 c =
-    let a = c .before .before .before .before .before .before .before .before .before .before .args in
+    let told = c .before .before .before .before in
+    let k = told .before .before in
+    let a = k .before .before .before .before .args in
     visits-told (now (a .table)) (a .bits) (a .digits) (now (a .visits))
-    (first-lent (visitsRules (a .bits) (a .digits) (length (now (a .visits)))) _ (c .before .before .before .before .before .before .admit-after .ensures) (c .before .before .before .before .before .before .before .refusal-of .ensures) (c .before .before .before .before .enum-told .given .1))
+    (first-lent (visitsRules (a .bits) (a .digits) (length (now (a .visits)))) _ (k .admit-after .ensures) (k .before .refusal-of .ensures) (told .enum-told .given .1))
     refl (c .before .before .visit-all .ensures)
 
 pub count-visits-spec : {M : Type 1} → statement M

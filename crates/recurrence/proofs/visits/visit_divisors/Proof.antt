@@ -1,5 +1,6 @@
 use Rattle.laws.proofs.Basics.{needs, arith, _+_, _*_, _-_, _≤_, now}
-use Rattle.recurrence.specs.Visits.{sumBelow, runVisits}
+use Rattle.laws.specs.Sums.{sumBelow}
+use Rattle.recurrence.specs.Visits.{runVisits}
 use Rattle.recurrence.specs.VisitSteps.{Added}
 use Rattle.recurrence.proofs.Visiting.{added-none, added-more, room-next, run-most, placed-span, divisors-done}
 use Rattle.recurrence.proofs.visits.visit_divisors.Statement.{statement}
@@ -25,10 +26,7 @@ visit-run-requires c κs =
     (s .pre .0, placed-span (l .y) (s .pre .1) (c .before .loop-test .taken) .1, omega (arith, l .inv .1 .size, s .pre .2), room-next (λ y. runVisits (now (a .table)) (a .dividend) ((a .m + y) * a .unit) (a .n)) (a .m) (a .n) (l .y) (λ y. run-most (now (a .table)) (a .dividend) ((a .m + y) * a .unit) (a .n)) (c .before .loop-test .taken) (s .pre .3) (l .inv .1))
 
 loop-again : tie.Need-loop-again Inv-loop μ-loop
-loop-again c = let a = c .before .before .before .before .before .before .before .before .args in let l = c .before .before .before .before .before .loop in (omega arith, added-more (λ y. runVisits (now (a .table)) (a .dividend) ((a .m + y) * a .unit) (a .n)) (l .y) (l .inv .1) (c .before .before .visit-run .ensures))
-
-same-length : tie.Need-same-length Inv-loop μ-loop
-same-length c = c .before .loop .inv .1 .size
+loop-again c = let k = c .before .before .before .before .before in let a = k .before .before .before .args in let l = k .loop in (omega arith, added-more (λ y. runVisits (now (a .table)) (a .dividend) ((a .m + y) * a .unit) (a .n)) (l .y) (l .inv .1) (c .before .before .visit-run .ensures))
 
 returns : tie.Need-returns Inv-loop μ-loop
 returns c = let a = c .before .before .before .before .args in divisors-done (now (a .table)) (a .m) (a .unit) (a .n) (a .dividend) (c .before .loop .inv .1) (omega (arith, c .before .loop .inv .0))
@@ -36,4 +34,5 @@ returns c = let a = c .before .before .before .before .args in divisors-done (no
 pub visit-divisors-spec : {M : Type 1} → statement M
 visit-divisors-spec =
     tie.close (tie.spec Inv-loop μ-loop loop-holds (λ c. search needs) mul-visit-run
-    visit-run-requires (λ c. search needs) (λ c. omega arith) loop-again same-length returns)
+    visit-run-requires (λ c. search needs) (λ c. omega arith) loop-again
+    (λ c. c .before .loop .inv .1 .size) returns)

@@ -12,9 +12,6 @@ Inv-loop words bytes₀ k₀ bytes k = (k ≤ 16) × (bytes ≡ filled (byteOf w
 abbrev μ-loop : tie.MeasureT-loop
 μ-loop words bytes₀ k₀ bytes k = 16 - k
 
-loop-holds : tie.Need-loop-holds Inv-loop μ-loop
-loop-holds c = (omega arith, sym (fill-none _ _))
-
 loop-again : tie.Need-loop-again Inv-loop μ-loop
 loop-again c = (omega arith, word-more (c .before .before .before .args .words .now) _ (c .before .before .loop .k) (c .before .before .loop .inv .1) (omega arith))
 
@@ -23,11 +20,12 @@ returns c = words-all (c .before .before .args .words .now) _ (c .before .loop .
 
 pub bytes-of-spec : {M : Type 1} → statement M
 bytes-of-spec =
-    tie.close (tie.spec Inv-loop μ-loop loop-holds (λ c. search needs) (λ c. search needs)
+    tie.close (tie.spec Inv-loop μ-loop (λ c. (omega arith, sym (fill-none _ _)))
     (λ c. search needs) (λ c. search needs) (λ c. search needs) (λ c. search needs)
     (λ c. search needs) (λ c. search needs) (λ c. search needs) (λ c. search needs)
     (λ c. search needs) (λ c. search needs) (λ c. search needs) (λ c. search needs)
     (λ c. search needs) (λ c. search needs) (λ c. search needs) (λ c. search needs)
     (λ c. search needs) (λ c. search needs) (λ c. search needs) (λ c. search needs)
     (λ c. search needs) (λ c. search needs) (λ c. search needs) (λ c. search needs)
-    (λ c. search needs) (λ c. search needs) loop-again returns)
+    (λ c. search needs) (λ c. search needs) (λ c. search needs) (λ c. search needs) loop-again
+    returns)

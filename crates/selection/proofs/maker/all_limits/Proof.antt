@@ -11,9 +11,6 @@ Inv-loop all₀ row₀ all row = (row ≤ 16) × (length all ≡ 16) × ((j : �
 abbrev μ-loop : tie.MeasureT-loop
 μ-loop all₀ row₀ all row = 16 - row
 
-loop-holds : tie.Need-loop-holds Inv-loop μ-loop
-loop-holds c = (omega arith, refl, λ j h. absurd (not-suc-le-zero h))
-
 loop-again : tie.Need-loop-again Inv-loop μ-loop
 loop-again c = let inv = c .before .before .loop .inv in (
   omega arith,
@@ -21,10 +18,9 @@ loop-again c = let inv = c .before .before .loop .inv in (
   set-more Limits (c .before .before .loop .all) (c .before .before .loop .row) _ _ (omega (arith, inv .1)) (inv .2) (c .limits-of .ensures .1),
 )
 
-returns : tie.Need-returns Inv-loop μ-loop
-returns c = λ j h. c .before .loop .inv .2 j (omega arith)
-
 pub all-limits-spec : {M : Type 1} → statement M
 all-limits-spec =
-    tie.close (tie.spec Inv-loop μ-loop loop-holds (λ c κs. omega arith) (λ c. omega arith)
-    (λ c. omega arith) (λ c. omega arith) (λ c. omega arith) loop-again returns)
+    tie.close (tie.spec Inv-loop μ-loop
+    (λ c. (omega arith, refl, λ j h. absurd (not-suc-le-zero h))) (λ c κs. omega arith)
+    (λ c. omega arith) (λ c. omega arith) (λ c. omega arith) (λ c. omega arith) loop-again
+    (λ c. λ j h. c .before .loop .inv .2 j (omega arith)))

@@ -5,9 +5,12 @@ use Rattle.selection.proofs.Making.{limits-answer}
 use Rattle.selection.proofs.maker.limits_of.Statement.{statement}
 use Rattle.selection.proofs.maker.limits_of.Tie as tie
 
+abbrev made : tie.After-struct-known6 → tie.After-row-multiples
+made c = let half = c .before .before .before in half .before .before .before
+
 returns : tie.Need-returns
 unfolding limitsOf
-returns c = let m = c .before .before .before .before .before .before .row-multiples in limits-answer _ (c .before .before .before .before .before .before .before .pre) (ap limitsBy (m .ensures .0 .is) ∙ ap limitsOf (m .ensures .1))
+returns c = let m = made c in limits-answer _ (m .before .pre) (ap limitsBy (m .row-multiples .ensures .0 .is) ∙ ap limitsOf (m .row-multiples .ensures .1))
 
 pub limits-of-spec : {M : Type 1} → statement M
 limits-of-spec =
@@ -17,5 +20,5 @@ limits-of-spec =
     (λ c. omega (arith, columns (c .before .before .before .row-multiples .ensures .0)))
     (λ c. omega (arith, columns (c .before .before .before .before .row-multiples .ensures .0)))
     (λ c. omega (arith, columns (c .before .before .before .before .before .row-multiples .ensures .0)))
-    (λ c. omega (arith, columns (c .before .before .before .before .before .before .row-multiples .ensures .0)))
+    (λ c. omega (arith, columns (made c .row-multiples .ensures .0)))
     returns)

@@ -15,9 +15,6 @@ abbrev μ-loop : tie.MeasureT-loop
 same : {b : List ℕ} (s : List ℕ) (k : ℕ) → (k ≤ 2048) × (2048 ≤ length s) × (b ≡ filled madeAt k s) → length b ≡ length s
 same s k i = ap length (i .2) ∙ fill-length madeAt s k (omega (arith, i .0, i .1))
 
-returns : tie.Need-returns Inv-loop μ-loop
-returns c = make-refused _ (c .if1 .taken)
-
 loop-holds : tie.Need-loop-holds Inv-loop μ-loop
 loop-holds c = (omega arith, c .before .if1 .left, sym (fill-none madeAt _))
 
@@ -31,14 +28,12 @@ loop-again c =
     let made = c .before .before .before .before .all-limits .ensures (k / 128) (omega arith) .steps (k % 128) (omega arith) in
     (omega arith, inv .1, rw (inv .2, c .digit-at .ensures, made-at (omega arith) made) (fill-more madeAt _ k (omega (arith, inv .1))))
 
-same-length : tie.Need-same-length Inv-loop μ-loop
-same-length c = same _ _ (c .before .loop .inv)
-
 returns-2 : tie.Need-returns-2 Inv-loop μ-loop
 returns-2 c = let inv = c .before .loop .inv in let e : c .before .loop .k ≡ 2048 = omega arith in make-done _ (inv .1) (rw e at (inv .2))
 
 pub make-table-spec : {M : Type 1} → statement M
 make-table-spec =
-    tie.close (tie.spec Inv-loop μ-loop returns (λ c κs. search needs) loop-holds (λ c. omega arith)
-    (λ c. omega arith) (λ c. omega arith) (λ c κs. search needs) slice-write-buffer
-    (λ c. omega arith) (λ c. omega arith) loop-again same-length returns-2)
+    tie.close (tie.spec Inv-loop μ-loop (λ c. make-refused _ (c .if1 .taken)) (λ c κs. search needs)
+    loop-holds (λ c. omega arith) (λ c. omega arith) (λ c. omega arith) (λ c κs. search needs)
+    slice-write-buffer (λ c. omega arith) (λ c. omega arith) loop-again
+    (λ c. same _ _ (c .before .loop .inv)) returns-2)

@@ -28,9 +28,6 @@ low-witness-requires c κs = (rw (c .low-divisor .ensures) (low (c .before) .0),
 returns-2 : tie.Need-returns-2
 returns-2 c = rw (c .low-witness .ensures, c .before .low-divisor .ensures) (low (c .before .before) .1)
 
-high-divisor-requires : tie.Need-high-divisor-requires
-high-divisor-requires c κs = columns (c .before .before)
-
 high-witness-requires : tie.Need-high-witness-requires
 high-witness-requires c κs = (rw (c .high-divisor .ensures) (high (c .before) .0), columns (c .before .before .before) .1, c .before .before .before .before .before .pre .2)
 
@@ -40,5 +37,5 @@ returns-3 c = rw (c .high-witness .ensures, c .before .high-divisor .ensures) (h
 pub test-cell-spec : {M : Type 1} → statement M
 test-cell-spec =
     tie.close (tie.spec (λ c. search needs) (λ c κs. search needs) returns (λ c κs. search needs)
-    low-divisor-requires low-witness-requires returns-2 high-divisor-requires high-witness-requires
-    returns-3)
+    low-divisor-requires low-witness-requires returns-2 (λ c κs. columns (c .before .before))
+    high-witness-requires returns-3)

@@ -1,8 +1,9 @@
 -- `mark_row` meets its contract: a turn stores the mark of one cell and counts it.
-use Rattle.laws.proofs.Basics.{_+_, _*_, _-_, _≡_, refl, ap, _∙_, arith, needs}
+use Rattle.laws.proofs.Basics.{_+_, _*_, _-_, _≡_, ap, _∙_, arith, needs, sym}
+use Rattle.laws.specs.Counting.{countBelow}
+use Rattle.laws.proofs.Counting.{count-start, count-most}
 use Rattle.selection.specs.Allowed.{isReplaced}
-use Rattle.selection.specs.Computed.{countBelow, changeMark}
-use Rattle.selection.proofs.Counts.{count-most}
+use Rattle.selection.specs.Computed.{changeMark}
 use Rattle.selection.proofs.RepairRows.{RowFilled, row-begins, row-more, row-ends, count-mark, mark-is}
 use Rattle.selection.proofs.repair.mark_row.Statement.{statement}
 use Rattle.selection.proofs.repair.mark_row.Tie as tie
@@ -14,32 +15,19 @@ Inv-loop table m changed₀ start count₀ c₀ changed count c =
 abbrev μ-loop : tie.MeasureT-loop
 μ-loop table m changed₀ start count₀ c₀ changed count c = 128 - c
 
-loop-holds : tie.Need-loop-holds Inv-loop μ-loop
-unfolding countBelow
-loop-holds c = (row-begins _ _ _, refl)
-
-mark-of-requires : tie.Need-mark-of-requires Inv-loop μ-loop
-mark-of-requires c κs = (c .before .before .before .before .before .pre .1, omega arith)
-
-slice-write-changed : tie.Need-slice-write-changed Inv-loop μ-loop
-slice-write-changed c = omega (arith, c .before .before .before .loop .inv .0 .size)
-
 add-count : tie.Need-add-count Inv-loop μ-loop
 add-count c =
-    let a = c .before .before .before .before .before .before .args in
-    let l = c .before .before .before .loop in
-    omega (arith, l .inv .1, count-most (λ c. isReplaced (a .table .now) (128 * a .m .row + c)) (l .c), c .mark-of .ensures .1)
+    let l = c .before .before .before in
+    let a = l .before .before .before .args in
+    omega (arith, l .loop .inv .1, count-most (λ c. isReplaced (a .table .now) (128 * a .m .row + c)) (l .loop .c), c .mark-of .ensures .1)
 
 loop-again : tie.Need-loop-again Inv-loop μ-loop
 loop-again c =
-    let s = c .before .before .before .before .before .before in
-    let l = c .before .before .before .loop in
+    let l = c .before .before .before in
+    let s = l .before .before .before in
     let t = s .args .table .now in
-    let mark = mark-is t (l .c) (s .pre .1) (omega arith) (c .mark-of .ensures .0) in
-    (row-more _ _ _ (l .inv .0) (s .pre .1 .small) (omega arith) (s .pre .2) mark, count-mark t (s .args .m .row) (l .c) (l .inv .1) mark)
-
-same-length : tie.Need-same-length Inv-loop μ-loop
-same-length c = c .before .loop .inv .0 .size
+    let mark = mark-is t (l .loop .c) (s .pre .1) (omega arith) (c .mark-of .ensures .0) in
+    (row-more _ _ _ (l .loop .inv .0) (s .pre .1 .small) (omega arith) (s .pre .2) mark, count-mark t (s .args .m .row) (l .loop .c) (l .loop .inv .1) mark)
 
 returns : tie.Need-returns Inv-loop μ-loop
 returns c =
@@ -50,6 +38,8 @@ returns c =
 
 pub mark-row-spec : {M : Type 1} → statement M
 mark-row-spec =
-    tie.close (tie.spec Inv-loop μ-loop (λ c. search needs) loop-holds (λ c. search needs)
-    (λ c. search needs) (λ c. omega arith) mark-of-requires (λ c. omega arith) slice-write-changed add-count (λ c. omega arith) (λ c. omega arith) loop-again same-length
-    returns)
+    tie.close (tie.spec Inv-loop μ-loop (λ c. search needs)
+    (λ c. (row-begins _ _ _, sym (count-start _))) (λ c. search needs) (λ c. search needs)
+    (λ c. omega arith) (λ c κs. (c .before .before .before .before .before .pre .1, omega arith)) (λ c. omega arith)
+    (λ c. omega (arith, c .before .before .before .loop .inv .0 .size)) add-count (λ c. omega arith)
+    (λ c. omega arith) loop-again (λ c. c .before .loop .inv .0 .size) returns)

@@ -13,14 +13,17 @@ repair-rows-requires c κs =
 
 returns : tie.Need-returns
 returns c =
-    let a = c .before .before .before .before .before .before .before .args in
-    repair-answer (now (a .table)) (now (a .repaired)) (now (a .changed)) (sym (c .before .before .before .refusal-of .ensures) ∙ c .before .admission .given .1) refl refl refl
+    let r = c .before .before .before in
+    let a = r .before .before .before .before .args in
+    repair-answer (now (a .table)) (now (a .repaired)) (now (a .changed)) (sym (r .refusal-of .ensures) ∙ c .before .admission .given .1) refl refl refl
 
 returns-2 : tie.Need-returns-2
 returns-2 c =
-    let a = c .before .before .before .before .before .before .before .before .before .before .before .before .before .args in
-    let r = c .before .before .before .before .repair-rows .ensures in
-    repair-answer (now (a .table)) (now (a .repaired)) (now (a .changed)) (sym (c .before .before .before .before .before .before .before .before .before .refusal-of .ensures) ∙ c .before .before .before .before .before .before .before .enum-told .given .1) (ap answer (r .2)) (r .0) (r .1)
+    let rows = c .before .before .before .before in
+    let told = rows .before .before .before in
+    let r = told .before .before in
+    let a = r .before .before .before .before .args in
+    repair-answer (now (a .table)) (now (a .repaired)) (now (a .changed)) (sym (r .refusal-of .ensures) ∙ told .enum-told .given .1) (ap answer (rows .repair-rows .ensures .2)) (rows .repair-rows .ensures .0) (rows .repair-rows .ensures .1)
   where
     answer : ℕ → RepairAnswer
     answer n = record { refusal = refusal 0 0; count = n }

@@ -1,9 +1,7 @@
 use Rattle.laws.proofs.Basics.{sym, ap, _∙_, now, needs}
-use Rattle.selection.specs.Answer.{firstOf}
-use Rattle.selection.specs.Table.{tableRules}
-use Rattle.selection.specs.Refusals.{firstRefusal}
-use Rattle.selection.proofs.Reports.{admission-rules}
+use Rattle.selection.proofs.Refusing.{firstOf, firstRefusal, tableRules}
 use Rattle.selection.specs.declared.Admission.{Admission}
+use Rattle.selection.proofs.Reports.{admission-rules}
 use Rattle.selection.proofs.table.admit_after.Statement.{statement}
 use Rattle.selection.proofs.table.admit_after.Tie as tie
 

@@ -1,5 +1,5 @@
 use Rattle.laws.proofs.Basics.{now, _+_, _*_, _≡_, sym, ap, _∙_, arith, needs}
-use Rattle.selection.specs.Refusals.{firstFrom}
+use Rattle.laws.specs.Search.{firstFrom}
 use Rattle.selection.specs.Allowed.{isBadIn}
 use Rattle.selection.specs.Computed.{badReport, reportAt}
 use Rattle.selection.proofs.Reports.{report-in}

@@ -17,9 +17,6 @@ returns-2 : tie.Need-returns-2
 unfolding reportOf
 returns-2 c = report-is (rw (c .refused-report2 .ensures) (simp (eq-eqb _ _ (c .before .before .before .if1 .left), ← c .before .before .first-above .ensures, lt-ltb _ _ (c .before .if2 .taken))))
 
-check-rows-requires : tie.Need-check-rows-requires
-check-rows-requires c κs = table-ok c
-
 returns-3 : tie.Need-returns-3
 unfolding reportOf
 returns-3 c = report-is (rw (c .check-rows .ensures) (simp (eq-eqb _ _ (c .before .before .before .if1 .left), ← c .before .before .first-above .ensures, le-ltb _ _ (c .before .if2 .left))))
@@ -27,4 +24,4 @@ returns-3 c = report-is (rw (c .check-rows .ensures) (simp (eq-eqb _ _ (c .befor
 pub check-table-spec : {M : Type 1} → statement M
 check-table-spec =
     tie.close (tie.spec (λ c κs. search needs) returns (λ c κs. search needs) (λ c κs. search needs)
-    returns-2 check-rows-requires returns-3)
+    returns-2 (λ c κs. table-ok c) returns-3)

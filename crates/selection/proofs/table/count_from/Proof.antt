@@ -1,7 +1,8 @@
 use Rattle.laws.proofs.Basics.{now, ℕ, _*_, _≤_, _-_, _≡_, ap, _∙_, arith}
+use Rattle.laws.specs.Counting.{countBelow}
+use Rattle.laws.proofs.Counting.{count-most}
 use Rattle.selection.specs.Allowed.{isBad, isBadIn}
-use Rattle.selection.specs.Computed.{countBelow}
-use Rattle.selection.proofs.Counts.{count-most, row-counted}
+use Rattle.selection.proofs.Counts.{row-counted}
 use Rattle.selection.proofs.table.count_from.Statement.{statement}
 use Rattle.selection.proofs.table.count_from.Tie as tie
 
@@ -10,9 +11,6 @@ Inv-loop table start count total₀ row₀ total row = (row ≤ 16) × (total �
 
 abbrev μ-loop : tie.MeasureT-loop
 μ-loop table start count total₀ row₀ total row = 16 - row
-
-loop-holds : tie.Need-loop-holds Inv-loop μ-loop
-loop-holds c = (c .before .pre .1, c .before .pre .2)
 
 count-row-requires : tie.Need-count-row-requires Inv-loop μ-loop
 count-row-requires c κs = (c .before .before .before .before .pre .0, c .row-multiples .ensures .0)
@@ -31,5 +29,6 @@ returns c = let e : c .before .loop .row ≡ 16 = omega arith in c .before .loop
 
 pub count-from-spec : {M : Type 1} → statement M
 count-from-spec =
-    tie.close (tie.spec Inv-loop μ-loop loop-holds (λ c κs. omega arith) count-row-requires
-    (λ c. omega arith) add-total (λ c. omega arith) (λ c. omega arith) loop-again returns)
+    tie.close (tie.spec Inv-loop μ-loop (λ c. (c .before .pre .1, c .before .pre .2))
+    (λ c κs. omega arith) count-row-requires (λ c. omega arith) add-total (λ c. omega arith)
+    (λ c. omega arith) loop-again returns)

@@ -1,7 +1,7 @@
-use Rattle.laws.proofs.Basics.{ℕ, _+_, _≤_, _-_, ⊎-elim, _≡_, refl, sym, ap, _∙_, arith}
+use Rattle.laws.proofs.Basics.{ℕ, _+_, _≤_, _-_, ⊎-elim, _≡_, sym, ap, _∙_, arith}
+use Rattle.laws.specs.Counting.{countBelow}
+use Rattle.laws.proofs.Counting.{count-start, count-one, count-other, count-most}
 use Rattle.selection.specs.Allowed.{isBadIn}
-use Rattle.selection.specs.Computed.{countBelow}
-use Rattle.selection.proofs.Counts.{count-one, count-other, count-most}
 use Rattle.selection.proofs.table.count_row.Statement.{statement}
 use Rattle.selection.proofs.table.count_row.Tie as tie
 
@@ -10,10 +10,6 @@ Inv-loop table m count₀ c₀ count c = (c ≤ 128) × (count ≡ countBelow (i
 
 abbrev μ-loop : tie.MeasureT-loop
 μ-loop table m count₀ c₀ count c = 128 - c
-
-loop-holds : tie.Need-loop-holds Inv-loop μ-loop
-unfolding countBelow
-loop-holds c = (omega arith, refl)
 
 is-bad-requires : tie.Need-is-bad-requires Inv-loop μ-loop
 is-bad-requires c κs = (c .before .before .before .pre .0, c .before .before .before .pre .1, omega arith)
@@ -37,5 +33,5 @@ returns c = let e : c .before .loop .c ≡ 128 = omega arith in c .before .loop 
 
 pub count-row-spec : {M : Type 1} → statement M
 count-row-spec =
-    tie.close (tie.spec Inv-loop μ-loop loop-holds is-bad-requires add-count (λ c. omega arith)
-    (λ c. omega arith) loop-again returns)
+    tie.close (tie.spec Inv-loop μ-loop (λ c. (omega arith, sym (count-start _))) is-bad-requires
+    add-count (λ c. omega arith) (λ c. omega arith) loop-again returns)

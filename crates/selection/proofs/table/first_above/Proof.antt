@@ -1,8 +1,8 @@
 use Rattle.laws.proofs.Basics.{_≤_, _-_, _≡_, sym, _∙_, arith, lt-ltb, le-ltb}
 use Rattle.laws.proofs.Tests.{tests}
-use Rattle.selection.specs.Refusals.{firstFrom}
+use Rattle.laws.specs.Search.{firstFrom}
+use Rattle.laws.proofs.Search.{first-here, first-on, first-end}
 use Rattle.selection.specs.Allowed.{aboveFour}
-use Rattle.selection.proofs.Counts.{first-here, first-on, first-end}
 use Rattle.selection.proofs.table.first_above.Statement.{statement}
 use Rattle.selection.proofs.table.first_above.Tie as tie
 
@@ -11,9 +11,6 @@ Inv-loop table i₀ i = (i ≤ 2048) × (firstFrom (aboveFour table) 0 2048 ≡ 
 
 abbrev μ-loop : tie.MeasureT-loop
 μ-loop table i₀ i = 2048 - i
-
-returns : tie.Need-returns Inv-loop μ-loop
-returns c = sym (c .before .none-above .ensures .0 (c .if1 .taken))
 
 returns-2 : tie.Need-returns-2 Inv-loop μ-loop
 returns-2 c = sym (c .before .before .before .loop .inv .1 ∙ first-here _ _ 2048 (omega arith) (lt-ltb _ _ (c .if2 .taken)))
@@ -26,5 +23,6 @@ returns-3 c = let e : c .before .loop .i ≡ 2048 = omega arith in sym (c .befor
 
 pub first-above-spec : {M : Type 1} → statement M
 first-above-spec =
-    tie.close (tie.spec Inv-loop μ-loop (λ c κs. c .before .pre) returns (λ c. search tests)
+    tie.close (tie.spec Inv-loop μ-loop (λ c κs. c .before .pre)
+    (λ c. sym (c .before .none-above .ensures .0 (c .if1 .taken))) (λ c. search tests)
     (λ c. omega arith) returns-2 (λ c. omega arith) (λ c. omega arith) loop-again returns-3)

@@ -1,7 +1,7 @@
 use Rattle.laws.proofs.Basics.{_≤_, _<_, _-_, _≡_, refl, sym, subst, _∙_, Bool, true, false, ⊎-elim, T, arith, lt-ltb, le-ltb}
-use Rattle.selection.specs.Refusals.{firstFrom}
+use Rattle.laws.specs.Search.{firstFrom}
+use Rattle.laws.proofs.Search.{first-on, first-end, first-seen}
 use Rattle.selection.specs.Allowed.{aboveFour}
-use Rattle.selection.proofs.Counts.{first-on, first-end, first-seen}
 use Rattle.selection.proofs.table.none_above.Statement.{statement}
 use Rattle.selection.proofs.table.none_above.Tie as tie
 

@@ -1,14 +1,15 @@
 -- `next` meets its contract: the trial is taken off exactly where it fits.
 use Rattle.laws.proofs.Basics.{refl, ℕ, _^_, _≤_, arith, ltb, needs}
-use Rattle.division.proofs.RoundedResults.{cond-in}
+use Rattle.laws.proofs.Tests.{cond-in}
 use Rattle.division.proofs.RootDigits.{one-more}
 use Rattle.division.proofs.root.RootState.next.Statement.{statement}
 use Rattle.division.proofs.root.RootState.next.Tie as tie
 
 add-t8 : tie.Need-add-t8
 add-t8 c =
-    let u = c .before .before .before .before .before .before .args .self .unit in
-    omega (arith, c .before .chosen .ensures, cond-in (λ (z : ℕ). z ≤ u) (ltb (c .before .before .wrapping-sub-u64 .result) (2 ^ 63)) {x = u} {y = 0} (omega arith) (omega arith))
+    let trial = c .before .before in
+    let u = trial .before .before .before .before .args .self .unit in
+    omega (arith, c .before .chosen .ensures, cond-in (λ (z : ℕ). z ≤ u) (ltb (trial .wrapping-sub-u64 .result) (2 ^ 63)) {x = u} {y = 0} (omega arith) (omega arith))
 
 returns : tie.Need-returns
 returns c m k d = one-more m k _ _ _ _ _ d refl (omega arith) (c .before .before .before .wrapping-sub-u64 .ensures) (c .before .before .chosen .ensures) (c .chosen2 .ensures)

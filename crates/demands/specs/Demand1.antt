@@ -1,0 +1,159 @@
+-- Demand 1: each call refuses exactly under the conditions of document 01's "Who sends bad input" and of document 02's requests, in their order; a refused answer is its
+-- number, its place and zeros, and a lent buffer keeps its contents. (That every call finishes is the language's own promise.)
+use mathlib.Core.Path.{_≡_}
+use mathlib.Core.Bool.{Bool}
+use mathlib.Core.List.{List, [], _∷_, _++_}
+use mathlib.Core.Logic.{_⊎_}
+use Prim.Native.Nat.{ℕ, _+_, _-_, _*_, _/_, _%_, _^_, _≤_, _<_}
+use lib.IntN.{pos, negℤ, _*ℤ_}
+use lib.ListN.{length, getD}
+use lib.Signed.{_<ℤ_}
+use Rattle.laws.specs.Counting.{Tally}
+use Rattle.selection.specs.Answer.{refusal, refusalOf, cellNumbers, cellZeros, reportNumbers, reportZeros}
+use Rattle.selection.specs.declared.Refusal.{Refusal}
+use Rattle.selection.specs.declared.numbers.ReportNumbers.{ReportNumbers}
+use Rattle.selection.specs.Refusals.{Wrongs, firstRefusal, rank, FirstRefusal, RefusedBy, Refuses, RefusesLent}
+use Rattle.selection.specs.Cell.{LeastWitness, cellRules, digit}
+use Rattle.selection.specs.Maker.{limitsRules, limitsZeros, makeRules}
+use Rattle.selection.specs.Table.{BadAt, tableRules}
+use Rattle.selection.specs.Computed.{cellOf, rowLimitsOf, makeOf, madeBuffer, madeTable, reportOf, repairOf, repairedOf, changedOf}
+use Rattle.selection.specs.Repair.{repairRules, repairZeros}
+use Rattle.recurrence.specs.Recurrence.{Operands}
+use Rattle.selection.specs.Word.{signed}
+use Rattle.recurrence.specs.Run.{runRules, runZeros, runOf, bufferOf}
+use Rattle.recurrence.specs.Step.{stepRules, stepZeros, stepOf}
+use Rattle.recurrence.specs.Visits.{visitsRules, visitsAnswer, visitsLeft}
+use Rattle.division.specs.Whole.{wholeRules, wholeZeros, wholeOf}
+use Rattle.division.specs.Binary64.{binary64Of}
+use Rattle.division.specs.Rounding.{directionRules}
+use Rattle.division.specs.Format.{binary64Zeros}
+use Rattle.division.specs.Samples.{samplesRules, samplesZeros, samplesOf, concentrationsOf}
+use Rattle.division.specs.Packed.{packedNumber, Decimal, packedRules, packedZeros, packedOf}
+use Rattle.division.specs.Ratios.{ratiosRules, comparisonZeros, comparisonNumbers, comparedOf}
+use Rattle.division.specs.RootCalls.{rootRules, rootZeros, rootWholeOf, rootBinary64Of}
+use Rattle.exposure.specs.Averages.{averagesRules}
+use Rattle.exposure.specs.Computed.{averagesOf, meansOf, remaindersOf}
+
+-- what the check's refusal 10 at the place p carries: the number of bad cells, the first of them, its witness
+pub record Carries (t : List ℕ) (p : ℕ) (x : ReportNumbers) : Type 0 where
+  pub count : Tally (BadAt t) 2048 (x .count)
+  pub cell : 128 * x .row + x .column ≡ p
+  pub witness : LeastWitness (x .row) (x .column) (digit (getD t p 0)) (x .divisor) (x .remainder)
+
+-- the check: zeros besides under 8 and 9
+pub record CheckRefuses (t : List ℕ) (x : ReportNumbers) : Type 0 where
+  pub by : RefusedBy (Wrongs (tableRules t)) (x .refusal)
+  pub besides : (n p : ℕ) → n < 10 → FirstRefusal (Wrongs (tableRules t)) n p → x ≡ reportZeros (refusal n p)
+  pub carries : (p : ℕ) → FirstRefusal (Wrongs (tableRules t)) 10 p → Carries t p x
+
+-- a run, and its buffer
+abbrev pub RunRefuses : (ℕ → ℕ → Type 0) → List ℕ → ℕ → ℕ → ℕ → List ℕ → ℕ → Type 0
+RunRefuses C t N D n b place = RefusesLent C (λ x. x .refusal) runZeros (runOf t N D n b place) b (bufferOf t N D n b place)
+
+-- the caller's conditions once more, in numbers: where one holds and none before it, the call refuses so, whatever else it is handed; and of row limits, the maker, the repair,
+-- ratios and the averages, where none holds, that nothing is refused (of the other calls demands 2 and 3, `StepDemand`, `VisitsDemand`, `PackedDemand` and `RootDemand` say it)
+pub record Conditions : Type 0 where
+  pub row-column : (r c b : ℕ) → (15 < r) ⊎ (127 < c) → cellNumbers (cellOf r c b) ≡ cellZeros (refusal 1 0)
+  pub byte : (r c b : ℕ) → r ≤ 15 → c ≤ 127 → 4 < b → cellNumbers (cellOf r c b) ≡ cellZeros (refusal 9 (128 * r + c))
+  pub row : (r : ℕ) → 15 < r → rowLimitsOf r ≡ limitsZeros (refusal 1 0)
+  pub row-told : (r : ℕ) → r ≤ 15 → rowLimitsOf r .refusal ≡ refusal 0 0
+  pub room : (s : List ℕ) → length s < 2048 → makeOf s ≡ refusal 7 0
+  pub room-told : (s : List ℕ) → 2048 ≤ length s → makeOf s ≡ refusal 0 0
+  pub repair-room : (t rs cs : List ℕ) → (length rs < 2048) ⊎ (length cs < 2048) → repairOf t rs cs ≡ repairZeros (refusal 7 0)
+  pub repair-length : (t rs cs : List ℕ) → 2048 ≤ length rs → 2048 ≤ length cs → (length t ≡ 2048 → ⊥) → repairOf t rs cs ≡ repairZeros (refusal 8 0)
+  pub repair-told : (t rs cs : List ℕ) → length t ≡ 2048 → 2048 ≤ length rs → 2048 ≤ length cs → repairOf t rs cs .refusal ≡ refusal 0 0
+  pub digits : (t : List ℕ) (N D n : ℕ) (b : List ℕ) (place : ℕ) → (n ≡ 0) ⊎ (28 < n) → runOf t N D n b place ≡ runZeros (refusal 2 0)
+  pub operands : (t : List ℕ) (N D n : ℕ) (b : List ℕ) (place : ℕ) → 1 ≤ n → n ≤ 28 → (D < 2 ^ 60) ⊎ ((2 ^ 61 ≤ D) ⊎ (2 ^ 61 ≤ N)) → runOf t N D n b place ≡ runZeros (refusal 3 0)
+  pub buffer : (t : List ℕ) (N D n : ℕ) (b : List ℕ) (place : ℕ) → Operands N D → 1 ≤ n → n ≤ 28 → length b < place + n → runOf t N D n b place ≡ runZeros (refusal 7 0)
+  pub step-divisor : (s k D : ℕ) (t : List ℕ) → (D < 2 ^ 60) ⊎ (2 ^ 61 ≤ D) → stepOf s k D t ≡ stepZeros (refusal 3 0)
+  pub step-range : (s k D : ℕ) (t : List ℕ) → 2 ^ 60 ≤ D → D < 2 ^ 61
+      → ((pos 3 *ℤ signed (s + k)) <ℤ (negℤ (pos (8 * D)))) ⊎ ((pos (8 * D)) <ℤ (pos 3 *ℤ signed (s + k))) → stepOf s k D t ≡ stepZeros (refusal 14 0)
+  pub visits-digits : (t : List ℕ) (k n : ℕ) (v : List ℕ) → (n ≡ 0) ⊎ (28 < n) → visitsAnswer t k n v ≡ refusal 2 0
+  pub visits-bits : (t : List ℕ) (k n : ℕ) (v : List ℕ) → 1 ≤ n → n ≤ 28 → (k ≡ 0) ⊎ (6 < k) → visitsAnswer t k n v ≡ refusal 16 0
+  pub visits-room : (t : List ℕ) (k n : ℕ) (v : List ℕ) → 1 ≤ n → n ≤ 28 → 1 ≤ k → k ≤ 6 → length v < 2048 → visitsAnswer t k n v ≡ refusal 7 0
+  pub large : (t : List ℕ) (a b : ℕ) → (2 ^ 60 ≤ a) ⊎ (2 ^ 60 ≤ b) → wholeOf t a b ≡ wholeZeros (refusal 4 0)
+  pub by-zero : (t : List ℕ) (a : ℕ) → a < 2 ^ 60 → wholeOf t a 0 ≡ wholeZeros (refusal 5 0)
+  pub direction : (t : List ℕ) (d a b : ℕ) → 3 < d → binary64Of t d a b ≡ binary64Zeros (refusal 6 0)
+  pub samples-direction : (t : List ℕ) (d : ℕ) (currents sensitivities given : List ℕ) → 3 < d → samplesOf t d currents sensitivities given ≡ samplesZeros (refusal 6 0)
+  pub samples-lengths : (t : List ℕ) (d : ℕ) (currents sensitivities given : List ℕ) → d ≤ 3 → (length currents ≡ length sensitivities → ⊥) → samplesOf t d currents sensitivities given ≡ samplesZeros (refusal 11 0)
+  pub samples-room : (t : List ℕ) (d : ℕ) (currents sensitivities given : List ℕ) → d ≤ 3 → length currents ≡ length sensitivities → length given < length currents → samplesOf t d currents sensitivities given ≡ samplesZeros (refusal 7 0)
+  pub packed-dividend : (xs ys : List ℕ) (p : ℕ) → p < 8 → (9 < getD xs p 0 / 16) ⊎ (9 < getD xs p 0 % 16) → ((i : ℕ) → i < p → (9 < getD xs i 0 / 16) ⊎ (9 < getD xs i 0 % 16) → ⊥)
+      → packedOf xs ys ≡ packedZeros (refusal 15 p)
+  pub packed-divisor : (xs ys : List ℕ) (p : ℕ) → Decimal xs → p < 8 → (9 < getD ys p 0 / 16) ⊎ (9 < getD ys p 0 % 16) → ((i : ℕ) → i < p → (9 < getD ys i 0 / 16) ⊎ (9 < getD ys i 0 % 16) → ⊥)
+      → packedOf xs ys ≡ packedZeros (refusal 15 (p + 8))
+  pub packed-by-zero : (xs ys : List ℕ) → Decimal xs → Decimal ys → packedNumber ys ≡ 0 → packedOf xs ys ≡ packedZeros (refusal 5 0)
+  pub ratio-large : (a b c d : ℕ) → (2 ^ 60 ≤ a) ⊎ ((2 ^ 60 ≤ b) ⊎ ((2 ^ 60 ≤ c) ⊎ (2 ^ 60 ≤ d))) → comparisonNumbers (comparedOf a b c d) ≡ comparisonZeros (refusal 4 0)
+  pub ratio-by-zero : (a b c d : ℕ) → a < 2 ^ 60 → b < 2 ^ 60 → c < 2 ^ 60 → d < 2 ^ 60 → (b ≡ 0) ⊎ (d ≡ 0) → comparisonNumbers (comparedOf a b c d) ≡ comparisonZeros (refusal 5 0)
+  pub ratio-told : (a b c d : ℕ) → a < 2 ^ 60 → b < 2 ^ 60 → c < 2 ^ 60 → d < 2 ^ 60 → 0 < b → 0 < d → comparisonNumbers (comparedOf a b c d) .refusal ≡ refusal 0 0
+  pub root-large : (a : ℕ) → 2 ^ 60 ≤ a → rootWholeOf a ≡ rootZeros (refusal 4 0)
+  pub root-direction : (d p : ℕ) → 3 < d → rootBinary64Of d p ≡ binary64Zeros (refusal 6 0)
+  pub averages-width : (xs : List ℕ) (w : ℕ) (ms rs : List ℕ) → (w ≡ 0) ⊎ ((4096 < w) ⊎ (length xs < w)) → averagesOf xs w ms rs ≡ refusal 12 0
+  pub averages-reading : (xs : List ℕ) (w : ℕ) (ms rs : List ℕ) (p : ℕ) → 1 ≤ w → w ≤ 4096 → w ≤ length xs → p < length xs → 2 ^ 40 ≤ getD xs p 0 → ((i : ℕ) → i < p → getD xs i 0 < 2 ^ 40)
+      → averagesOf xs w ms rs ≡ refusal 13 p
+  pub averages-room : (xs : List ℕ) (w : ℕ) (ms rs : List ℕ) → 1 ≤ w → w ≤ 4096 → w ≤ length xs → ((i : ℕ) → i < length xs → getD xs i 0 < 2 ^ 40)
+      → (length ms < length xs - w + 1) ⊎ (length rs < length xs - w + 1) → averagesOf xs w ms rs ≡ refusal 7 0
+  -- down to lists that just fit
+  pub averages-told : (xs : List ℕ) (w : ℕ) (ms rs : List ℕ) → 1 ≤ w → w ≤ 4096 → w ≤ length xs → ((i : ℕ) → i < length xs → getD xs i 0 < 2 ^ 40)
+      → length xs - w + 1 ≤ length ms → length xs - w + 1 ≤ length rs → averagesOf xs w ms rs ≡ refusal 0 0
+  -- where something is refused no word of either list changes
+  pub averages-kept : (xs : List ℕ) (w : ℕ) (newestFirst : Bool) (ms rs : List ℕ) → (averagesOf xs w ms rs ≡ refusal 0 0 → ⊥)
+      → (meansOf xs w newestFirst ms rs ≡ ms) × (remaindersOf xs w newestFirst ms rs ≡ rs)
+
+-- the zeros beside a refusal, in numbers; the maker, the visits and the averages answer a number and a place, and nothing besides
+pub record ZerosBesides : Type 0 where
+  pub number-and-place : (n p : ℕ) → refusal n p ≡ record { number = n; place = p }
+  pub cell : (f : Refusal) → cellZeros f ≡ record { refusal = f; allowed = 0; divisor = 0; remainder = pos 0 }
+  pub report : (f : Refusal) → reportZeros f ≡ record { refusal = f; count = 0; row = 0; column = 0; divisor = 0; remainder = pos 0 }
+  pub limits : (f : Refusal) → limitsZeros f ≡ record { refusal = f; limits = 0 ∷ 0 ∷ 0 ∷ 0 ∷ 0 ∷ 0 ∷ [] }
+  pub run : (f : Refusal) → runZeros f ≡ record { refusal = f; quotient = 0; remainder = 0; digits = 0 }
+  pub step : (f : Refusal) → stepZeros f ≡ record { refusal = f; digit = pos 0; sum = 0; carry = 0 }
+  pub packed : (f : Refusal) → packedZeros f ≡ record { refusal = f; quotient = 0 ∷ 0 ∷ 0 ∷ 0 ∷ 0 ∷ 0 ∷ 0 ∷ 0 ∷ []; remainder = 0 ∷ 0 ∷ 0 ∷ 0 ∷ 0 ∷ 0 ∷ 0 ∷ 0 ∷ [] }
+  pub repair : (f : Refusal) → repairZeros f ≡ record { refusal = f; count = 0 }
+  pub comparison : (f : Refusal) → comparisonZeros f ≡ record { refusal = f; order = pos 0 }
+  pub whole : (f : Refusal) → wholeZeros f ≡ record { refusal = f; quotient = 0; remainder = 0 }
+  pub binary64 : (f : Refusal) → binary64Zeros f ≡ record { refusal = f; pattern = 0; flags = 0 }
+  pub samples : (f : Refusal) → samplesZeros f ≡ record { refusal = f; flags = 0; count = 0 }
+  pub root : (f : Refusal) → rootZeros f ≡ record { refusal = f; root = 0; remainder = 0 }
+
+pub record Demand1 : Type 0 where
+  pub zeros : ZerosBesides
+  -- the order is that of the numbers, from 1 to 10; 11 comes after 6 and before 7, 12 before 13 and that before 7, 14 after 3 and before 8, 15 before 5, 16 after 2 and before 7
+  pub order : (m n : ℕ) → m < n → n < 10 → rank (m + 1) < rank (n + 1)
+  pub order-11 : (rank 6 < rank 11) × (rank 11 < rank 7)
+  pub order-12 : (rank 12 < rank 13) × (rank 13 < rank 7)
+  pub order-14 : (rank 3 < rank 14) × (rank 14 < rank 8)
+  pub order-15 : rank 15 < rank 5
+  pub order-16 : (rank 2 < rank 16) × (rank 16 < rank 7)
+  pub conditions : Conditions
+  pub check-cell : (r c b : ℕ) → Refuses (Wrongs (cellRules r c b)) (λ x. x .refusal) cellZeros (cellNumbers (cellOf r c b))
+  pub row-limits : (r : ℕ) → Refuses (Wrongs (limitsRules r)) (λ x. x .refusal) limitsZeros (rowLimitsOf r)
+  pub make-table : (s : List ℕ) → RefusedBy (Wrongs (makeRules (length s))) (makeOf s)
+  pub make-buffer : (s : List ℕ) (n p : ℕ) → FirstRefusal (Wrongs (makeRules (length s))) n p → madeBuffer s ≡ s
+  pub repair : (t rs cs : List ℕ) → Refuses (Wrongs (repairRules (length t) (length rs) (length cs))) (λ x. x .refusal) repairZeros (repairOf t rs cs)
+  pub repair-buffers : (t rs cs : List ℕ) (n p : ℕ) → FirstRefusal (Wrongs (repairRules (length t) (length rs) (length cs))) n p → (repairedOf t rs cs ≡ rs) × (changedOf t rs cs ≡ cs)
+  pub check-table : (t : List ℕ) → CheckRefuses t (reportNumbers (reportOf t))
+  -- what the calls below make of a table that they are lent
+  pub admit : (t : List ℕ) → RefusedBy (Wrongs (tableRules t)) (refusalOf (firstRefusal (tableRules t)))
+  pub run : (t : List ℕ) (N D n : ℕ) (b : List ℕ) (place : ℕ) → RunRefuses (Wrongs (runRules N D n (length b) place ++ tableRules t)) t N D n b place
+  pub step : (s k D : ℕ) (t : List ℕ) → Refuses (Wrongs (stepRules s k D ++ tableRules t)) (λ x. x .refusal) stepZeros (stepOf s k D t)
+  pub visits : (t : List ℕ) (k n : ℕ) (v : List ℕ) → RefusedBy (Wrongs (visitsRules k n (length v) ++ tableRules t)) (visitsAnswer t k n v)
+  pub visits-list : (t : List ℕ) (k n : ℕ) (v : List ℕ) (m p : ℕ) → FirstRefusal (Wrongs (visitsRules k n (length v) ++ tableRules t)) m p → visitsLeft t k n v ≡ v
+  pub whole : (t : List ℕ) (a b : ℕ) → Refuses (Wrongs (wholeRules a b ++ tableRules t)) (λ x. x .refusal) wholeZeros (wholeOf t a b)
+  pub binary64 : (t : List ℕ) (direction a b : ℕ) → Refuses (Wrongs (directionRules direction ++ tableRules t)) (λ x. x .refusal) binary64Zeros (binary64Of t direction a b)
+  pub samples : (t : List ℕ) (direction : ℕ) (currents sensitivities given : List ℕ)
+      → RefusesLent (Wrongs (samplesRules direction (length currents) (length sensitivities) (length given) ++ tableRules t)) (λ x. x .refusal) samplesZeros (samplesOf t direction currents sensitivities given) given (concentrationsOf t direction currents sensitivities given)
+  -- over the kept table no table is refused
+  pub run-kept : (N D n : ℕ) (b : List ℕ) (place : ℕ) → RunRefuses (Wrongs (runRules N D n (length b) place)) madeTable N D n b place
+  pub whole-kept : (a b : ℕ) → Refuses (Wrongs (wholeRules a b)) (λ x. x .refusal) wholeZeros (wholeOf madeTable a b)
+  pub binary64-kept : (direction a b : ℕ) → Refuses (Wrongs (directionRules direction)) (λ x. x .refusal) binary64Zeros (binary64Of madeTable direction a b)
+  -- packed numbers are divided over the kept table
+  pub packed : (xs ys : List ℕ) → Refuses (Wrongs (packedRules xs ys)) (λ x. x .refusal) packedZeros (packedOf xs ys)
+  -- ratios are compared over the kept table
+  pub compare-ratios : (a b c d : ℕ) → Refuses (Wrongs (ratiosRules a b c d)) (λ x. x .refusal) comparisonZeros (comparisonNumbers (comparedOf a b c d))
+  -- roots use no table
+  pub root-whole : (a : ℕ) → Refuses (Wrongs (rootRules a)) (λ x. x .refusal) rootZeros (rootWholeOf a)
+  pub root-binary64 : (direction p : ℕ) → Refuses (Wrongs (directionRules direction)) (λ x. x .refusal) binary64Zeros (rootBinary64Of direction p)
+  -- averages are divided over the kept table, and their direction has no part in what is refused
+  pub averages : (xs : List ℕ) (w : ℕ) (ms rs : List ℕ) → RefusedBy (Wrongs (averagesRules xs w (length ms) (length rs))) (averagesOf xs w ms rs)
+  pub averages-lists : (xs : List ℕ) (w : ℕ) (newestFirst : Bool) (ms rs : List ℕ) (n p : ℕ) → FirstRefusal (Wrongs (averagesRules xs w (length ms) (length rs))) n p
+      → (meansOf xs w newestFirst ms rs ≡ ms) × (remaindersOf xs w newestFirst ms rs ≡ rs)

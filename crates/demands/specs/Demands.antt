@@ -1,0 +1,50 @@
+-- What the unit promises, whole: each statement under the name of its theorem. Those that speak of one layer alone are stated in that layer's crate.
+use mathlib.Core.List.{List}
+use Prim.Native.Nat.{ℕ}
+use Rattle.selection.specs.Maker.{MadeTable}
+use Rattle.selection.specs.Computed.{madeTable}
+use Rattle.selection.specs.RepairDemand.{RepairDemand}
+use Rattle.selection.specs.Burned.{BurnedTables}
+use Rattle.recurrence.specs.OnTheFly.{PairDemand, PairExample}
+use Rattle.recurrence.specs.StepDemand.{StepDemand, StepExample}
+use Rattle.recurrence.specs.Visits.{VisitsDemand, VisitsExample}
+use Rattle.division.specs.WholeDigits.{WholeDigits}
+use Rattle.ieee.specs.Ieee754.{Ieee754}
+use Rattle.ieee.specs.RootOrder.{RootOrder}
+use Rattle.demands.specs.Demand1.{Demand1}
+use Rattle.demands.specs.Demand2.{Demand2}
+use Rattle.demands.specs.Demand3.{Demand3}
+use Rattle.demands.specs.RootDemand.{RootDemand}
+use Rattle.demands.specs.PackedDemand.{PackedDemand}
+use Rattle.demands.specs.RatioDemand.{RatioDemand}
+use Rattle.demands.specs.AveragesDemand.{AveragesDemand, ReversalDemand, AveragesExample}
+use Rattle.demands.specs.BenchCases.{BenchCases}
+use Rattle.demands.specs.RootExamples.{RootExamples}
+use Rattle.demands.specs.FlagExamples.{FlagExamples}
+
+pub record Demands : Type 0 where
+  pub demand-1 : Demand1
+  pub demand-2 : Demand2
+  pub demand-3 : Demand3
+  pub root-demand : RootDemand
+  pub packed-demand : PackedDemand
+  pub ratio-demand : RatioDemand
+  pub averages-demand : AveragesDemand
+  pub reversal-demand : ReversalDemand
+  pub repair-demand : RepairDemand
+  pub burned-tables : BurnedTables
+  pub pair-demand : PairDemand
+  pub step-demand : StepDemand
+  pub visits-demand : VisitsDemand
+  pub whole-digits : WholeDigits
+  pub ieee-754 : Ieee754
+  pub root-ordered : RootOrder
+  -- worked in numbers
+  pub made-table-is : MadeTable madeTable
+  pub bench-cases : (t : List ℕ) → MadeTable t → BenchCases t
+  pub root-examples : RootExamples
+  pub flag-examples : FlagExamples
+  pub averages-example : AveragesExample
+  pub pair-example : PairExample
+  pub step-example : StepExample
+  pub visits-example : VisitsExample

@@ -1,0 +1,11 @@
+pub mod Demand1
+pub mod Demand2
+pub mod Demand3
+pub mod RootDemand
+pub mod PackedDemand
+pub mod RatioDemand
+pub mod AveragesDemand
+pub mod BenchCases
+pub mod RootExamples
+pub mod FlagExamples
+pub mod Demands

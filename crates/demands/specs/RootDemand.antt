@@ -1,0 +1,31 @@
+-- Roots are right: document 02, "Square roots". What they refuse is said in demand 1.
+use mathlib.Core.Path.{_≡_}
+use mathlib.Core.Bool.{false}
+use Prim.Native.Nat.{ℕ, _+_, _-_, _*_, _^_, _≤_, _<_}
+use Rattle.selection.specs.Answer.{refusal}
+use Rattle.division.specs.Format.{negative, IsNonzero}
+use Rattle.division.specs.Roots.{IeeeRoot, RootPlain}
+use Rattle.division.specs.RootCalls.{rootWholeOf, rootBinary64Of}
+use Rattle.division.specs.declared.format.Binary64Result.{Binary64Result}
+use Rattle.division.specs.declared.format.Binary64Answer.{Binary64Answer}
+use Rattle.division.specs.declared.root.RootAnswer.{RootAnswer}
+
+-- the answer is no refusal; s·s ≤ a < (s + 1)·(s + 1) for its root s and for no other, and the remainder is a − s·s
+pub record RootsWhole (a : ℕ) (x : RootAnswer) : Type 0 where
+  pub done : x .refusal ≡ refusal 0 0
+  pub under : x .root * x .root ≤ a
+  pub next : a < (x .root + 1) * (x .root + 1)
+  pub remainder : x .remainder ≡ a - x .root * x .root
+  pub only : (s : ℕ) → s * s ≤ a → a < (s + 1) * (s + 1) → s ≡ x .root
+
+-- the answer is no refusal; its pattern and flags are the root of p, and there are no others; of a number above 0 they are plain
+pub record RootsBinary64 (direction p : ℕ) (x : Binary64Answer) : Type 0 where
+  pub done : x .refusal ≡ refusal 0 0
+  pub meaning : IeeeRoot direction p (record { pattern = x .pattern; flags = x .flags })
+  pub only : (y : Binary64Result) → IeeeRoot direction p y → y ≡ record { pattern = x .pattern; flags = x .flags }
+  pub plain : negative p ≡ false → IsNonzero p → RootPlain p (record { pattern = x .pattern; flags = x .flags })
+
+-- for all operands that no refusal names: 4; 6
+pub record RootDemand : Type 0 where
+  pub whole : (a : ℕ) → a < 2 ^ 60 → RootsWhole a (rootWholeOf a)
+  pub binary64 : (direction p : ℕ) → direction ≤ 3 → RootsBinary64 direction p (rootBinary64Of direction p)
