@@ -25,6 +25,8 @@ use Rattle.division.specs.RootCalls.{rootRules, rootZeros}
 use Rattle.division.proofs.Calls.{whole-lent, binary64-rules, binary64-lent}
 use Rattle.division.proofs.SampleRuns.{samples-lent}
 use Rattle.division.proofs.RootCalls.{root-rules}
+use Rattle.division.proofs.Rechecking.{recheck-pairs, recheck-room, recheck-length, recheck-told}
+use Rattle.division.proofs.RecheckingWhole.{recheck-large, recheck-by-zero, recheck-whole-length, recheck-whole-told}
 use Rattle.division.proofs.PackedCalls.{packed-dividend, packed-divisor, packed-by-zero}
 use Rattle.division.proofs.RatioCalls.{ratios-rules, ratios-by, ratios-told}
 use Rattle.exposure.specs.Averages.{averagesRules}
@@ -64,6 +66,14 @@ conditions = record {
   samples-direction = λ t d xs ys given h. ap (answerBy samplesZeros _) (refused-at (samples-lent d (length xs) (length ys) (length given) t) 0 0 (refl, h));
   samples-lengths = λ t d xs ys given l h. ap (answerBy samplesZeros _) (refused-at (samples-lent d (length xs) (length ys) (length given) t) 1 0 (l, (refl, h)));
   samples-room = λ t d xs ys given l e h. ap (answerBy samplesZeros _) (refused-at (samples-lent d (length xs) (length ys) (length given) t) 2 0 (l, (e, (refl, h))));
+  recheck-lengths = recheck-pairs;
+  recheck-room = recheck-room;
+  recheck-length = recheck-length;
+  recheck-told = recheck-told;
+  recheck-large = recheck-large;
+  recheck-by-zero = recheck-by-zero;
+  recheck-whole-length = recheck-whole-length;
+  recheck-whole-told = recheck-whole-told;
   packed-dividend = packed-dividend;
   packed-divisor = packed-divisor;
   packed-by-zero = packed-by-zero;

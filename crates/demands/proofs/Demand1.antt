@@ -32,6 +32,8 @@ use Rattle.demands.specs.Demand1.{Carries, CheckRefuses, RunRefuses, Zer
 use Rattle.demands.proofs.Conditions.{conditions}
 use Rattle.division.proofs.Calls.{whole-rules, whole-lent, binary64-rules, binary64-lent}
 use Rattle.division.proofs.SampleRuns.{samples-lent}
+use Rattle.division.proofs.Rechecking.{rechecks-right}
+use Rattle.division.proofs.RecheckingWhole.{whole-rechecks-right}
 use Rattle.division.proofs.PackedCalls.{packed-refuses}
 use Rattle.division.proofs.RatioCalls.{ratios-refuse}
 use Rattle.division.proofs.RootCalls.{root-rules}
@@ -99,6 +101,8 @@ zeros-besides = record {
   step = λ f. refl;
   packed = λ f. refl;
   repair = λ f. refl;
+  recheck = λ f. refl;
+  recheck-whole = λ f. refl;
   comparison = λ f. refl;
   whole = λ f. refl;
   binary64 = λ f. refl;
@@ -134,6 +138,8 @@ demand-1 =
       samples = λ t direction currents sensitivities given.
           refuses-lent (samples-lent direction (length currents) (length sensitivities) (length given) t) (λ x. x .refusal) samplesZeros
           (samplesValues (flagsThrough t direction currents sensitivities (length currents)) (length currents)) given (filledThrough t direction currents sensitivities (length currents) given) refl (λ f. refl) refl;
+      recheck = λ t currents sensitivities given. let r = rechecks-right t currents sensitivities given in record { answer = r .refuses; kept = r .keeps };
+      recheck-whole = λ t a b. whole-rechecks-right t a b .refuses;
       run-kept = λ N D n b place. run-refuses N D n b place madeTable (run-rules N D n (length b) place) (passed-last kept-passes (runRules N D n (length b) place));
       whole-kept = λ a b. refuses (whole-rules a b) (λ x. x .refusal) wholeZeros (wholeValues (wholeThrough madeTable a b)) refl (λ f. refl) (passed-last kept-passes (wholeRules a b));
       binary64-kept = λ direction a b. refuses (binary64-rules direction) (λ x. x .refusal) binary64Zeros (binary64Values (binary64Through madeTable direction a b)) refl (λ f. refl) (passed-last kept-passes (directionRules direction));

@@ -15,6 +15,7 @@ use Rattle.demands.proofs.Demand3.{demand-3}
 use Rattle.demands.proofs.RootDemand.{root-demand}
 use Rattle.demands.proofs.PackedDemand.{packed-demand}
 use Rattle.demands.proofs.RatioDemand.{ratio-demand}
+use Rattle.demands.proofs.RecheckDemand.{recheck-demand}
 use Rattle.demands.proofs.Reversal.{reversal-demand}
 use Rattle.demands.proofs.AveragesDemand.{averages-demand, averages-example}
 use Rattle.demands.proofs.BenchCases.{bench-cases}
@@ -32,6 +33,7 @@ demands = record {
   averages-demand = averages-demand;
   reversal-demand = reversal-demand;
   repair-demand = repair-demand;
+  recheck-demand = recheck-demand;
   burned-tables = burned-tables;
   pair-demand = pair-demand;
   step-demand = step-demand;

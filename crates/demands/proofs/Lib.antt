@@ -5,6 +5,7 @@ pub mod Demand3
 pub mod RootDemand
 pub mod PackedDemand
 pub mod RatioDemand
+pub mod RecheckDemand
 pub mod Reversal
 pub mod AveragesDemand
 pub mod BenchCases

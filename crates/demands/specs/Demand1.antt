@@ -28,6 +28,8 @@ use Rattle.division.specs.Binary64.{binary64Of}
 use Rattle.division.specs.Rounding.{directionRules}
 use Rattle.division.specs.Format.{binary64Zeros}
 use Rattle.division.specs.Samples.{samplesRules, samplesZeros, samplesOf, concentrationsOf}
+use Rattle.division.specs.Recheck.{recheckRules, recheckZeros, recheckOf, affectedOf}
+use Rattle.division.specs.RecheckWhole.{recheckWholeRules, recheckWholeZeros, recheckWholeOf}
 use Rattle.division.specs.Packed.{packedNumber, Decimal, packedRules, packedZeros, packedOf}
 use Rattle.division.specs.Ratios.{ratiosRules, comparisonZeros, comparisonNumbers, comparedOf}
 use Rattle.division.specs.RootCalls.{rootRules, rootZeros, rootWholeOf, rootBinary64Of}
@@ -51,7 +53,7 @@ abbrev pub RunRefuses : (ℕ → ℕ → Type 0) → List ℕ → ℕ → ℕ �
 RunRefuses C t N D n b place = RefusesLent C (λ x. x .refusal) runZeros (runOf t N D n b place) b (bufferOf t N D n b place)
 
 -- the caller's conditions once more, in numbers: where one holds and none before it, the call refuses so, whatever else it is handed; and of row limits, the maker, the repair,
--- ratios and the averages, where none holds, that nothing is refused (of the other calls demands 2 and 3, `StepDemand`, `VisitsDemand`, `PackedDemand` and `RootDemand` say it)
+-- the recheck, ratios and the averages, where none holds, that nothing is refused (of the other calls demands 2 and 3, `StepDemand`, `VisitsDemand`, `PackedDemand` and `RootDemand` say it)
 pub record Conditions : Type 0 where
   pub row-column : (r c b : ℕ) → (15 < r) ⊎ (127 < c) → cellNumbers (cellOf r c b) ≡ cellZeros (refusal 1 0)
   pub byte : (r c b : ℕ) → r ≤ 15 → c ≤ 127 → 4 < b → cellNumbers (cellOf r c b) ≡ cellZeros (refusal 9 (128 * r + c))
@@ -77,6 +79,16 @@ pub record Conditions : Type 0 where
   pub samples-direction : (t : List ℕ) (d : ℕ) (currents sensitivities given : List ℕ) → 3 < d → samplesOf t d currents sensitivities given ≡ samplesZeros (refusal 6 0)
   pub samples-lengths : (t : List ℕ) (d : ℕ) (currents sensitivities given : List ℕ) → d ≤ 3 → (length currents ≡ length sensitivities → ⊥) → samplesOf t d currents sensitivities given ≡ samplesZeros (refusal 11 0)
   pub samples-room : (t : List ℕ) (d : ℕ) (currents sensitivities given : List ℕ) → d ≤ 3 → length currents ≡ length sensitivities → length given < length currents → samplesOf t d currents sensitivities given ≡ samplesZeros (refusal 7 0)
+  pub recheck-lengths : (t currents sensitivities given : List ℕ) → (length currents ≡ length sensitivities → ⊥) → recheckOf t currents sensitivities given ≡ recheckZeros (refusal 11 0)
+  pub recheck-room : (t currents sensitivities given : List ℕ) → length currents ≡ length sensitivities → length given < length currents → recheckOf t currents sensitivities given ≡ recheckZeros (refusal 7 0)
+  pub recheck-length : (t currents sensitivities given : List ℕ) → length currents ≡ length sensitivities → length currents ≤ length given → (length t ≡ 2048 → ⊥)
+      → recheckOf t currents sensitivities given ≡ recheckZeros (refusal 8 0)
+  pub recheck-told : (t currents sensitivities given : List ℕ) → length currents ≡ length sensitivities → length currents ≤ length given → length t ≡ 2048
+      → recheckOf t currents sensitivities given .refusal ≡ refusal 0 0
+  pub recheck-large : (t : List ℕ) (a b : ℕ) → (2 ^ 60 ≤ a) ⊎ (2 ^ 60 ≤ b) → recheckWholeOf t a b ≡ recheckWholeZeros (refusal 4 0)
+  pub recheck-by-zero : (t : List ℕ) (a b : ℕ) → a < 2 ^ 60 → b ≡ 0 → recheckWholeOf t a b ≡ recheckWholeZeros (refusal 5 0)
+  pub recheck-whole-length : (t : List ℕ) (a b : ℕ) → a < 2 ^ 60 → 0 < b → b < 2 ^ 60 → (length t ≡ 2048 → ⊥) → recheckWholeOf t a b ≡ recheckWholeZeros (refusal 8 0)
+  pub recheck-whole-told : (t : List ℕ) (a b : ℕ) → a < 2 ^ 60 → 0 < b → b < 2 ^ 60 → length t ≡ 2048 → recheckWholeOf t a b .refusal ≡ refusal 0 0
   pub packed-dividend : (xs ys : List ℕ) (p : ℕ) → p < 8 → (9 < getD xs p 0 / 16) ⊎ (9 < getD xs p 0 % 16) → ((i : ℕ) → i < p → (9 < getD xs i 0 / 16) ⊎ (9 < getD xs i 0 % 16) → ⊥)
       → packedOf xs ys ≡ packedZeros (refusal 15 p)
   pub packed-divisor : (xs ys : List ℕ) (p : ℕ) → Decimal xs → p < 8 → (9 < getD ys p 0 / 16) ⊎ (9 < getD ys p 0 % 16) → ((i : ℕ) → i < p → (9 < getD ys i 0 / 16) ⊎ (9 < getD ys i 0 % 16) → ⊥)
@@ -109,6 +121,8 @@ pub record ZerosBesides : Type 0 where
   pub step : (f : Refusal) → stepZeros f ≡ record { refusal = f; digit = pos 0; sum = 0; carry = 0 }
   pub packed : (f : Refusal) → packedZeros f ≡ record { refusal = f; quotient = 0 ∷ 0 ∷ 0 ∷ 0 ∷ 0 ∷ 0 ∷ 0 ∷ 0 ∷ []; remainder = 0 ∷ 0 ∷ 0 ∷ 0 ∷ 0 ∷ 0 ∷ 0 ∷ 0 ∷ [] }
   pub repair : (f : Refusal) → repairZeros f ≡ record { refusal = f; count = 0 }
+  pub recheck : (f : Refusal) → recheckZeros f ≡ record { refusal = f; count = 0 }
+  pub recheck-whole : (f : Refusal) → recheckWholeZeros f ≡ record { refusal = f; affected = 0 }
   pub comparison : (f : Refusal) → comparisonZeros f ≡ record { refusal = f; order = pos 0 }
   pub whole : (f : Refusal) → wholeZeros f ≡ record { refusal = f; quotient = 0; remainder = 0 }
   pub binary64 : (f : Refusal) → binary64Zeros f ≡ record { refusal = f; pattern = 0; flags = 0 }
@@ -142,6 +156,10 @@ pub record Demand1 : Type 0 where
   pub binary64 : (t : List ℕ) (direction a b : ℕ) → Refuses (Wrongs (directionRules direction ++ tableRules t)) (λ x. x .refusal) binary64Zeros (binary64Of t direction a b)
   pub samples : (t : List ℕ) (direction : ℕ) (currents sensitivities given : List ℕ)
       → RefusesLent (Wrongs (samplesRules direction (length currents) (length sensitivities) (length given) ++ tableRules t)) (λ x. x .refusal) samplesZeros (samplesOf t direction currents sensitivities given) given (concentrationsOf t direction currents sensitivities given)
+  -- a table as it was burned: no byte of it is refused
+  pub recheck : (t currents sensitivities given : List ℕ)
+      → RefusesLent (Wrongs (recheckRules (length t) (length currents) (length sensitivities) (length given))) (λ x. x .refusal) recheckZeros (recheckOf t currents sensitivities given) given (affectedOf t currents sensitivities given)
+  pub recheck-whole : (t : List ℕ) (a b : ℕ) → Refuses (Wrongs (recheckWholeRules (length t) a b)) (λ x. x .refusal) recheckWholeZeros (recheckWholeOf t a b)
   -- over the kept table no table is refused
   pub run-kept : (N D n : ℕ) (b : List ℕ) (place : ℕ) → RunRefuses (Wrongs (runRules N D n (length b) place)) madeTable N D n b place
   pub whole-kept : (a b : ℕ) → Refuses (Wrongs (wholeRules a b)) (λ x. x .refusal) wholeZeros (wholeOf madeTable a b)

@@ -17,6 +17,7 @@ use Rattle.demands.specs.Demand3.{Demand3}
 use Rattle.demands.specs.RootDemand.{RootDemand}
 use Rattle.demands.specs.PackedDemand.{PackedDemand}
 use Rattle.demands.specs.RatioDemand.{RatioDemand}
+use Rattle.demands.specs.RecheckDemand.{RecheckDemand}
 use Rattle.demands.specs.AveragesDemand.{AveragesDemand, ReversalDemand, AveragesExample}
 use Rattle.demands.specs.BenchCases.{BenchCases}
 use Rattle.demands.specs.RootExamples.{RootExamples}
@@ -32,6 +33,7 @@ pub record Demands : Type 0 where
   pub averages-demand : AveragesDemand
   pub reversal-demand : ReversalDemand
   pub repair-demand : RepairDemand
+  pub recheck-demand : RecheckDemand
   pub burned-tables : BurnedTables
   pub pair-demand : PairDemand
   pub step-demand : StepDemand

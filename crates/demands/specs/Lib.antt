@@ -4,6 +4,7 @@ pub mod Demand3
 pub mod RootDemand
 pub mod PackedDemand
 pub mod RatioDemand
+pub mod RecheckDemand
 pub mod AveragesDemand
 pub mod BenchCases
 pub mod RootExamples

@@ -1,8 +1,8 @@
 -- The classes of operands: which make the finite case, and what patterns of them have.
-use Rattle.laws.proofs.Basics.{_≡_, refl, sym, subst, Bool, true, false, cond, ⊎-elim, ℕ, _+_, _-_, _^_, _≤_, _<_, arith, eqb, le-ltb, ne-eqb, _⊎_, inl, inr}
+use Rattle.laws.proofs.Basics.{_≡_, refl, sym, ap, subst, Bool, true, false, cond, ⊎-elim, ℕ, _+_, _-_, _^_, _≤_, _<_, arith, eqb, le-ltb, ne-eqb, _⊎_, inl, inr}
 use native.Mathlib.Nat.{mul-pos, eq-zero-or-pos}
 use lib.Pow.{pow-pos}
-use Rattle.division.proofs.Binary64Names.{classOf, field, fraction, signOf, IsNonzero, IsFinite, caseOf, nanFlags, decided, byClass, FiniteNonzero, Class, Zero, Subnormal, Normal, Infinite, Nan, ByClass, Decided, Undecided}
+use Rattle.division.proofs.Binary64Names.{classOf, field, fraction, signOf, IsNonzero, IsFinite, caseOf, nanFlags, decided, byClass, FiniteNonzero, Class, Zero, Subnormal, Normal, Infinite, Nan, ByClass, Decided, Undecided, Finite}
 use Rattle.laws.proofs.Division.{le-or-lt}
 
 -- the classes of the finite numbers other than zero
@@ -48,11 +48,22 @@ counted p e = ⊎-elim
     last true w = w
     last false w = w
 
--- where the classes decide nothing, the operands are finite numbers other than zero
+-- where the classes decide nothing, the operands are finite numbers other than zero, and only there
+both-count : (a b : ℕ) → byClass a b ≡ Undecided → Counts (classOf a) × Counts (classOf b)
+both-count a b e = subst (λ (k : ByClass). WhereUndecided k (Counts (classOf a) × Counts (classOf b))) e (pairs (signOf a b) (nanFlags a b) (classOf a) (classOf b))
+
 pub quotient-operands : (a b : ℕ) → byClass a b ≡ Undecided → FiniteNonzero a × FiniteNonzero b
-quotient-operands a b e =
-    let f = subst (λ (k : ByClass). WhereUndecided k (Counts (classOf a) × Counts (classOf b))) e (pairs (signOf a b) (nanFlags a b) (classOf a) (classOf b)) in
-    (counted a (f .0), counted b (f .1))
+quotient-operands a b e = let f = both-count a b e in (counted a (f .0), counted b (f .1))
+
+pub quotient-nonzero : (a b : ℕ) → byClass a b ≡ Undecided → IsNonzero a × IsNonzero b
+quotient-nonzero a b e = let f = both-count a b e in (go a (classOf a) refl (f .0), go b (classOf b) refl (f .1))
+  where
+    go : (p : ℕ) (k : Class) → classOf p ≡ k → Counts k → IsNonzero p
+    go p Zero e f = absurd f
+    go p Subnormal e f = inl e
+    go p Normal e f = inr e
+    go p Infinite e f = absurd f
+    go p Nan e f = absurd f
 
 -- what holds of the classes named holds of a pattern's class
 pub by-nonzero : (P : Class → Type 0) (p : ℕ) → IsNonzero p → P Subnormal → P Normal → P (classOf p)
@@ -63,6 +74,11 @@ by-finite P p h z f g = ⊎-elim (λ e. subst P (sym e) z) (λ w. by-nonzero P p
 
 pub nonzero-operand : (p : ℕ) → IsNonzero p → FiniteNonzero p
 nonzero-operand p h = counted p (by-nonzero Counts p h tt tt)
+
+pub nonzero-quotient : (a b : ℕ) → IsNonzero a → IsNonzero b → byClass a b ≡ Undecided
+nonzero-quotient a b h k =
+    ap (decided (signOf a b) (nanFlags a b))
+    (by-nonzero (λ x. caseOf x (classOf b) ≡ Finite) a h (by-nonzero (λ y. caseOf Subnormal y ≡ Finite) b k refl refl) (by-nonzero (λ y. caseOf Normal y ≡ Finite) b k refl refl))
 
 -- the cases of `Ieee` cover all pairs of classes
 pub by-cases : (a b : ℕ) {P : Type 0} → ((classOf a ≡ Nan) ⊎ (classOf b ≡ Nan) → P) → (((classOf a ≡ Zero) × (classOf b ≡ Zero)) ⊎ ((classOf a ≡ Infinite) × (classOf b ≡ Infinite)) → P)

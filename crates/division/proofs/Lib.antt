@@ -25,6 +25,9 @@ pub mod RatioCalls
 pub mod Answers
 pub mod IeeeLaws
 pub mod IeeeOne
+pub mod Rechecking
+pub mod RecheckingWhole
+pub mod RecheckExamples
 pub mod IeeeRoots
 pub mod QuotientReading
 pub mod RootReading

@@ -10,6 +10,8 @@ pub mod Significands
 pub mod Binary64Steps
 pub mod Binary64
 pub mod Samples
+pub mod Recheck
+pub mod RecheckWhole
 pub mod Packed
 pub mod Ratios
 pub mod Roots

@@ -33,7 +33,7 @@ pub struct WholeAnswer {
 }
 
 // How far the divisor is moved up, for its leading one to stand at bit 60.
-fn shift_of(b: u64) -> u32
+pub(crate) fn shift_of(b: u64) -> u32
     requires { ⌜ (0 < b) × (b < 2 ^ 60) ⌝ }
     ensures { λ s. ⌜ (s ≡ shiftTo 60 b) × (s ≤ 60) × (2 ^ 60 ≤ b * 2 ^ s) × (b * 2 ^ s < 2 ^ 61) ⌝ }
 {
@@ -41,7 +41,7 @@ fn shift_of(b: u64) -> u32
 }
 
 // How many digits follow the first, where the divisor is moved up by s bits: as few as bring a, moved up the rest of the way, into the dividend's span.
-fn digits_after(a: u64, s: u32) -> u32
+pub(crate) fn digits_after(a: u64, s: u32) -> u32
     requires { ⌜ (a < 2 ^ 60) × (s ≤ 60) ⌝ }
     ensures { λ k. ⌜ (k ≡ digitsAfter a s) × (k ≤ 30) × (2 * k ≤ s) × (a * 2 ^ (s - 2 * k) < 2 ^ 61) ⌝ }
 {

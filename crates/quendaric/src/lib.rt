@@ -8,6 +8,8 @@ ghost use Rattle.recurrence.specs.Visits.{visitsAnswer, visitsLeft};
 ghost use Rattle.division.specs.Whole.{wholeOf};
 ghost use Rattle.division.specs.Binary64.{binary64Of};
 ghost use Rattle.division.specs.Samples.{samplesOf, concentrationsOf};
+ghost use Rattle.division.specs.Recheck.{recheckOf, affectedOf};
+ghost use Rattle.division.specs.RecheckWhole.{recheckWholeOf};
 ghost use Rattle.division.specs.Packed.{packedOf};
 ghost use Rattle.division.specs.Ratios.{comparedOf, comparisonNumbers};
 ghost use Rattle.division.specs.RootCalls.{rootWholeOf, rootBinary64Of};
@@ -15,6 +17,8 @@ ghost use Rattle.exposure.specs.Computed.{averagesOf, meansOf, remaindersOf};
 use division::format::Binary64Answer;
 use division::packed::PackedAnswer;
 use division::ratio::ComparisonNumbers;
+use division::recheck::AffectedAnswer;
+use division::recheck::AffectedWholeAnswer;
 use division::root::RootAnswer;
 use division::samples::SamplesAnswer;
 use division::whole::WholeAnswer;
@@ -156,6 +160,27 @@ pub extern "C" fn quendaric_repair_table(
     ensures { λ r. ⌜ (r ≡ repairOf (now (table .entry)) (now (repaired .entry)) (now (changed .entry))) × (now (repaired .exit) ≡ repairedOf (now (table .entry)) (now (repaired .entry)) (now (changed .entry))) × (now (changed .exit) ≡ changedOf (now (table .entry)) (now (repaired .entry)) (now (changed .entry))) ⌝ }
 {
     selection::repair::repair_table(table, repaired, changed)
+}
+
+// Which samples a table as it was burned has affected.
+#[no_mangle]
+pub extern "C" fn quendaric_affected_samples(
+    table: &[u8],
+    currents: &[u64],
+    sensitivities: &[u64],
+    affected: &mut [u8],
+) -> AffectedAnswer
+    ensures { λ r. ⌜ (r ≡ recheckOf (now (table .entry)) (now (currents .entry)) (now (sensitivities .entry)) (now (affected .entry))) × (now (affected .exit) ≡ affectedOf (now (table .entry)) (now (currents .entry)) (now (sensitivities .entry)) (now (affected .entry))) ⌝ }
+{
+    division::recheck::affected_samples(table, currents, sensitivities, affected)
+}
+
+// Whether it has affected a division of whole numbers.
+#[no_mangle]
+pub extern "C" fn quendaric_affected_whole(table: &[u8], a: u64, b: u64) -> AffectedWholeAnswer
+    ensures { λ r. ⌜ r ≡ recheckWholeOf (now (table .entry)) a b ⌝ }
+{
+    division::recheck::affected_whole(table, a, b)
 }
 
 // Mean and remainder of every full window of so many readings, the oldest window first, into two lists. The readings come oldest or newest first.

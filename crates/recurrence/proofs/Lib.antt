@@ -13,3 +13,5 @@ pub mod StepRange
 pub mod StepDemand
 pub mod Visiting
 pub mod VisitCounts
+pub mod SameRuns
+pub mod RecheckRow

@@ -81,6 +81,11 @@ module _ (t : List ℕ) (N D n S : ℕ) (k : Invariant t N D n S) (h : 1 ≤ n) 
 pub result-divides : (t : List ℕ) (N D n : ℕ) → Passes t → Operands N D → 1 ≤ n → resultOf t N D n ≡ divided (N * 4 ^ (n - 1)) D n
 result-divides t N D n p o h = result-divided t N D n _ (invariant-after t N D p o n .1) h
 
+-- and they are the numbers that S and the end remainder form, neither of them negative
+pub result-formed : (t : List ℕ) (N D n : ℕ) → Passes t → Operands N D → 1 ≤ n
+    → (pos (resultOf t N D n .quotient) ≡ correctedQuotient (value (digits t N D n)) (endRemainder t N D n)) × (pos (resultOf t N D n .remainder) ≡ correctedRemainder (endRemainder t N D n) D)
+result-formed t N D n p o h = let k = invariant-after t N D p o n .1 in (quotient-formed t N D n _ k h, remainder-formed t N D n _ k h)
+
 renews-step : (t : List ℕ) → Passes t → (N D i : ℕ) → Renews (after t N D i) (after t N D (suc i))
 unfolding after
 renews-step t p N D i = renews-next t (p .table .digits) (after t N D i)

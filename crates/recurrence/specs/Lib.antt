@@ -9,3 +9,4 @@ pub mod Row
 pub mod FastRun
 pub mod Visits
 pub mod VisitSteps
+pub mod Recheck

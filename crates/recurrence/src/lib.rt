@@ -1,4 +1,5 @@
 // The digit recurrence, the middle layer: a quotient digit a step, read from a table by the truncated estimate of a carry-save partial remainder.
+pub mod recheck;
 mod state;
 pub mod step;
 pub mod visits;

@@ -10,7 +10,7 @@ ghost use Rattle.selection.specs.Cell.{column};
 ghost use Rattle.selection.specs.Cell as Cell;
 ghost use Rattle.selection.specs.Table.{rowBytes};
 ghost use Rattle.recurrence.specs.CarrySave.{lowestCarry};
-ghost use Rattle.recurrence.specs.Recurrence.{appended, nextOf, stateFrom};
+ghost use Rattle.recurrence.specs.Recurrence.{appended, stepBy, nextOf, stateFrom};
 ghost use Rattle.recurrence.specs.FastRun.{withColumn, stateOf, divisorMultiples, topBitsOf, allTopBits, DigitBytes, StepReady, renewed, resultFromWord};
 
 // The next column needs the bits 61 to 53 of a word: what is left of it by 2^62, without the bits below 2^53.
@@ -117,16 +117,14 @@ impl RunState {
         }
     }
 
-    // One step, through every table that has these bytes in the divisor's row. The next column comes from the top bits of the words
-    // and of the multiple, ahead of the next words.
-    pub(crate) fn next(self, row: &[u8], multiples: &[u64; 5], tops: u64) -> RunState
-        requires { ⌜ StepReady (now row) (now multiples) tops self ⌝ }
-        ensures { λ r. ⌜ ((t : List ℕ) → now (row .entry) ≡ rowBytes t (Cell.row (self .divisor)) → r ≡ withColumn (nextOf t (stateOf self))) ⌝ }
+    // One step by a digit byte. The next column comes from the top bits of the words and of the multiple, ahead of the next words.
+    pub(crate) fn step_by(self, digit: u8, multiples: &[u64; 5], tops: u64) -> RunState
+        requires { ⌜ (digit ≤ 4) × (now multiples ≡ divisorMultiples (self .divisor)) × (tops ≡ allTopBits (now multiples)) ⌝ }
+        ensures { λ r. ⌜ r ≡ withColumn (stepBy digit (stateOf self)) ⌝ }
     {
         let sum = self.sum;
         let carry = self.carry;
         let divisor = self.divisor;
-        let digit = digit_at(row, self.column as usize);
         // The next column first: the next digit waits for it, and for neither of the next words.
         let words = wrapping_add_u64(sum % TOP_END & TOP_BITS, carry % TOP_END & TOP_BITS) << 2;
         let column = wrapping_add_u64(words, tops << (9 * digit)) >> 57;
@@ -143,6 +141,15 @@ impl RunState {
             value: renew(digit as u32 + 2, self.value, self.decremented),
             decremented: renew(digit as u32 + 1, self.value, self.decremented),
         }
+    }
+
+    // One step, through every table that has these bytes in the divisor's row.
+    pub(crate) fn next(self, row: &[u8], multiples: &[u64; 5], tops: u64) -> RunState
+        requires { ⌜ StepReady (now row) (now multiples) tops self ⌝ }
+        ensures { λ r. ⌜ ((t : List ℕ) → now (row .entry) ≡ rowBytes t (Cell.row (self .divisor)) → r ≡ withColumn (nextOf t (stateOf self))) ⌝ }
+    {
+        let digit = digit_at(row, self.column as usize);
+        self.step_by(digit, multiples, tops)
     }
 }
 

@@ -2,6 +2,7 @@
 pub mod kept;
 mod kept_words;
 pub mod maker;
+pub mod marks;
 mod multiples;
 pub mod numbers;
 pub mod repair;

@@ -1,0 +1,78 @@
+-- Which records a wrong table affected, and that all others are right as a divider that steps as this unit does has filed them. What is refused is said in demand 1.
+use mathlib.Core.Path.{_≡_}
+use mathlib.Core.List.{List, [], _∷_}
+use mathlib.Core.Logic.{_⊎_}
+use Prim.Native.Nat.{ℕ, min, _+_, _*_, _^_, _≤_, _<_}
+use lib.ListN.{length, getD, set}
+use Rattle.laws.specs.Counting.{Tally}
+use Rattle.selection.specs.Repair.{ReplacedAt}
+use Rattle.recurrence.specs.Recurrence.{cellAt, after, resultOf}
+use Rattle.selection.specs.Answer.{refusal}
+use Rattle.selection.specs.Computed.{madeTable, repairedOf}
+use Rattle.selection.specs.Table.{Passes}
+use Rattle.recurrence.specs.Recheck.{Copies, RunsClaim, repairedTable}
+use Rattle.division.specs.Format.{IsNonzero, binary64Values}
+use Rattle.division.specs.Significands.{significandOf}
+use Rattle.division.specs.Binary64Steps.{ratioThrough, binary64Through}
+use Rattle.division.specs.WholeSteps.{wholeRun}
+use Rattle.division.specs.Binary64.{binary64Of}
+use Rattle.division.specs.Recheck.{runOperand, OperandOf, Rechecked, Rechecks, RecordClaim, RecheckExamples, recheckOf, affectedOf}
+use Rattle.division.specs.RecheckWhole.{wholeCount, WholeRechecks, WholeClaim, recheckWholeOf}
+use Rattle.division.specs.declared.recheck.AffectedAnswer.{AffectedAnswer}
+use Rattle.division.specs.declared.recheck.AffectedWholeAnswer.{AffectedWholeAnswer}
+use Rattle.ieee.specs.Directions.{Pinned}
+
+-- of a table of 2,048 bytes, whatever they are, as many sensitivities as currents, and a third list with room for the marks
+pub record RecheckTold (t currents sensitivities given : List ℕ) : Type 0 where
+  pub done : recheckOf t currents sensitivities given .refusal ≡ refusal 0 0
+  pub rechecked : Rechecked t currents sensitivities given (affectedOf t currents sensitivities given) (recheckOf t currents sensitivities given .count)
+  pub claim : (j : ℕ) → j < length currents → RecordClaim t (getD currents j 0) (getD sensitivities j 0) (getD (affectedOf t currents sensitivities given) j 0)
+  -- in numbers: a mark is 0 or 1, and the count is the number of ones; a sample that its class decides is 0; a mark 1 has a step before the 28th end and a bad cell that it reads
+  pub mark : (j : ℕ) → j < length currents → (getD (affectedOf t currents sensitivities given) j 0 ≡ 0) ⊎ (getD (affectedOf t currents sensitivities given) j 0 ≡ 1)
+  pub count : Tally (λ j. getD (affectedOf t currents sensitivities given) j 0 ≡ 1) (length currents) (recheckOf t currents sensitivities given .count)
+  pub by-class : (j : ℕ) → j < length currents → (IsNonzero (getD currents j 0) → ⊥) ⊎ (IsNonzero (getD sensitivities j 0) → ⊥) → getD (affectedOf t currents sensitivities given) j 0 ≡ 0
+  pub cell : (j : ℕ) → j < length currents → getD (affectedOf t currents sensitivities given) j 0 ≡ 1
+      → (i : ℕ) × (i < 28) × ReplacedAt t (cellAt (after t (runOperand (getD currents j 0)) (runOperand (getD sensitivities j 0)) i))
+  -- a record whose mark is 0: what the burned table's own digits form is the answer of the call over the kept table, and the logic's own account of IEEE 754 asks for its pattern
+  pub kept : (j : ℕ) → j < length currents → getD (affectedOf t currents sensitivities given) j 0 ≡ 0 → (direction : ℕ) → direction ≤ 3
+      → binary64Values (binary64Through t direction (getD currents j 0) (getD sensitivities j 0)) ≡ binary64Of madeTable direction (getD currents j 0) (getD sensitivities j 0)
+  pub pinned : (j : ℕ) → j < length currents → getD (affectedOf t currents sensitivities given) j 0 ≡ 0 → (direction : ℕ) → direction ≤ 3
+      → Pinned direction (getD currents j 0) (getD sensitivities j 0) (binary64Through t direction (getD currents j 0) (getD sensitivities j 0) .pattern)
+
+-- the same of one division of whole numbers
+pub record RecheckWholeTold (t : List ℕ) (a b : ℕ) : Type 0 where
+  pub done : recheckWholeOf t a b .refusal ≡ refusal 0 0
+  pub claim : WholeClaim t a b (recheckWholeOf t a b .affected)
+  pub mark : (recheckWholeOf t a b .affected ≡ 0) ⊎ (recheckWholeOf t a b .affected ≡ 1)
+  -- the steps are as many as the division's digits
+  pub digits : wholeRun t a b .count ≡ wholeCount a b
+
+-- the made table with a byte above 4 in the cell (0, 72), which 1.0 / 1.0 reads first, and 1.125 / 1.0 not; 17 / 16 reads it, and 16 / 17 not
+pub record RecheckCallExample : Type 0 where
+  pub marks : affectedOf (set madeTable 72 5) (0x3FF0_0000_0000_0000 ∷ 0x3FF2_0000_0000_0000 ∷ 0 ∷ []) (0x3FF0_0000_0000_0000 ∷ 0x3FF0_0000_0000_0000 ∷ 0x3FF0_0000_0000_0000 ∷ []) (9 ∷ 9 ∷ 9 ∷ 9 ∷ []) ≡ 1 ∷ 0 ∷ 0 ∷ 9 ∷ []
+  pub count : recheckOf (set madeTable 72 5) (0x3FF0_0000_0000_0000 ∷ 0x3FF2_0000_0000_0000 ∷ 0 ∷ []) (0x3FF0_0000_0000_0000 ∷ 0x3FF0_0000_0000_0000 ∷ 0x3FF0_0000_0000_0000 ∷ []) (9 ∷ 9 ∷ 9 ∷ 9 ∷ []) .count ≡ 1
+  pub whole : recheckWholeOf (set madeTable 72 5) 17 16 .affected ≡ 1
+  pub whole-unaffected : recheckWholeOf (set madeTable 72 5) 16 17 .affected ≡ 0
+
+pub record RecheckDemand : Type 0 where
+  -- a run through any table and one through a table that copies its good cells; the repair is such a table, and it passes
+  pub runs : (t u : List ℕ) (N D n : ℕ) → Copies t u → RunsClaim t u N D n
+  pub repair : (t : List ℕ) → Copies t (repairedTable t) × Passes (repairedTable t)
+  -- it is the one that the repair call writes into buffers that just fit
+  pub repair-call : (t rs cs : List ℕ) → length t ≡ 2048 → length rs ≡ 2048 → length cs ≡ 2048 → repairedOf t rs cs ≡ repairedTable t
+  -- the operands of the run
+  pub operand : (p : ℕ) → IsNonzero p → OperandOf p (runOperand p)
+  -- what is rounded of a binary64 quotient: twice the quotient of that run, and 1 more where something is left
+  pub formed : (t : List ℕ) (a b : ℕ) → ratioThrough t (significandOf a .sig) (significandOf b .sig)
+      ≡ 2 * resultOf t (runOperand a) (runOperand b) 28 .quotient + min 1 (resultOf t (runOperand a) (runOperand b) 28 .remainder)
+  -- the answer and the third list, where it refuses and where not; and nothing else fits
+  pub answer : (t currents sensitivities given : List ℕ) → Rechecks t currents sensitivities given (affectedOf t currents sensitivities given) (recheckOf t currents sensitivities given)
+  pub one : (t currents sensitivities given out : List ℕ) (x : AffectedAnswer) → Rechecks t currents sensitivities given out x
+      → (out ≡ affectedOf t currents sensitivities given) × (x ≡ recheckOf t currents sensitivities given)
+  pub told : (t currents sensitivities given : List ℕ) → length t ≡ 2048 → length currents ≡ length sensitivities → length currents ≤ length given → RecheckTold t currents sensitivities given
+  -- whole numbers
+  pub whole-answer : (t : List ℕ) (a b : ℕ) → WholeRechecks t a b (recheckWholeOf t a b)
+  pub whole-one : (t : List ℕ) (a b : ℕ) (x : AffectedWholeAnswer) → WholeRechecks t a b x → x ≡ recheckWholeOf t a b
+  pub whole-told : (t : List ℕ) (a b : ℕ) → length t ≡ 2048 → a < 2 ^ 60 → 0 < b → b < 2 ^ 60 → RecheckWholeTold t a b
+  pub examples : RecheckExamples
+  pub call-example : RecheckCallExample

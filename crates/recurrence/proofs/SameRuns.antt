@@ -1,0 +1,136 @@
+-- A run through a table as it was burned and one through its repair are the same until a bad cell is read.
+use Rattle.laws.proofs.Basics.{_≡_, refl, sym, ap, _∙_, subst, Bool, true, false, cond, _||_, _⊎_, ⊎-elim, List, ℕ, zero, suc, _≤_, _<_, arith, getD}
+use native.Mathlib.Nat.{zero-add, eq-or-lt-of-le}
+use lib.Seq.{ext-getD}
+use Rattle.laws.proofs.Lists.{list-length, list-at}
+use Rattle.selection.specs.Allowed.{isReplaced}
+use Rattle.selection.specs.Computed.{repairedByte, changeMark}
+use Rattle.laws.specs.Search.{First}
+use Rattle.selection.specs.Repair.{ReplacedAt}
+use Rattle.selection.specs.Table.{Passes}
+use Rattle.laws.proofs.Tests.{Decides, decides-yes, decides-no}
+use Rattle.laws.proofs.Search.{first-below}
+use Rattle.selection.proofs.RepairCells.{replaced-decides, cell-repaired, allowed-byte}
+use Rattle.selection.proofs.Tables.{table-of}
+use Rattle.recurrence.specs.Recurrence.{State, cellAt, stepBy, nextOf, after, digitOf, digits, endRemainder, resultOf}
+use Rattle.recurrence.specs.Recheck.{BadStep, ReadsBadOf, ReadsBad, Marks, Copies, SameRun, RunsClaim, readsBad, runMark, repairedTable, changeMarks}
+use Rattle.recurrence.proofs.Visiting.{cell-below}
+
+-- ---- the states
+
+module _ (t u : List ℕ) (m : Copies t u) (N D : ℕ) where
+  -- a step from a state whose cell is not bad
+  step-same : (p : State) → (ReplacedAt t (cellAt p) → ⊥) → nextOf t p ≡ nextOf u p
+  unfolding nextOf
+  step-same p n = ap (λ (d : ℕ). stepBy d p) (sym (m .copied (cellAt p) (cell-below p) n))
+
+  -- no bad cell is read through t; or none through u
+  states-same : (i : ℕ) → ((j : ℕ) → j < i → BadStep t t N D j → ⊥) → after t N D i ≡ after u N D i
+  unfolding after
+  states-same zero h = refl
+  states-same (suc i) h = step-same (after t N D i) (h i (omega arith)) ∙ ap (nextOf u) (states-same i (λ j l. h j (omega arith)))
+
+  states-back : (i : ℕ) → ((j : ℕ) → j < i → BadStep t u N D j → ⊥) → after t N D i ≡ after u N D i
+  unfolding after
+  states-back zero h = refl
+  states-back (suc i) h = ap (nextOf t) (states-back i (λ j l. h j (omega arith))) ∙ step-same (after u N D i) (h i (omega arith))
+
+  digits-same : (n : ℕ) → ((i : ℕ) → i ≤ n → after t N D i ≡ after u N D i) → digits t N D n ≡ digits u N D n
+  digits-same n e =
+      ext-getD 0 (digits t N D n) (digits u N D n) (list-length (digitOf t N D) 0 n ∙ sym (list-length (digitOf u N D) 0 n))
+      (λ i l. let h : i < n = omega (arith, list-length (digitOf t N D) 0 n) in
+      list-at (digitOf t N D) 0 0 n i h ∙ ap (λ (p : State). p .digit) (ap (λ (k : ℕ). after t N D (suc k)) (zero-add i) ∙ e (suc i) (omega arith) ∙ ap (λ (k : ℕ). after u N D (suc k)) (sym (zero-add i))) ∙ sym (list-at (digitOf u N D) 0 0 n i h))
+
+  run-same : (n : ℕ) → (ReadsBad t N D n → ⊥) → SameRun t u N D n
+  unfolding resultOf endRemainder
+  run-same n h =
+      let s : (i : ℕ) → i ≤ n → after t N D i ≡ after u N D i = λ i l. states-same i (λ j k w. h (record { step = j; early = omega arith; bad = w })) in
+      let d = digits-same n s in
+      record { states = s; digits = d; remainder = rw d; result = rw d }
+
+  -- ---- the first bad step
+
+  first-there : (i : ℕ) → First (BadStep t t N D) i → after t N D i ≡ after u N D i
+  first-there i f = states-same i (f .before)
+
+  first-same : (i : ℕ) → First (BadStep t t N D) i → First (BadStep t u N D) i
+  first-same i f = record {
+    here = subst (λ (p : State). ReplacedAt t (cellAt p)) (first-there i f) (f .here);
+    before = λ j l w. f .before j l (subst (λ (p : State). ReplacedAt t (cellAt p)) (sym (states-same j (λ k g. f .before k (omega arith)))) w);
+  }
+
+  first-back : (i : ℕ) → First (BadStep t u N D) i → First (BadStep t t N D) i
+  first-back i f = record {
+    here = subst (λ (p : State). ReplacedAt t (cellAt p)) (sym (states-back i (f .before))) (f .here);
+    before = λ j l w. f .before j l (subst (λ (p : State). ReplacedAt t (cellAt p)) (states-back j (λ k g. f .before k (omega arith))) w);
+  }
+
+-- a step that reads a bad cell, and so a first one
+pub first-bad : (t u : List ℕ) (N D n : ℕ) → ReadsBadOf t u N D n → (i : ℕ) × (i < n) × First (BadStep t u N D) i
+first-bad t u N D n r =
+    ⊎-elim (λ x. absurd (x .1 (r .step) (r .early) (r .bad))) (λ x. (_, x .0, x .1))
+    (first-below (λ i. isReplaced t (cellAt (after u N D i))) n (λ i h. replaced-decides t (cellAt (after u N D i)) (cell-below (after u N D i))))
+
+pub runs-claim : (t u : List ℕ) (N D n : ℕ) → Copies t u → RunsClaim t u N D n
+runs-claim t u N D n m = record {
+  same = run-same t u m N D n;
+  reads = (
+    λ r. let f = first-bad t t N D n r in record { step = f .0; early = f .1; bad = first-same t u m N D (f .0) (f .2) .here },
+    λ r. let f = first-bad t u N D n r in record { step = f .0; early = f .1; bad = first-back t u m N D (f .0) (f .2) .here },
+  );
+  first = λ i. (first-same t u m N D i, first-back t u m N D i);
+  there = first-there t u m N D;
+}
+
+-- ---- the test
+
+pub reads-decides : (t u : List ℕ) (N D n : ℕ) → Decides (ReadsBadOf t u N D n) (readsBad t u N D n)
+unfolding readsBad
+reads-decides t u N D zero = decides-no (λ r. omega (arith, r .early))
+reads-decides t u N D (suc n) = go (readsBad t u N D n) (isReplaced t (cellAt (after u N D n))) (reads-decides t u N D n) (replaced-decides t (cellAt (after u N D n)) (cell-below (after u N D n)))
+  where
+    go : (x y : Bool) → Decides (ReadsBadOf t u N D n) x → Decides (BadStep t u N D n) y → Decides (ReadsBadOf t u N D (suc n)) (x || y)
+    go true y d e = let r = d .yes refl in decides-yes (record { step = r .step; early = omega (arith, r .early); bad = r .bad })
+    go false true d e = decides-yes (record { step = n; early = omega arith; bad = e .yes refl })
+    go false false d e = decides-no (λ r. ⊎-elim (λ (q : r .step ≡ n). e .no refl (subst (BadStep t u N D) q (r .bad))) (λ (l : r .step < n). d .no refl (record { step = r .step; early = l; bad = r .bad })) (eq-or-lt-of-le (omega (arith, r .early))))
+
+-- ---- marks
+
+-- the mark of a test, and of a run
+pub mark-right : {P : Type 0} (x : Bool) → Decides P x → Marks P (cond x 1 0)
+mark-right true d = record { marked = λ p. refl; unmarked = λ n. absurd (n (d .yes refl)) }
+mark-right false d = record { marked = λ p. absurd (d .no refl p); unmarked = λ n. refl }
+
+pub run-mark-right : (t : List ℕ) (N D n : ℕ) → Marks (ReadsBad t N D n) (runMark t N D n)
+run-mark-right t N D n = mark-right (readsBad t t N D n) (reads-decides t t N D n)
+
+-- what a mark says, where a test decides
+pub mark-none : {P : Type 0} {m : ℕ} → Marks P m → m ≡ 0 → P → ⊥
+mark-none r e p = omega (arith, r .marked p)
+
+pub mark-some : {P : Type 0} {m : ℕ} (x : Bool) → Decides P x → Marks P m → m ≡ 1 → P
+mark-some true d r e = d .yes refl
+mark-some false d r e = absurd (omega (arith, r .unmarked (d .no refl)))
+
+-- and there is one
+pub mark-one : {P : Type 0} {m n : ℕ} (x : Bool) → Decides P x → Marks P m → Marks P n → m ≡ n
+mark-one true d u v = u .marked (d .yes refl) ∙ sym (v .marked (d .yes refl))
+mark-one false d u v = u .unmarked (d .no refl) ∙ sym (v .unmarked (d .no refl))
+
+-- ---- the repair copies the good cells, and passes
+
+module _ (t : List ℕ) where
+  repaired-cell : (k : ℕ) → k < 2048 → getD (repairedTable t) k 0 ≡ repairedByte t k
+  repaired-cell k h = list-at (repairedByte t) 0 0 2048 k h ∙ ap (repairedByte t) (zero-add k)
+
+  pub marked-cell : (k : ℕ) → k < 2048 → getD (changeMarks t) k 0 ≡ changeMark t k
+  marked-cell k h = list-at (changeMark t) 0 0 2048 k h ∙ ap (changeMark t) (zero-add k)
+
+  pub repair-copies : Copies t (repairedTable t)
+  repair-copies = record { copied = λ k h n. repaired-cell k h ∙ cell-repaired t k h .copied n }
+
+  pub repair-passes : Passes (repairedTable t)
+  repair-passes = record {
+    table = table-of (repairedTable t) (list-length (repairedByte t) 0 2048) (λ k h w. omega (arith, repaired-cell k h, allowed-byte t k h (cell-repaired t k h) .0));
+    allowed = λ k h. rw (repaired-cell k h) (allowed-byte t k h (cell-repaired t k h) .1);
+  }
