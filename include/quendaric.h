@@ -18,7 +18,8 @@
 
    The archive is for x86-64: the System V calling convention, a size_t of 64 bits. The calls use vector registers, and
    of the stack at most QUENDARIC_STACK bytes below the caller's. (Not proved: 512 were measured on the archive, the rest
-   is margin.) */
+   is margin.) Two calls, quendaric_affected_samples and quendaric_affected_whole, are for a dock or a desk and use more:
+   at most QUENDARIC_AFFECTED_STACK bytes. (Not proved: 4417 bytes were measured of these two, the rest is margin.) */
 
 #ifndef QUENDARIC_H
 #define QUENDARIC_H
@@ -55,15 +56,16 @@ extern "C" {
 #endif
 
 /* The version of these calls; CHANGELOG.md tells what changed. */
-#define QUENDARIC_VERSION "2.2.2"
+#define QUENDARIC_VERSION "2.3.0"
 #define QUENDARIC_VERSION_MAJOR 2
-#define QUENDARIC_VERSION_MINOR 2
-#define QUENDARIC_VERSION_PATCH 2
+#define QUENDARIC_VERSION_MINOR 3
+#define QUENDARIC_VERSION_PATCH 0
 
 #define QUENDARIC_TABLE_LENGTH 2048
 #define QUENDARIC_MOST_DIGITS 28
 #define QUENDARIC_WIDEST_WINDOW 4096
 #define QUENDARIC_STACK 1024
+#define QUENDARIC_AFFECTED_STACK 8192
 
 /* Refusals. 8 to 10 are the table maker's to mend, the others the caller's. */
 #define QUENDARIC_REFUSED_CELL 1      /* row above 15 or column above 127 */
@@ -214,6 +216,21 @@ typedef struct {
   uint64_t count;
 } quendaric_repaired;
 
+/* count: the number of affected samples. Beside a refusal nothing was written, and the 0 does not say that no sample is
+   affected. */
+typedef struct {
+  uint64_t refusal;
+  uint64_t place;
+  uint64_t count;
+} quendaric_affected_count;
+
+/* affected: 1 or 0. Beside a refusal the 0 does not say that the division is not affected. */
+typedef struct {
+  uint64_t refusal;
+  uint64_t place;
+  uint64_t affected;
+} quendaric_affected_mark;
+
 /* Beside a refusal nothing was written: what the list holds are no visits. */
 typedef struct {
   uint64_t refusal;
@@ -301,6 +318,27 @@ quendaric_samples quendaric_divide_samples(const uint8_t *table, size_t table_le
                                            size_t currents_length, const uint64_t *sensitivities,
                                            size_t sensitivities_length, uint64_t *concentrations,
                                            size_t concentrations_length, uint64_t direction);
+
+/* Which records did a wrong table affect? The table is the one that was burned, with its bad cells and bytes above 4: no
+   byte of it is refused. affected[j] is 1 if a step of the division of currents[j] by sensitivities[j] through this table
+   reads a bad cell or a byte above 4, else 0, for every j below currents_length, and count is the number of ones. Where it
+   is 0, the pattern and the flags that are formed from the burned table's own digits are those of IEEE 754, in every
+   direction. Where it is 1, nothing is said of what was answered: it may have been right. A sample with a zero, an infinity
+   or a NaN takes no digit, and is 0. The record must have been made by this unit's steps: its estimate, which adds eight
+   bits of each word, and 28 digits. Later bytes of the third list keep their contents. Uses at most
+   QUENDARIC_AFFECTED_STACK bytes of the stack. Refuses 11, 7, 8, in this order. */
+QUENDARIC_ANSWER
+quendaric_affected_count quendaric_affected_samples(const uint8_t *table, size_t table_length, const uint64_t *currents,
+                                                    size_t currents_length, const uint64_t *sensitivities,
+                                                    size_t sensitivities_length, uint8_t *affected,
+                                                    size_t affected_length);
+
+/* The same of one division of whole numbers below 2^60: affected is 1 if a step of a by b through the table as it was
+   burned, as quendaric_divide_whole takes it, reads a bad cell or a byte above 4, else 0. Where it is 0, quotient and
+   remainder that are formed from the burned table's own digits are those of a by b. Uses at most QUENDARIC_AFFECTED_STACK
+   bytes of the stack. Refuses 4, 5, 8. */
+QUENDARIC_ANSWER
+quendaric_affected_mark quendaric_affected_whole(const uint8_t *table, size_t table_length, uint64_t a, uint64_t b);
 
 /* The averages of a sliding window over readings in parts per billion, each below 2^40: for every full window of width
    readings the mean, rounded down, and what is left over: means[j] * width + remainders[j] is the sum of its readings,

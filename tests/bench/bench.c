@@ -2,7 +2,8 @@
      bench            times and ratios
      bench NAME N     N calls of one measure and nothing else, for a count of instructions
      bench windows N  the averages of N windows, likewise
-     bench quotients  times over the quotient's length and of the averages alone, to compare two archives in turn */
+     bench quotients  times over the quotient's length and of the averages alone, to compare two archives in turn
+     bench samples    times of lists of samples alone: divided, and rechecked */
 #include "baseline.h"
 #include "quendaric.h"
 #include <math.h>
@@ -418,6 +419,37 @@ static void samples(void) {
   printf("\n");
 }
 
+/* The same samples rechecked, through a table without a bad cell, with five of them, and bad in every cell with a point, beside their division: ns a sample. */
+static void rechecks(void) {
+  static uint64_t current[100000], sensitivity[100000], concentration[100000];
+  static uint8_t marks[100000], five_bad[QUENDARIC_TABLE_LENGTH];
+  static const int cells[5] = {215, 603, 991, 1379, 1767};
+  memcpy(five_bad, table, sizeof table);
+  for (int k = 0; k < 5; k++)
+    five_bad[cells[k]] = 2;
+  for (int i = 0; i < 100000; i++)
+    current[i] = a[i % PAIRS] ^ (bits() & 0xffff), sensitivity[i] = b[i % PAIRS] ^ (bits() & 0xffff);
+  const uint8_t *const burned[3] = {table, five_bad, all_bad};
+  printf("%-58s %7s %7s %7s %7s   %s\n", "samples rechecked, ns each", "divided", "none", "five", "all bad", "none and five / divided");
+  for (int n = 1000; n <= 100000; n *= 100) {
+    double best[4] = {0, 0, 0, 0};
+    for (int round = 0; round < 200000 / n * 4 + 20; round++) {
+      double start = now();
+      sink = quendaric_divide_samples(table, sizeof table, current, n, sensitivity, n, concentration, n, 0).flags;
+      keep(&best[0], (now() - start) / n);
+      for (int k = 0; k < 3; k++) {
+        start = now();
+        sink = quendaric_affected_samples(burned[k], sizeof table, current, n, sensitivity, n, marks, n).count;
+        keep(&best[k + 1], (now() - start) / n);
+      }
+    }
+    double none = best[1] / best[0], five = best[2] / best[0];
+    printf("%-51s %6d %7.1f %7.1f %7.1f %7.1f   %.3f, %.3f, at most 1.3: %s\n", "bad cells, a list of", n, best[0], best[1], best[2], best[3], none, five,
+           none <= 1.3 && five <= 1.3 ? "met" : "MISSED");
+  }
+  printf("\n");
+}
+
 /* A single division of a window's sum: what the averages spend on each window. */
 static uint64_t window_alone(int i) { return quendaric_divide_whole_kept(WIDTH * readings[i] + (uint64_t)i, WIDTH).quotient; }
 
@@ -502,6 +534,11 @@ int main(int argc, char **argv) {
   printf("answers that differ between the ways: %d\n", differ);
   if (differ)
     return 1;
+  if (argc == 2 && !strcmp(argv[1], "samples")) {
+    samples();
+    rechecks();
+    return 0;
+  }
   if (argc == 2 && !strcmp(argv[1], "quotients")) {
     quotients_time();
     averages_time();
@@ -554,6 +591,7 @@ int main(int argc, char **argv) {
   ratio("whole root / the same algorithm in C", "root-whole", "root-whole-c", 0);
   lent_alone();
   samples();
+  rechecks();
   growth();
   quotients_time();
   averages_time();

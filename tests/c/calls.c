@@ -317,6 +317,57 @@ static void repairs(const uint8_t *kept) {
   SAME(memcmp(repaired, kept, size), 0);
 }
 
+/* A recheck that is refused: number, place and zero beside them. */
+static void no_count(quendaric_affected_count answer, uint64_t refusal) {
+  SAME(answer.refusal, refusal);
+  SAME(answer.place, 0);
+  SAME(answer.count, 0);
+}
+static void no_mark(quendaric_affected_mark answer, uint64_t refusal) {
+  SAME(answer.refusal, refusal);
+  SAME(answer.place, 0);
+  SAME(answer.affected, 0);
+}
+
+/* Which records a table with a bad cell, and with a byte above 4, has affected: 1.0 by 1.0 reads the cell 72 first. */
+static void rechecks(const uint8_t *kept) {
+  static uint8_t burned[QUENDARIC_TABLE_LENGTH];
+  static const uint64_t current[5] = {0x3FF0000000000000ull, 0x3FF0000000000000ull, 0, 0x3FF0000000000000ull, 0x7FF8000000000000ull};
+  static const uint64_t sensitivity[5] = {0x3FF0000000000000ull, 0x4008000000000000ull, 0x3FF0000000000000ull, 0,
+                                          0x3FF0000000000000ull};
+  static const uint8_t marks[6] = {1, 0, 0, 0, 0, 0xC3};
+  static const uint8_t none[6] = {0, 0, 0, 0, 0, 0xC3};
+  const size_t size = QUENDARIC_TABLE_LENGTH;
+  uint8_t affected[6];
+  memset(affected, untouched, sizeof affected);
+  memcpy(burned, kept, size);
+  no_count(quendaric_affected_samples(burned, 5, current, 5, sensitivity, 4, affected, 4), QUENDARIC_REFUSED_LISTS);
+  no_count(quendaric_affected_samples(burned, 5, current, 5, sensitivity, 5, affected, 4), QUENDARIC_REFUSED_ROOM);
+  no_count(quendaric_affected_samples(burned, size - 1, current, 5, sensitivity, 5, affected, 5), QUENDARIC_REFUSED_LENGTH);
+  no_count(quendaric_affected_samples(NULL, 0, NULL, 0, NULL, 0, NULL, 0), QUENDARIC_REFUSED_LENGTH);
+  no_count(quendaric_affected_samples(burned, size, NULL, 0, NULL, 0, NULL, 0), 0);
+  SAME(all_untouched(affected, sizeof affected), 1);
+  for (uint8_t byte = 2; byte < 8; byte++) {
+    burned[72] = byte;
+    const int bad = byte != 3; /* 1 is the only digit that is allowed there */
+    quendaric_affected_count answer = quendaric_affected_samples(burned, size, current, 5, sensitivity, 5, affected, 6);
+    SAME(answer.refusal, 0);
+    SAME(answer.place, 0);
+    SAME(answer.count, bad);
+    SAME(memcmp(affected, bad ? marks : none, 6), 0);
+    quendaric_affected_mark whole = quendaric_affected_whole(burned, size, 17, 16);
+    SAME(whole.refusal, 0);
+    SAME(whole.place, 0);
+    SAME(whole.affected, bad);
+    SAME(quendaric_affected_whole(burned, size, 16, 17).affected, 0);
+  }
+  no_mark(quendaric_affected_whole(burned, 5, one, 0), QUENDARIC_REFUSED_TOO_LARGE);
+  no_mark(quendaric_affected_whole(burned, 5, 1, one), QUENDARIC_REFUSED_TOO_LARGE);
+  no_mark(quendaric_affected_whole(burned, 5, 1, 0), QUENDARIC_REFUSED_BY_ZERO);
+  no_mark(quendaric_affected_whole(burned, 5, 1, 1), QUENDARIC_REFUSED_LENGTH);
+  no_mark(quendaric_affected_whole(NULL, 0, 1, 1), QUENDARIC_REFUSED_LENGTH);
+}
+
 static void visits(const uint8_t *kept) {
   static uint32_t counts[QUENDARIC_TABLE_LENGTH + 1];
   const size_t size = QUENDARIC_TABLE_LENGTH;
@@ -435,6 +486,7 @@ int main(void) {
   runs(table);
   steps(table);
   repairs(table);
+  rechecks(table);
   visits(table);
   refused_runs(table);
   nothing_lent(table);

@@ -41,6 +41,14 @@ REFUSAL(quendaric_repaired);
 FIELD(quendaric_repaired, count, 16, 8);
 SIZE(quendaric_repaired, 24);
 
+REFUSAL(quendaric_affected_count);
+FIELD(quendaric_affected_count, count, 16, 8);
+SIZE(quendaric_affected_count, 24);
+
+REFUSAL(quendaric_affected_mark);
+FIELD(quendaric_affected_mark, affected, 16, 8);
+SIZE(quendaric_affected_mark, 24);
+
 REFUSAL(quendaric_averages);
 SIZE(quendaric_averages, 16);
 

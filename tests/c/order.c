@@ -62,6 +62,22 @@ static void divide_samples(const uint64_t *x, reply *y) {
   REPLY(y, quendaric_divide_samples(table, x[0], current, x[1], sensitivity, x[2], concentration, x[3], x[4]));
   memcpy(y->buffer, concentration, sizeof concentration);
 }
+/* Of a table with the bad cell 72 at 2: 1.0 by 1.0 reads it, 1.0 by 3.0 does not. */
+static const uint8_t *burned(void) {
+  static uint8_t bytes[QUENDARIC_TABLE_LENGTH];
+  memcpy(bytes, table, sizeof bytes);
+  bytes[72] = 2;
+  return bytes;
+}
+static void affected_samples(const uint64_t *x, reply *y) {
+  static const uint64_t current[2] = {0x3FF0000000000000ull, 0x3FF0000000000000ull},
+                        sensitivity[2] = {0x4008000000000000ull, 0x3FF0000000000000ull};
+  REPLY(y, quendaric_affected_samples(burned(), x[0], current, x[1], sensitivity, x[2], y->buffer, x[3]));
+}
+/* 17 by 16 takes one digit, from that cell. */
+static void affected_whole(const uint64_t *x, reply *y) {
+  REPLY(y, quendaric_affected_whole(burned(), x[0], x[1], x[2]));
+}
 /* Both lists have one length: of two, no answer tells which is whose. */
 static void average_windows(const uint64_t *x, reply *y) {
   REPLY(y, quendaric_average_windows(readings, x[0], x[1], x[2] != 0, y->word + 2, x[3], y->word + 7, x[3]));
@@ -143,6 +159,10 @@ static const struct {
      5,
      {2048, 1, 1, 2, 3},
      {{0, 0, 1, 1}, {0x55, 0x55, 0x55, 0x55, 0x55, 0x55, 0xD5, 0x3F}}},
+    /* .., lengths of the three lists */
+    {"affected_samples", affected_samples, 4, {2048, 2, 2, 3}, {{0, 0, 1}, {0, 1, 0}}},
+    /* .., a, b */
+    {"affected_whole", affected_whole, 3, {2048, 17, 16}, {{0, 0, 1}, {0}}},
     /* number of readings, width, newest first, length of the lists: 142 and 101 by 4 */
     {"average_windows", average_windows, 4, {5, 4, 1, 3}, {{0, 0, 35, 25, 0, 0, 0, 2, 1}, {0}}},
     /* 98 by 15: the last bytes of the two are the highest of their words here */

@@ -1,14 +1,16 @@
 /* Would catch a call that uses more of the stack than include/quendaric.h says: each call is made on a stack of painted
-   bytes, on drawn operands, and the bytes below its caller's that have changed are counted. For x86-64, in GNU C; the
-   caller's stack pointer must stay where it is (-maccumulate-outgoing-args). */
+   bytes, on drawn operands, and the bytes below its caller's that have changed are counted; for the two calls that have a
+   number of their own, apart. For x86-64, in GNU C; the caller's stack pointer must stay where it is
+   (-maccumulate-outgoing-args). */
 
 #include "quendaric.h"
 #include <stdio.h>
 #include <string.h>
 
-enum { CALLS = 19, TURNS = 1000, PAINT = 0xA5 };
+/* The calls from AFFECTED on are the two. */
+enum { AFFECTED = 19, CALLS = 21, TURNS = 1000, PAINT = 0xA5 };
 
-static uint8_t stack[8192] __attribute__((aligned(64)));
+static uint8_t stack[16384] __attribute__((aligned(64)));
 static uint8_t table[QUENDARIC_TABLE_LENGTH], buffer[QUENDARIC_MOST_DIGITS];
 static uint8_t read_back[QUENDARIC_TABLE_LENGTH], repaired[QUENDARIC_TABLE_LENGTH], changed[QUENDARIC_TABLE_LENGTH];
 static uint32_t visits[QUENDARIC_TABLE_LENGTH];
@@ -52,7 +54,9 @@ static void call(void) {
   case 15: sink = quendaric_repair_table(read_back, size, repaired, size, changed, size).count; break;
   case 16: sink = quendaric_count_visits(table, size, 1 + a % 2, digits, visits, size).refusal; break;
   case 17: sink = (uint64_t)quendaric_compare_ratios(x, y, x + a % 2, y + b % 2).order; break;
-  default: sink = quendaric_root_binary64(a >> 1, b % 4).pattern; break;
+  case 18: sink = quendaric_root_binary64(a >> 1, b % 4).pattern; break;
+  case AFFECTED: sink = quendaric_affected_samples(read_back, size, &a, 1, &b, 1, changed, 1).count; break;
+  default: sink = quendaric_affected_whole(read_back, size, x, y).affected; break;
   }
 }
 
@@ -72,7 +76,7 @@ static long used(void) {
 }
 
 int main(void) {
-  long most = 0;
+  long most[2] = {0, 0};
   if (quendaric_make_table(table, sizeof table).refusal != 0)
     return 1;
   for (which = 0; which < CALLS; which++)
@@ -81,9 +85,9 @@ int main(void) {
       readings[turn % 8] = a >> 24;
       digit[turn % 16] = (uint8_t)(a % 10 * 16 + b % 10);
       read_back[a % sizeof read_back] = (uint8_t)(b % 8);
-      long now = used();
-      most = now > most ? now : most;
+      long now = used(), *of = most + (which >= AFFECTED);
+      *of = now > *of ? now : *of;
     }
-  printf("  most stack of a call: %ld bytes\n", most);
-  return most > QUENDARIC_STACK;
+  printf("  most stack of a call: %ld bytes\n  most stack of an affected call: %ld bytes\n", most[0], most[1]);
+  return most[0] > QUENDARIC_STACK || most[1] > QUENDARIC_AFFECTED_STACK;
 }

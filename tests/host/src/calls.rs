@@ -110,6 +110,22 @@ pub struct Repair {
 
 #[repr(C)]
 #[derive(Clone, Copy, Debug, Default, PartialEq, Eq)]
+pub struct Affected {
+    pub refusal: u64,
+    pub place: u64,
+    pub count: u64,
+}
+
+#[repr(C)]
+#[derive(Clone, Copy, Debug, Default, PartialEq, Eq)]
+pub struct AffectedWhole {
+    pub refusal: u64,
+    pub place: u64,
+    pub affected: u64,
+}
+
+#[repr(C)]
+#[derive(Clone, Copy, Debug, Default, PartialEq, Eq)]
 pub struct Packed {
     pub refusal: u64,
     pub place: u64,
@@ -189,6 +205,17 @@ extern "C" {
         changed: *mut u8,
         changed_length: usize,
     ) -> Repair;
+    fn quendaric_affected_samples(
+        table: *const u8,
+        table_length: usize,
+        currents: *const u64,
+        currents_length: usize,
+        sensitivities: *const u64,
+        sensitivities_length: usize,
+        affected: *mut u8,
+        affected_length: usize,
+    ) -> Affected;
+    fn quendaric_affected_whole(table: *const u8, table_length: usize, a: u64, b: u64) -> AffectedWhole;
     fn quendaric_divide_packed(dividend: *const u8, divisor: *const u8) -> Packed;
     fn quendaric_count_visits(
         table: *const u8,
@@ -291,6 +318,21 @@ pub fn average_windows(
     lend(readings, |list, length| unsafe {
         quendaric_average_windows(list, length, width, newest_first, m, m_length, r, r_length)
     })
+}
+
+pub fn affected_samples(table: &[u8], currents: &[u64], sensitivities: &[u64], affected: &mut [u8]) -> Affected {
+    let (start, room) = (affected.as_mut_ptr(), affected.len());
+    lend(table, |t, size| {
+        lend(currents, |a, many| {
+            lend(sensitivities, |b, as_many| unsafe {
+                quendaric_affected_samples(t, size, a, many, b, as_many, start, room)
+            })
+        })
+    })
+}
+
+pub fn affected_whole(table: &[u8], a: u64, b: u64) -> AffectedWhole {
+    lend(table, |t, size| unsafe { quendaric_affected_whole(t, size, a, b) })
 }
 
 pub fn divide_packed(dividend: &[u8; 8], divisor: &[u8; 8]) -> Packed {
