@@ -3,6 +3,8 @@
      reading TABLE-FILE CURRENT SENSITIVITY
 
    With the current in nA and the sensitivity in nA a ppm the reading is in ppm.
+   Status: 0 the reading was printed, 1 the table was refused or there is no reading, 2 the arguments are wrong, or the table
+   could not be read, or not all was written; what is wrong stands on standard error.
    Build: gcc -Iinclude examples/reading.c target/staticlib/libquendaric.a -o reading */
 
 #include "quendaric.h"
@@ -11,40 +13,51 @@
 #include <inttypes.h>
 #include <stdio.h>
 
+enum { READ = 0, REFUSED = 1, FAILED = 2 };
+
+static int print_reading(const table_file *table, double current, double sensitivity) {
+  quendaric_report report = quendaric_check_table(table->bytes, table->length);
+  if (report.refusal != 0) {
+    fprintf(stderr, "table refused: %" PRIu64 ", place %" PRIu64 "\n", report.refusal, report.place);
+    if (report.refusal == QUENDARIC_REFUSED_BAD_CELL)
+      fprintf(stderr,
+              "bad cells: %" PRIu64 "; the first: row %" PRIu64 ", column %" PRIu64 ", divisor %" PRIu64
+              ", remainder %" PRId64 "\n",
+              report.count, report.row, report.column, report.divisor, report.remainder);
+    return REFUSED;
+  }
+  printf("table passed\n");
+
+  quendaric_binary64 reading = quendaric_divide_binary64(
+      table->bytes, table->length, quendaric_pattern(current), quendaric_pattern(sensitivity), QUENDARIC_NEAREST);
+  if (reading.refusal != 0 || (reading.flags & ~(uint64_t)QUENDARIC_INEXACT) != 0) {
+    fprintf(stderr, "no reading: refusal %" PRIu64 ", flags %" PRIu64 "\n", reading.refusal, reading.flags);
+    return REFUSED;
+  }
+  printf("reading %.17g%s\n", quendaric_double(reading.pattern),
+         reading.flags & QUENDARIC_INEXACT ? " (rounded)" : "");
+  return READ;
+}
+
 int main(int argc, char **argv) {
   table_file table;
   double current, sensitivity;
   if (argc != 4 || !parse(argv[2], &current) || !parse(argv[3], &sensitivity)) {
     fprintf(stderr, "usage: reading TABLE-FILE CURRENT SENSITIVITY, the last two finite numbers in the range of double\n");
-    return 2;
+    return FAILED;
   }
   FILE *file = fopen(argv[1], "rb");
   if (file == NULL) {
     perror(argv[1]);
-    return 2;
+    return FAILED;
   }
   if (!read_table(file, argv[1], &table))
-    return 2;
+    return FAILED;
   fclose(file);
-
-  quendaric_report report = quendaric_check_table(table.bytes, table.length);
-  if (report.refusal != 0) {
-    printf("table refused: %" PRIu64 ", place %" PRIu64 "\n", report.refusal, report.place);
-    if (report.refusal == QUENDARIC_REFUSED_BAD_CELL)
-      printf("bad cells: %" PRIu64 "; the first: row %" PRIu64 ", column %" PRIu64 ", divisor %" PRIu64
-             ", remainder %" PRId64 "\n",
-             report.count, report.row, report.column, report.divisor, report.remainder);
-    return 1;
+  int status = print_reading(&table, current, sensitivity);
+  if (fclose(stdout) != 0) {
+    perror("standard output");
+    return FAILED;
   }
-  printf("table passed\n");
-
-  quendaric_binary64 reading = quendaric_divide_binary64(
-      table.bytes, table.length, quendaric_pattern(current), quendaric_pattern(sensitivity), QUENDARIC_NEAREST);
-  if (reading.refusal != 0 || (reading.flags & ~(uint64_t)QUENDARIC_INEXACT) != 0) {
-    printf("no reading: refusal %" PRIu64 ", flags %" PRIu64 "\n", reading.refusal, reading.flags);
-    return 1;
-  }
-  printf("reading %.17g%s\n", quendaric_double(reading.pattern),
-         reading.flags & QUENDARIC_INEXACT ? " (rounded)" : "");
-  return 0;
+  return status;
 }

@@ -3,29 +3,29 @@
 
      sorted < READINGS
 
+   Status: 0 all was written; 1 a reading was refused; 2 the input could not be read or is wrong, or not all was written. What
+   is wrong stands on standard error.
    Build: gcc -Iinclude examples/sorted.c target/staticlib/libquendaric.a -o sorted */
 
+#include "lines.h"
 #include "quendaric.h"
 #include <errno.h>
 #include <inttypes.h>
-#include <stdio.h>
 #include <stdlib.h>
-#include <string.h>
-
-enum { MOST = 100000 };
 
 static struct reading {
   uint64_t current, sensitivity;
   size_t line;
 } readings[MOST];
 
-/* Is the word a whole number, digits alone? */
-static int whole(const char *word, uint64_t *number) {
-  if (word == NULL || strspn(word, "0123456789") != strlen(word))
-    return 0;
+/* Reads a whole number, digits alone, from a word into *number. 0, and a message, where the word is none. */
+static int read_whole(const char *word, uint64_t *number) {
   errno = 0;
   *number = strtoull(word, NULL, 10);
-  return errno == 0;
+  if (errno == 0 && strspn(word, "0123456789") == strlen(word))
+    return 1;
+  fprintf(stderr, "line %zu: %s is not a whole number below 2^64\n", line_number, word);
+  return 0;
 }
 
 /* For qsort. Every reading has been compared with itself, so that none is refused here. */
@@ -42,17 +42,15 @@ int main(int argc, char **argv) {
     return 2;
   }
   size_t count = 0;
-  char line[256];
-  while (fgets(line, sizeof line, stdin) != NULL) {
+  char line[LINE], *first, *second;
+  int words;
+  while ((words = two_words(line, &first, &second)) == 2) {
     uint64_t a, b;
-    const char *first = strtok(line, " \t\n"), *second = strtok(NULL, " \t\n");
-    if (count == MOST || !whole(first, &a) || !whole(second, &b) || strtok(NULL, " \t\n") != NULL) {
-      fprintf(stderr, "line %zu: not two whole numbers, or more than %d readings\n", count + 1, MOST);
+    if (!read_whole(first, &a) || !read_whole(second, &b))
       return 2;
-    }
     quendaric_comparison itself = quendaric_compare_ratios(a, b, a, b);
     if (itself.refusal != 0) {
-      printf("line %zu refused: %" PRIu64 "\n", count + 1, itself.refusal);
+      fprintf(stderr, "line %zu: refused: %" PRIu64 "\n", line_number, itself.refusal);
       return 1;
     }
     readings[count].current = a;
@@ -60,12 +58,10 @@ int main(int argc, char **argv) {
     readings[count].line = count;
     count++;
   }
-  if (ferror(stdin)) {
-    perror("standard input");
+  if (words != 0)
     return 2;
-  }
   qsort(readings, count, sizeof *readings, compare);
   for (size_t j = 0; j < count; j++)
     printf("%" PRIu64 " %" PRIu64 "\n", readings[j].current, readings[j].sensitivity);
-  return fflush(stdout) == 0 ? 0 : 2;
+  return written() ? 0 : 2;
 }

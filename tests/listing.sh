@@ -1,5 +1,5 @@
 #!/bin/sh
-# The listing program on the inputs that the documents show, and on what is no table; the maker. Whole outputs,
+# The listing program on the inputs that the specification shows, and on what is no table; the maker. Whole outputs,
 # and what is said where not all was read or written.
 # Drawn inputs are in tests/host/tests/listing.rs. Run it after `rt check listing maker` has written target/bin/.
 # shellcheck source=tests/cases.sh
@@ -15,7 +15,7 @@ prints 'the kept table before the finer estimate' listing "$root/tables/kept-sev
 prints 'the table that Clarke and Zhao print' listing "$root/tables/clarke-zhao-1995.table" "$names"
 
 changed "$kept" 215 002
-prints "document 01's example" listing "$work/changed" "$names
+prints "the specification's example" listing "$work/changed" "$names
 $first"
 
 prints "the 1994 Pentium's table" listing "$pentium" "$names

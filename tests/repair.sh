@@ -21,7 +21,7 @@ changes 0"
 repairs 'another that passes' "$root/tables/clarke-zhao-1995.table" "$root/tables/clarke-zhao-1995.table" "$names
 changes 0"
 
-# document 01's example, and the kept table comes back
+# the specification's example, and the kept table comes back
 changed "$kept" 215 002
 repairs 'a bad cell' "$work/changed" "$kept" "$names
 1 87 2 4

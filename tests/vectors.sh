@@ -51,7 +51,13 @@ runs '16,000 lines' "$work/long" 's/llvm.txt 28/llvm.txt 16000/; s/total 9724/to
 head -n 1 "$llvm" >>"$work/long"
 runs '16,001 lines' "$work/long" "$without" 'div-llvm.txt: more than 16000 lines'
 
+# where its files are not, the program says where it runs, and prints no total
+mkdir "$work/empty"
+(cd "$work/empty" && "$root/target/bin/vectors" >"$work/found" 2>&1)
+echo 'vectors: no div-testfloat.txt here; run it in crates/vectors/data' >"$work/expected"
+same 'in another folder' "$work/expected"
+
 cd "$root/crates/vectors/data" || exit 1
 loses vectors /dev/null
 
-ends vectors 15
+ends vectors 16

@@ -1,4 +1,4 @@
-/* The same division in C, to measure against: document 01's recurrence step by step, with document 02's finer estimate and
+/* The same division in C, to measure against: the specification's recurrence step by step, with its finer estimate and
    the quotient by on-the-fly conversion, the same with the next column known ahead of the words, and binary64 division over
    each. And the same roots. */
 #ifndef BASELINE_H
@@ -19,7 +19,7 @@ typedef struct {
   uint64_t root, remainder;
 } baseline_root;
 
-/* The recurrence as the documents write it: the column from the two words, then the words, at each step. */
+/* The recurrence as the specification writes it: the column from the two words, then the words, at each step. */
 baseline_ran plain_run(const uint8_t *table, uint64_t dividend, uint64_t divisor, int digits, uint8_t *out);
 
 /* The same digits, the next column worked out from the top bits of the words and of the chosen multiple. */

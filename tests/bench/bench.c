@@ -97,11 +97,11 @@ typedef struct {
   const char *name, *what;
   uint64_t (*call)(int, uint64_t);
   int calls; /* in a round */
-  double apart, chained; /* best ns a call: calls that do not wait for each other, and calls that do (0: not measured) */
+  double throughput, latency; /* best ns a call: calls that do not wait for each other, and calls that do (0: not measured) */
 } measure;
 
 static measure measures[] = {
-    {"run-plain", "C, the documents' recurrence, 28 digits", run_plain, PAIRS, 0, 0},
+    {"run-plain", "C, the plain recurrence, 28 digits", run_plain, PAIRS, 0, 0},
     {"run-ahead", "C, the same fast algorithm, 28 digits", run_ahead, PAIRS, 0, 0},
     {"run-kept", "unit, kept run, 28 digits", run_kept, PAIRS, 0, 0},
     {"run-lent", "unit, lent run, 28 digits (checks the table)", run_lent, 32, 0, 0},
@@ -115,7 +115,7 @@ static measure measures[] = {
     {"repair-bad", "unit, repair of a table whose cells with points are all bad", repair_bad, 32, 0, 0},
     {"visits", "unit, visits of 1,024 pairs, 28 digits", visits, 1, 0, 0},
     {"check-plain", "C, count of bad cells, 128-bit numbers", check_plain, 8, 0, 0},
-    {"b64-plain", "C, binary64 over the documents' recurrence", b64_plain, PAIRS, 0, 0},
+    {"b64-plain", "C, binary64 over the plain recurrence", b64_plain, PAIRS, 0, 0},
     {"b64-ahead", "C, binary64 over the fast algorithm", b64_ahead, PAIRS, 0, 0},
     {"b64-kept", "unit, kept binary64", b64_kept, PAIRS, 0, 0},
     {"b64-processor", "the processor's binary64", b64_processor, PAIRS, 0, 0},
@@ -287,10 +287,10 @@ static int agree(void) {
   return differ;
 }
 
-static double timed(measure *m, int chained) {
+static double timed(measure *m, int latency) {
   uint64_t x = 0;
   double start = now();
-  if (chained)
+  if (latency)
     for (int i = 0; i < m->calls; i++)
       x = m->call(i, x);
   else
@@ -321,10 +321,10 @@ static const measure *named(const char *name) {
 }
 
 static void ratio(const char *what, const char *x, const char *y, double target) {
-  double r = named(x)->apart / named(y)->apart;
+  double r = named(x)->throughput / named(y)->throughput;
   printf("%-58s %7.2f", what, r);
   if (chains(named(x)) && chains(named(y)))
-    printf(" %7.2f", named(x)->chained / named(y)->chained);
+    printf(" %7.2f", named(x)->latency / named(y)->latency);
   else
     printf(" %7s", "-");
   if (target > 0)
@@ -338,7 +338,7 @@ static int by_size(const void *x, const void *y) {
 }
 
 static void of_lent(const char *what, double quarter[3], const char *than, double target) {
-  double t = named(than)->apart;
+  double t = named(than)->throughput;
   printf("%-58s %7.2f %7.2f %7.2f   at most %g: %s\n", what, quarter[0] / t, quarter[1] / t, quarter[2] / t, target,
          quarter[1] / t <= target ? "met" : "MISSED");
 }
@@ -352,7 +352,7 @@ static void lent_alone(void) {
     difference[i] = timed(&lent, 0) - timed(&alone, 0);
   qsort(difference, DIFFERENCES, sizeof *difference, by_size);
   double quarter[3] = {difference[DIFFERENCES / 4], difference[DIFFERENCES / 2], difference[3 * (DIFFERENCES / 4)]};
-  printf("\n%-58s %7s %7s %7s\n", "a lent run less a check, of many differences", "quarter", "middle", "quarter");
+  printf("\n%-57s %8s %7s %8s\n", "a lent run less a check, of many differences", "quartile", "median", "quartile");
   printf("%-58s %7.1f %7.1f %7.1f\n", "ns a call", quarter[0], quarter[1], quarter[2]);
   of_lent("the same / the same recurrence in C", quarter, "run-plain", 0.65);
   of_lent("the same / the same fast algorithm in C", quarter, "run-ahead", 1.10);
@@ -546,19 +546,19 @@ int main(int argc, char **argv) {
   }
   for (int round = 0; round < ROUNDS; round++)
     for (int j = 0; j < MEASURES; j++) {
-      keep(&measures[j].apart, timed(&measures[j], 0));
+      keep(&measures[j].throughput, timed(&measures[j], 0));
       if (chains(&measures[j]))
-        keep(&measures[j].chained, timed(&measures[j], 1));
+        keep(&measures[j].latency, timed(&measures[j], 1));
     }
-  printf("%-58s %7s %7s\n", "best of rounds, ns a call", "apart", "chained");
+  printf("%-56s %10s %7s\n", "best of rounds, ns a call", "throughput", "latency");
   for (int j = 0; j < MEASURES; j++) {
-    printf("%-58s %7.1f", measures[j].what, measures[j].apart);
+    printf("%-58s %7.1f", measures[j].what, measures[j].throughput);
     if (chains(&measures[j]))
-      printf(" %7.1f\n", measures[j].chained);
+      printf(" %7.1f\n", measures[j].latency);
     else
       printf(" %7s\n", "-");
   }
-  printf("\n%-58s %7s %7s\n", "ratios", "apart", "chained");
+  printf("\n%-56s %10s %7s\n", "ratios", "throughput", "latency");
   ratio("kept run / the same recurrence in C", "run-kept", "run-plain", 0.65);
   ratio("kept run / the same fast algorithm in C", "run-kept", "run-ahead", 1.10);
   ratio("kept binary64 / binary64 over the recurrence in C", "b64-kept", "b64-plain", 0.65);
@@ -575,7 +575,7 @@ int main(int argc, char **argv) {
   ratio("packed / the same whole numbers", "packed", "whole-sixteen", 0);
   ratio("repair of a passing table / its check", "repair", "check", 0);
   ratio("repair, every cell with a point bad / its check", "repair-bad", "check-bad", 0);
-  double runs = named("visits")->apart / (PAIRS * named("run-kept")->apart);
+  double runs = named("visits")->throughput / (PAIRS * named("run-kept")->throughput);
   printf("%-58s %7.2f %7s   at most 1.5: %s\n", "visits of 1,024 pairs / as many kept runs", runs, "-", runs <= 1.5 ? "met" : "MISSED");
   ratio("comparison of drawn ratios / kept whole numbers", "compare-any", "whole-kept", 0);
   ratio("comparison of neighbours / kept whole numbers", "compare-near", "whole-kept", 0);

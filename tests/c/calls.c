@@ -1,5 +1,5 @@
 /* Would catch a header that does not fit the library, or that only one of C and C++ takes: every call is made through
-   it, on document 01's worked examples and some roots, on each refusal and with NULL for what has no length, in a program that is
+   it, on the specification's worked examples and some roots, on each refusal and with NULL for what has no length, in a program that is
    compiled as both. It prints nothing but what differs. */
 
 #include "quendaric.h"

@@ -1,14 +1,14 @@
-/* Would catch a call that uses more of the stack than include/quendaric.h says: each call is made on a stack of painted
-   bytes, on drawn operands, and the bytes below its caller's that have changed are counted; for the two calls that have a
-   number of their own, apart. For x86-64, in GNU C; the caller's stack pointer must stay where it is
-   (-maccumulate-outgoing-args). */
+/* Would catch a call that uses more of the stack than include/quendaric.h says was measured, and so more than it
+   promises: each call is made on a stack of painted bytes, on drawn operands, and the bytes below its caller's that have
+   changed are counted. tests/c/run takes the measured numbers from the header into measured.h. For x86-64, in GNU C;
+   the caller's stack pointer must stay where it is (-maccumulate-outgoing-args). */
 
+#include "measured.h"
 #include "quendaric.h"
 #include <stdio.h>
 #include <string.h>
 
-/* The calls from AFFECTED on are the two. */
-enum { AFFECTED = 19, CALLS = 21, TURNS = 1000, PAINT = 0xA5 };
+enum { TURNS = 1000, PAINT = 0xA5 };
 
 static uint8_t stack[16384] __attribute__((aligned(64)));
 static uint8_t table[QUENDARIC_TABLE_LENGTH], buffer[QUENDARIC_MOST_DIGITS];
@@ -29,6 +29,43 @@ static uint64_t bits(void) {
   return z ^ z >> 31;
 }
 
+/* Every call, the macro of the header that says how much stack it may use, and an example of it. */
+#define EACH(CALL)                                                                                                     \
+  CALL(check_cell, QUENDARIC_STACK, quendaric_check_cell(a % 16, b % 128, a % 5).allowed)                              \
+  CALL(check_table, QUENDARIC_STACK, quendaric_check_table(table, size).count)                                         \
+  CALL(row_limits, QUENDARIC_STACK, quendaric_row_limits(a % 16).limits[0])                                            \
+  CALL(make_table, QUENDARIC_STACK, quendaric_make_table(table, size).refusal)                                         \
+  CALL(run, QUENDARIC_STACK, quendaric_run(table, size, dividend, divisor, digits, buffer, room, 0).quotient)          \
+  CALL(run_kept, QUENDARIC_STACK, quendaric_run_kept(dividend, divisor, digits, buffer, room, 0).quotient)             \
+  CALL(divide_whole, QUENDARIC_STACK, quendaric_divide_whole(table, size, x, y).quotient)                              \
+  CALL(divide_whole_kept, QUENDARIC_STACK, quendaric_divide_whole_kept(x, y).quotient)                                 \
+  CALL(divide_binary64, QUENDARIC_STACK, quendaric_divide_binary64(table, size, a, b, a % 4).pattern)                  \
+  CALL(divide_binary64_kept, QUENDARIC_STACK, quendaric_divide_binary64_kept(a, b, a % 4).pattern)                     \
+  CALL(divide_samples, QUENDARIC_STACK,                                                                                \
+       quendaric_divide_samples(table, size, &a, 1, &b, 1, &concentration, 1, a % 4).flags)                            \
+  CALL(average_windows, QUENDARIC_STACK,                                                                               \
+       quendaric_average_windows(readings, 8, 1 + a % 8, a % 16 > 7, means, 8, remainders, 8).refusal)                 \
+  CALL(root_whole, QUENDARIC_STACK, quendaric_root_whole(x).root)                                                      \
+  CALL(step, QUENDARIC_STACK, quendaric_step(dividend, 0, divisor, table, size).sum)                                   \
+  CALL(divide_packed, QUENDARIC_STACK, quendaric_divide_packed(digit, digit + 8).quotient[0])                          \
+  CALL(repair_table, QUENDARIC_STACK,                                                                                  \
+       quendaric_repair_table(read_back, size, repaired, size, changed, size).count)                                   \
+  CALL(affected_samples, QUENDARIC_STACK_AFFECTED,                                                                     \
+       quendaric_affected_samples(read_back, size, &a, 1, &b, 1, changed, 1).count)                                    \
+  CALL(affected_whole, QUENDARIC_STACK_AFFECTED, quendaric_affected_whole(read_back, size, x, y).affected)             \
+  CALL(count_visits, QUENDARIC_STACK, quendaric_count_visits(table, size, 1 + a % 2, digits, visits, size).refusal)    \
+  CALL(compare_ratios, QUENDARIC_STACK, (uint64_t)quendaric_compare_ratios(x, y, x + a % 2, y + b % 2).order)          \
+  CALL(root_binary64, QUENDARIC_STACK, quendaric_root_binary64(a >> 1, b % 4).pattern)
+
+#define NAME(name, promise, call) CALL_##name,
+enum { EACH(NAME) CALLS };
+
+#define ROW(name, promise, call) {#name, #promise, promise, promise##_MEASURED},
+static const struct {
+  const char *name, *macro;
+  long promised, measured;
+} told[] = {EACH(ROW)};
+
 /* One of the calls. */
 static void call(void) {
   const size_t size = sizeof table, room = sizeof buffer, digits = 1 + a % QUENDARIC_MOST_DIGITS;
@@ -36,27 +73,9 @@ static void call(void) {
                  y = b >> (4 + a % 60) | 1;
   __asm__ volatile("mov %%rsp, %0" : "=r"(pointer));
   switch (which) {
-  case 0: sink = quendaric_check_cell(a % 16, b % 128, a % 5).allowed; break;
-  case 1: sink = quendaric_check_table(table, size).count; break;
-  case 2: sink = quendaric_row_limits(a % 16).limits[0]; break;
-  case 3: sink = quendaric_make_table(table, size).refusal; break;
-  case 4: sink = quendaric_run(table, size, dividend, divisor, digits, buffer, room, 0).quotient; break;
-  case 5: sink = quendaric_run_kept(dividend, divisor, digits, buffer, room, 0).quotient; break;
-  case 6: sink = quendaric_divide_whole(table, size, x, y).quotient; break;
-  case 7: sink = quendaric_divide_whole_kept(x, y).quotient; break;
-  case 8: sink = quendaric_divide_binary64(table, size, a, b, a % 4).pattern; break;
-  case 9: sink = quendaric_divide_binary64_kept(a, b, a % 4).pattern; break;
-  case 10: sink = quendaric_divide_samples(table, size, &a, 1, &b, 1, &concentration, 1, a % 4).flags; break;
-  case 11: sink = quendaric_average_windows(readings, 8, 1 + a % 8, a % 16 > 7, means, 8, remainders, 8).refusal; break;
-  case 12: sink = quendaric_root_whole(x).root; break;
-  case 13: sink = quendaric_step(dividend, 0, divisor, table, size).sum; break;
-  case 14: sink = quendaric_divide_packed(digit, digit + 8).quotient[0]; break;
-  case 15: sink = quendaric_repair_table(read_back, size, repaired, size, changed, size).count; break;
-  case 16: sink = quendaric_count_visits(table, size, 1 + a % 2, digits, visits, size).refusal; break;
-  case 17: sink = (uint64_t)quendaric_compare_ratios(x, y, x + a % 2, y + b % 2).order; break;
-  case 18: sink = quendaric_root_binary64(a >> 1, b % 4).pattern; break;
-  case AFFECTED: sink = quendaric_affected_samples(read_back, size, &a, 1, &b, 1, changed, 1).count; break;
-  default: sink = quendaric_affected_whole(read_back, size, x, y).affected; break;
+#define CASE(name, promise, call)                                                                                      \
+  case CALL_##name: sink = call; break;
+    EACH(CASE)
   }
 }
 
@@ -75,19 +94,30 @@ static long used(void) {
   return pointer - low;
 }
 
+/* The most that a call uses in so many turns. */
+static long most_of(void) {
+  long most = 0;
+  for (int turn = 0; turn < TURNS; turn++) {
+    a = bits(), b = bits();
+    readings[turn % 8] = a >> 24;
+    digit[turn % 16] = (uint8_t)(a % 10 * 16 + b % 10);
+    read_back[a % sizeof read_back] = (uint8_t)(b % 8);
+    long now = used();
+    most = now > most ? now : most;
+  }
+  return most;
+}
+
 int main(void) {
-  long most[2] = {0, 0};
+  int over = 0;
   if (quendaric_make_table(table, sizeof table).refusal != 0)
     return 1;
-  for (which = 0; which < CALLS; which++)
-    for (int turn = 0; turn < TURNS; turn++) {
-      a = bits(), b = bits();
-      readings[turn % 8] = a >> 24;
-      digit[turn % 16] = (uint8_t)(a % 10 * 16 + b % 10);
-      read_back[a % sizeof read_back] = (uint8_t)(b % 8);
-      long now = used(), *of = most + (which >= AFFECTED);
-      *of = now > *of ? now : *of;
-    }
-  printf("  most stack of a call: %ld bytes\n  most stack of an affected call: %ld bytes\n", most[0], most[1]);
-  return most[0] > QUENDARIC_STACK || most[1] > QUENDARIC_AFFECTED_STACK;
+  for (which = 0; which < CALLS; which++) {
+    const long most = most_of();
+    const int more = most > told[which].measured || told[which].measured > told[which].promised;
+    printf("%s quendaric_%s: %ld bytes of stack; %s: %ld measured, %ld promised\n", more ? "over" : "within",
+           told[which].name, most, told[which].macro, told[which].measured, told[which].promised);
+    over |= more;
+  }
+  return over;
 }

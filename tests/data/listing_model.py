@@ -1,5 +1,5 @@
 #!/usr/bin/env python3
-"""A second model of the cell rule and the listing, written from documents 01 and 02 alone, and the two files made with it.
+"""A second model of the cell rule and the listing, written from the specification alone, and the two files made with it.
 
     python3 listing_model.py          writes all-bad.table and all-bad.listing beside this file
     python3 listing_model.py --self   compares the model with an enumeration of every point, on a small unit
@@ -16,7 +16,7 @@ from fractions import Fraction
 
 
 class Unit:
-    """The unit with D from 2^k to 2^(k+1) - 1 and words of k + 4 bits; the documents' has k = 60."""
+    """The unit with D from 2^k to 2^(k+1) - 1 and words of k + 4 bits; the specification's has k = 60."""
 
     def __init__(self, k):
         self.k = k

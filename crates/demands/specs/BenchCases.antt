@@ -1,4 +1,4 @@
--- Document 01's bench cases 1 to 12, of the kept table t; case 5 as document 02's finer estimate makes it: row 0, column 51 allows -2 too (document 01: -1 alone).
+-- The bench cases 1 to 12 (the specification, section 21.5), of the kept table t; case 5 is that of the finer estimate: row 0, column 51 allows -2 too (by the coarser one -1 alone).
 use mathlib.Core.Path.{_≡_}
 use mathlib.Core.List.{List, [], _∷_, map}
 use Prim.Native.Nat.{ℕ, _+_, _*_, _^_}

@@ -1,4 +1,4 @@
--- Demand 1: each call refuses exactly under the conditions of document 01's "Who sends bad input" and of document 02's requests, in their order; a refused answer is its
+-- Demand 1: each call refuses exactly under the conditions of the specification, section 18, in their order; a refused answer is its
 -- number, its place and zeros, and a lent buffer keeps its contents. (That every call finishes is the language's own promise.)
 use mathlib.Core.Path.{_≡_}
 use mathlib.Core.Bool.{Bool}

@@ -1,4 +1,4 @@
--- Packed decimal numbers are divided rightly: document 02, "Packed decimal". What is refused is said in demand 1.
+-- Packed decimal numbers are divided rightly: the specification, section 13. What is refused is said in demand 1.
 use mathlib.Core.Path.{_≡_}
 use mathlib.Core.List.{List, [], _∷_}
 use Prim.Native.Nat.{ℕ, _+_, _*_, _^_, _<_}

@@ -1,4 +1,4 @@
--- Ratios are compared rightly: document 02, "Ratios in order, and bigger stays bigger". What is refused is said in demand 1.
+-- Ratios are compared rightly: the specification, section 16. What is refused is said in demand 1.
 use mathlib.Core.Path.{_≡_}
 use Prim.Native.Nat.{ℕ, _-_, _*_, _/_, _%_, _^_, _<_}
 use lib.IntN.{ℤ, pos, negsuc}

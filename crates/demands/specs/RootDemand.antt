@@ -1,4 +1,4 @@
--- Roots are right: document 02, "Square roots". What they refuse is said in demand 1.
+-- Roots are right: the specification, section 12. What they refuse is said in demand 1.
 use mathlib.Core.Path.{_≡_}
 use mathlib.Core.Bool.{false}
 use Prim.Native.Nat.{ℕ, _+_, _-_, _*_, _^_, _≤_, _<_}

@@ -1,4 +1,4 @@
--- Binary64 division means what document 01 says, for every pair of operands and through every table that passes.
+-- Binary64 division means what the specification says, for every pair of operands and through every table that passes.
 use Rattle.laws.proofs.Basics.{_≡_, refl, sym, ap, ap₂, subst, _∙_, _⊎_, ⊎-elim, ℕ, zero, _-_, _^_, _≤_, _<_, arith, lit≤, List, ne-eqb}
 use native.Mathlib.Nat.{eq-zero-or-pos, lt-of-lt-of-le, mul-le-mul-left, mul-lt-mul-of-pos-right}
 use lib.Pow.{pow-pos, pow-mono}

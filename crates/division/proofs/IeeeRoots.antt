@@ -1,4 +1,4 @@
--- The binary64 root means what document 02 says, for every pattern, and nothing else means it; a root is never subnormal, never overflows and never ties.
+-- The binary64 root means what the specification says, for every pattern, and nothing else means it; a root is never subnormal, never overflows and never ties.
 use Rattle.laws.proofs.Basics.{_≡_, refl, sym, ap, subst, _∙_, Bool, true, false, inl, inr, ⊎-elim, ℕ, min, _+_, _-_, _*_, _/_, _%_, _^_, _≤_, _<_, arith, eqb, lt-ltb, ne-eqb}
 use Rattle.laws.proofs.Tests.{cond-in}
 use native.Mathlib.Nat.{le-trans, le-of-eq, le-of-mul-le-mul-right, mul-le-mul-right, mul-lt-mul-of-pos-right}

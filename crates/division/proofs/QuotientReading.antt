@@ -1,4 +1,4 @@
--- The meaning over a scale, at a quotient's scale, says what document 01 says of a/b: exponent, exactness, and what is below 2^-1022.
+-- The meaning over a scale, at a quotient's scale, says what the specification says of a/b: exponent, exactness, and what is below 2^-1022.
 use Rattle.laws.proofs.Basics.{_≡_, _↔_, ℕ, suc, _*_, _^_, _≤_, _<_, arith}
 use native.Mathlib.Nat.{pow-suc}
 use Rattle.division.proofs.Binary64Names.{IsExponent, quotientScale, quotientPlace}

@@ -1,4 +1,4 @@
--- The answer that the definition gives for an exact magnitude is that magnitude rounded once, with document 01's overflow value, sign and flags: shown once for every scale.
+-- The answer that the definition gives for an exact magnitude is that magnitude rounded once, with the specification's overflow value, sign and flags: shown once for every scale.
 use Rattle.laws.proofs.Basics.{_≡_, refl, sym, ap, ap₂, subst, _∙_, Bool, false, cond, _&&_, ⊎-elim, ℕ, min, _+_, _-_, _*_, _/_, _%_, _^_, _≤_, _<_, arith, ltb, eqb, le-leb, eq-eqb, ne-eqb, lt-ltb, le-ltb}
 use native.Mathlib.Nat.{le-of-eq, le-trans, lt-of-lt-of-le}
 use Rattle.division.proofs.Binary64Names.{modeOf, IsExponent, flagsOfResult, Rounded, roundedTo, tailAt, flagsOf, roundedResult, largest, unitsAt, roundedUnits, roundedAt, finiteRounded, Mode, Nearest, Toward, Away}
@@ -50,7 +50,7 @@ module _ (scale : ℕ → ℕ → ℕ) (inc : Increasing scale) (m : ℕ) where
     flags-meant : (mode : Mode) → flagsOf e k (tailAt (scale e) m k) ≡ flagsOfResult scale m e (roundedTo mode k (tailAt (scale e) m k))
     flags-meant mode = ap₂ (λ (y z : Bool). cond y 0 (cond z 3 1)) (exact-test (scale e) (inc .up e) m k low high mode) tiny
 
-    -- k whole units and the tail beyond them, roundedResult
+    -- k whole units and the tail beyond them, rounded and packed
     pub result-rounds : (mode : Mode) (s : Bool) → Rounded mode s scale m (roundedResult mode s e k (tailAt (scale e) m k))
     result-rounds mode s =
         let tail = tailAt (scale e) m k in

@@ -1,4 +1,4 @@
--- Binary64 division as a caller sees it: document 01, "Binary64" and "Who sends bad input".
+-- Binary64 division as a caller sees it: the specification, sections 9 and 18.
 use mathlib.Core.List.{List, _++_}
 use Prim.Native.Nat.{ℕ}
 use Rattle.selection.specs.Answer.{answerBy}

@@ -103,7 +103,7 @@ isZero Normal = false
 isZero Infinite = false
 isZero Nan = false
 
--- the document's cases, in its order
+-- the specification's cases, in its order
 abbrev pub caseOf : Class → Class → Case
 caseOf x y =
     cond (isNan x || isNan y) NotANumber

@@ -1,4 +1,4 @@
--- The binary64 format, over whole numbers: document 01, "Binary64". What rounding to it means is said in specs/Rounded, and what division means in specs/Ieee.
+-- The binary64 format, over whole numbers: the specification, section 9. What rounding to it means is said in specs/Rounded, and what division means in specs/Ieee.
 use mathlib.Core.Path.{_≡_}
 use mathlib.Core.Logic.{_⊎_}
 use Prim.Native.Nat.{ℕ, _+_, _-_, _*_, _/_, _%_, _^_}
@@ -45,7 +45,7 @@ signalling p = eqb (field p) 2047 && (ltb 0 (fraction p) && ltb (fraction p) (2 
 abbrev pub signBit : Bool → ℕ
 signBit s = cond s (2 ^ 63) 0
 
--- the patterns that document 01 names, without a sign
+-- the patterns that the specification names, without a sign
 abbrev pub infinity : ℕ
 infinity = 0x7FF0_0000_0000_0000
 

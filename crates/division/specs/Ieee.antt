@@ -1,4 +1,4 @@
--- What binary64 division means, for every pair of operands: document 01, "Binary64", with document 02's signalling patterns.
+-- What binary64 division means, for every pair of operands: the specification, section 9.
 use mathlib.Core.Path.{_≡_}
 use mathlib.Core.Bool.{Bool, cond, _||_}
 use mathlib.Core.Logic.{_⊎_}

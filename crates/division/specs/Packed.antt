@@ -1,4 +1,4 @@
--- Packed decimal numbers: document 02, "Packed decimal". Sixteen digits in eight bytes, two a byte, the higher in the high four bits, the first byte highest.
+-- Packed decimal numbers: the specification, section 13. Sixteen digits in eight bytes, two a byte, the higher in the high four bits, the first byte highest.
 use mathlib.Core.Path.{_≡_}
 use mathlib.Core.Bool.{Bool, cond, _||_}
 use mathlib.Core.List.{List, [], _∷_}

@@ -1,4 +1,4 @@
--- Two ratios of whole numbers compared: document 02, "Ratios in order, and bigger stays bigger".
+-- Two ratios of whole numbers compared: the specification, section 16.
 use mathlib.Core.Path.{_≡_}
 use mathlib.Core.Bool.{cond}
 use mathlib.Core.List.{List, [], _∷_}

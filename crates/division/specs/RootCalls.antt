@@ -1,4 +1,4 @@
--- Roots as a caller sees them: document 02, "Square roots".
+-- Roots as a caller sees them: the specification, section 12.
 use mathlib.Core.List.{List, [], _∷_}
 use Prim.Native.Nat.{ℕ, _-_, _*_}
 use Rattle.selection.specs.Answer.{refusal, answerBy}

@@ -1,4 +1,4 @@
--- What the binary64 root means, for every operand: document 02, "Square roots".
+-- What the binary64 root means, for every operand: the specification, section 12.
 use mathlib.Core.Path.{_≡_}
 use mathlib.Core.Bool.{true, false, cond}
 use mathlib.Core.Logic.{_⊎_}

@@ -1,6 +1,6 @@
--- What it means to round an exact magnitude to a binary64 pattern: document 01, "Binary64". It is stated once for every operation that rounds.
+-- What it means to round an exact magnitude to a binary64 pattern: the specification, section 9. It is stated once for every operation that rounds.
 -- An exact magnitude is given by a scale and a number m: half a unit of 2^(e - 1074) taken j times lies at `scale e j`, and the magnitude at m.
--- Here e is E + 1022 for document 01's E, so that e = 0 is E raised to -1022, and a unit of 2^(E - 52) is 2^e units of 2^-1074.
+-- Here e is E + 1022 for the specification's E, so that e = 0 is E raised to -1022, and a unit of 2^(E - 52) is 2^e units of 2^-1074.
 use mathlib.Core.Path.{_≡_}
 use mathlib.Core.Bool.{Bool, cond}
 use Prim.Native.Nat.{ℕ, _+_, _*_, _^_, _≤_, _<_}

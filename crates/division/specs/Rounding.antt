@@ -1,4 +1,4 @@
--- What rounding an exact magnitude to whole units means: document 01, "Binary64". It is stated once for every operation that rounds.
+-- What rounding an exact magnitude to whole units means: the specification, section 9. It is stated once for every operation that rounds.
 -- An exact magnitude is given by an increasing scale f and a number m: half a unit taken j times lies at f j, the magnitude at m.
 -- A quotient n / u has f j = j * u and m = 2 * n.
 use mathlib.Core.Path.{_≡_}

@@ -1,4 +1,4 @@
--- Whole-number division as a caller sees it: document 01, "The run" and "Who sends bad input".
+-- Whole-number division as a caller sees it: the specification, sections 8 and 18.
 use mathlib.Core.List.{List, [], _∷_, _++_}
 use Prim.Native.Nat.{ℕ, _^_}
 use Rattle.selection.specs.Answer.{refusal, answerBy}

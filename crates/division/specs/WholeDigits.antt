@@ -1,4 +1,4 @@
--- How many digits a whole-number division takes: document 02, Wish 5, "as many digits as it needs".
+-- How many digits a whole-number division takes: the specification, section 8.2.
 use mathlib.Core.Path.{_≡_}
 use mathlib.Core.List.{List}
 use Prim.Native.Nat.{ℕ, _+_, _-_, _*_, _/_, _^_, _≤_, _<_}

@@ -1,4 +1,4 @@
--- What the logic reads from a pattern (`ofBits` of lib.Ieee) is what document 01's class, sign and magnitude say.
+-- What the logic reads from a pattern (`ofBits` of lib.Ieee) is what the specification's class, sign and magnitude say.
 use Rattle.laws.proofs.Basics.{_≡_, refl, sym, ap, subst, _∙_, Bool, cond, inl, inr, ⊎-elim, ℕ, zero, suc, _+_, _-_, _*_, _^_, _≤_, _<_, arith, ℤ, eqb, ne-eqb, lt-ltb, le-ltb}
 use native.Mathlib.Nat.{eq-zero-or-pos, mul-one}
 use lib.Pow as Pow

@@ -1,4 +1,4 @@
--- The logic's rounding of a fraction of two magnitudes, written as a pattern, is document 01's in direction 0.
+-- The logic's rounding of a fraction of two magnitudes, written as a pattern, is the specification's in direction 0.
 use Rattle.laws.proofs.Basics.{_≡_, refl, sym, ap, ap₂, subst, _∙_, Bool, not, ⊎-elim, ℕ, _+_, _-_, _*_, _/_, _%_, _^_, _≤_, _<_, compare, Ordering, Ordering·lt, Ordering·eq, Ordering·gt, arith, T, isLe, isEq, eqb, leb-true, leb-false, eqb-true, eqb-false, eq-eqb, ne-eqb, lt-ltb, le-ltb}
 use native.Mathlib.Nat.{div-add-mod', mod-lt, mul-div-cancel, mul-pos, lt-of-lt-of-le, le-div-iff-mul-le, div-lt-iff-lt-mul}
 use lib.Pow.{pow-pos, pow-mono, pow-add}

@@ -57,7 +57,7 @@ magnitude-top p h = ⊎-elim
     (λ (g : 0 < field p). rw (ne-eqb (field p) 0 (omega arith)) (mul-le-mul {n₂ = 2 ^ 53 - 1} {m₂ = 2 ^ 2045} (omega arith) (pow-mono {i = field p - 1} {j = 2045} (omega arith))))
     (eq-zero-or-pos (field p))
 
--- ---- what the logic reads as finite has document 01's sign and magnitude
+-- ---- what the logic reads as finite has the specification's sign and magnitude
 
 -- x has the sign s and n units of 2^-1074, an infinity 2^2098
 abbrev pub Is : Float → Bool → ℕ → Type 0

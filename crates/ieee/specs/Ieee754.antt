@@ -1,4 +1,4 @@
--- Binary64 answers by the logic's own account of IEEE 754 (lib.Ieee), through every table that passes and through the kept one. Of document 01's account it names
+-- Binary64 answers by the logic's own account of IEEE 754 (lib.Ieee), through every table that passes and through the kept one. Of the specification's account it names
 -- the answer of a call, `binary64Of`, and three patterns; what patterns stand for, their order, signs and quotients are the logic's.
 use mathlib.Core.Path.{_≡_}
 use mathlib.Core.Bool.{false, not, cond}

@@ -1,4 +1,4 @@
--- A table with no bad cell or with one, and document 01's example of a listing.
+-- A table with no bad cell or with one, and the specification's example of a listing.
 use Rattle.laws.proofs.Basics.{_≡_, refl, sym, ap, _∙_, List, [], _++_, append-nil, ⊎-elim, _⊎_, _≢_, ℕ, zero, suc, _/_, _%_, _<_, arith, pos, length, getD, set, length-set}
 use native.Mathlib.Nat.{eq-or-lt-of-le}
 use lib.Seq.{getD-set-same, getD-set-other}

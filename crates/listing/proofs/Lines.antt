@@ -1,4 +1,4 @@
--- Laws of the listing's lines: the computed ones are those in document 01's words, and there are no others.
+-- Laws of the listing's lines: the computed ones are those in the specification's words, and there are no others.
 use Rattle.laws.proofs.Basics.{_≡_, refl, sym, ap, subst, _∙_, List, _++_, ℕ, zero, suc, _+_, _/_, _%_, _≤_, _<_, add-one, arith, ℤ, getD}
 use Rattle.selection.specs.Cell.{LeastWitness, CellChecked, digit}
 use Rattle.selection.specs.Computed.{cellOf}
@@ -24,7 +24,7 @@ module _ (t : List ℕ) (k : ℕ) (h : Table t) (below : k < 2048) where
   unfolding lineOf
   line-listed = verdict-listed (cellOf (k / 128) (k % 128) (getD t k 0)) (cell-checked (k / 128) (k % 128) (getD t k 0))
 
-  -- a line that is computed so is the line in document 01's words
+  -- a line that is computed so is the line in the specification's words
   pub line-is : {l : Line} → l ≡ lineOf t k → (l ≡ lineOf t k) × Listed t k l
   line-is {l} e = (e, subst (Listed t k) (sym e) line-listed)
 
@@ -42,7 +42,7 @@ pub lines-more : (t : List ℕ) (k : ℕ) {l : Line} → l ≡ lineOf t k → li
 unfolding linesUpto
 lines-more t k e = rw (add-one, e)
 
--- a table's lines in document 01's words are those computed, and no others
+-- a table's lines in the specification's words are those computed, and no others
 pub lines-right : {t : List ℕ} → Table t → (n : ℕ) → n ≤ 2048 → Lines t n (linesUpto t n)
 unfolding linesUpto
 lines-right h zero k = none

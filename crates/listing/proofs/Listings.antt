@@ -1,4 +1,4 @@
--- The computed listing is the one in document 01's words and there is no other, and the text in the buffer is it.
+-- The computed listing is the one in the specification's words and there is no other, and the text in the buffer is it.
 use Rattle.laws.proofs.Basics.{_≡_, refl, sym, ap, _∙_, List, _++_, _≢_, ℕ, _≤_, _<_, arith, length, take, drop, length-take, ne-eqb}
 use native.Mathlib.Decide.{decLe}
 use native.Mathlib.Nat.{add-zero, lt-of-not-le}
@@ -17,7 +17,7 @@ use Rattle.printing.proofs.Texts.{appended-size, appended-take, appended-drop}
 use Rattle.listing.specs.Listing.{Lists, ListsRead, names, linesUpto, tableText, textFor, listingOf}
 use Rattle.listing.proofs.Lines.{lines-right, lines-one}
 
--- by the check's answer, the text is the listing in document 01's words
+-- by the check's answer, the text is the listing in the specification's words
 module _ (t : List ℕ) where
   table-lists : Table t → Lists t (tableText t)
   table-lists h = record { table = λ _. (linesUpto t 2048, lines-right h 2048 (omega arith), refl); refused = λ f g. no-table h g }

@@ -1,4 +1,4 @@
--- Document 01's example of a listing, and what a passed table prints: document 01, "Listing program".
+-- The specification's example of a listing, and what a passed table prints: the specification, section 19.2.
 use mathlib.Core.Path.{_≡_}
 use mathlib.Core.List.{List}
 use Prim.Native.Nat.{ℕ}

@@ -1,4 +1,4 @@
--- What the listing program prints, as a list of bytes: document 01, "Listing program". A line of names, then one line per bad cell in index order, values
+-- What the listing program prints, as a list of bytes: the specification, section 19.2. A line of names, then one line per bad cell in index order, values
 -- in decimal: row, column, digit, the witness's D, its P. For 8 or 9 it prints, instead of all that, the two lines of the refusal.
 use mathlib.Core.Path.{_≡_}
 use mathlib.Core.List.{List, [], _++_}
@@ -52,7 +52,7 @@ pub record Lists (t x : List ℕ) : Type 0 where
 pub record ListsRead (s : List ℕ) (n : ℕ) (x : List ℕ) : Type 0 where
   pub lists : (t : List ℕ) → take n s ≡ take (length s) t → Lists t x
 
--- The same, computed. A reader need not believe what is below: `line-listed`, `lists` show that it is the listing in document 01's words, and `listed-one`,
+-- The same, computed. A reader need not believe what is below: `line-listed`, `lists` show that it is the listing in the specification's words, and `listed-one`,
 -- `lists-one` that there is no other
 
 -- the line of cell k by the verdict on it. No cell of a table is refused

@@ -1,4 +1,4 @@
--- What the picture shows of cells: document 01, "Cells".
+-- What the picture shows of cells: the specification, section 3.
 use mathlib.Core.Path.{_≡_}
 use mathlib.Core.Bool.{Bool, true, false}
 use mathlib.Core.List.{List}

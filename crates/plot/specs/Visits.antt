@@ -1,4 +1,4 @@
--- What the picture of visits shows of a cell: document 02, "How often each cell is met".
+-- What the picture of visits shows of a cell: the specification, section 15.
 use mathlib.Core.Path.{_≡_}
 use mathlib.Core.List.{List, [], _∷_}
 use Prim.Native.Nat.{ℕ, _+_, _/_, _%_, _≤_, _<_}

@@ -182,8 +182,8 @@ pub(crate) fn print_axes() -> bool {
             <text x='758' y='232'>1 or 2</text><text x='758' y='328'>0 or 1</text>\n\
             <text x='758' y='424'>-1 or 0</text><text x='758' y='520'>-2 or -1</text>\n\
             </g>\n\
-            <text class='small' x='100' y='754'>D and P are in units of 2^60. A cell is drawn at its truncated estimate t; \
-            P is from t to almost one and a half columns above t.</text>\n",
+            <text class='small' x='100' y='754'>D and P are the stored numbers divided by 2^60. A cell is drawn at its truncated estimate t; \
+            P is from t to almost 1.5 columns above t.</text>\n",
         )
 }
 

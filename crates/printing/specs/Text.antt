@@ -1,4 +1,4 @@
--- Text as the list of its bytes: document 01, "Listing program": values in decimal, and the two lines of a refusal.
+-- Text as the list of its bytes: the specification, section 19.1: values in decimal, and the two lines of a refusal.
 use mathlib.Core.Path.{_≡_}
 use mathlib.Core.Bool.{cond}
 use mathlib.Core.List.{List, [], _∷_, _++_}

@@ -42,7 +42,7 @@ pub fn append_signed(out: &mut [u8], at: usize, number: i64, end: &[u8]) -> usiz
     append_number(out, at, crate::magnitude(number), end)
 }
 
-// Document 01's two lines for a refusal: its number and its place.
+// The specification's two lines for a refusal: its number and its place.
 pub fn append_refusal(out: &mut [u8], at: usize, refusal: Refusal) -> usize
     requires { ⌜ at + 56 ≤ length (now out) ⌝ }
     ensures { λ r. ⌜ Appended (now (out .entry)) at (refusalText refusal) (now (out .exit)) r ⌝ }

@@ -1,4 +1,4 @@
--- Demand 3's words on the run: one claim about all n steps of a run through a table that passes, together. With it what document 02, Wish 8, says of the states and of the quotient.
+-- Demand 3's words on the run: one claim about all n steps of a run through a table that passes, together. With it what is said of the states and of the quotient (the specification, section 6.6).
 use mathlib.Core.Path.{_≡_}
 use mathlib.Core.Bool.{cond}
 use mathlib.Core.List.{List, _++_}

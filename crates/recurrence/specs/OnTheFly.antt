@@ -1,4 +1,4 @@
--- The quotient is ready with the last digit: document 02, Wish 8. A state carries the value of its digits and that value less one; each step renews both by on-the-fly conversion.
+-- The quotient is ready with the last digit: the specification, section 6.6. A state carries the value of its digits and that value less one; each step renews both by on-the-fly conversion.
 use mathlib.Core.Path.{_≡_}
 use mathlib.Core.Bool.{cond}
 use mathlib.Core.List.{List}
@@ -45,7 +45,7 @@ pub record PairDemand : Type 0 where
   pub chosen : (t : List ℕ) → Passes t → (N D n : ℕ) → Operands N D → 1 ≤ n → n ≤ 31
       → resultOf t N D n .quotient ≡ cond (nonNeg (endRemainder t N D n)) (after t N D n .value) (after t N D n .decremented)
 
--- an example: document 01's case 9, whose digits are 1, −1, −1 and whose S is 11
+-- an example: bench case 9 (the specification, section 21.5), whose digits are 1, −1, −1 and whose S is 11
 abbrev case-9 : ℕ → State
 case-9 i = after madeTable (2 ^ 60) (3 * 2 ^ 59) i
 

@@ -1,4 +1,4 @@
--- The run as a caller sees it: document 01, "The run" and "Who sends bad input". The refusals in the order of their numbers, the answer, and the buffer whole.
+-- The run as a caller sees it: the specification, sections 6 and 18. The refusals in their order, the answer, and the buffer whole.
 use mathlib.Core.List.{List, [], _∷_, _++_}
 use Prim.Native.Nat.{ℕ, _+_, _-_, _^_}
 use lib.ListN.{length, take, drop}

@@ -1,4 +1,4 @@
--- One step for a caller: document 02, Wish 9. The refusals in their order, the answer, and the answers of a caller who feeds each returned pair back.
+-- One step for a caller: the specification, section 7. The refusals in their order, the answer, and the answers of a caller who feeds each returned pair back.
 use mathlib.Core.List.{List, [], _∷_, _++_}
 use Prim.Native.Nat.{ℕ, zero, suc, _+_, _*_}
 use lib.IntN.{pos, negℤ, _*ℤ_}

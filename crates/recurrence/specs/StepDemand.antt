@@ -1,4 +1,4 @@
--- What document 02, Wish 9, says of one step that is not refused, as one statement.
+-- What is said of one step that is not refused (the specification, section 7), as one statement.
 use mathlib.Core.Path.{_≡_}
 use mathlib.Core.List.{List}
 use Prim.Native.Nat.{ℕ, _+_, _*_, _%_, _^_, _≤_, _<_}

@@ -1,4 +1,4 @@
--- How often each cell is met: document 02, "How often each cell is met". One statement for all k.
+-- How often each cell is met: the specification, section 15. One statement for all k.
 use mathlib.Core.Path.{_≡_}
 use mathlib.Core.Bool.{cond}
 use mathlib.Core.List.{List, [], _∷_, _++_}

@@ -1,4 +1,4 @@
--- What the repair program writes, as lists of bytes: document 02, "Repair of a table read back". On standard output the repaired table, and on standard error its text: a line
+-- What the repair program writes, as lists of bytes: the specification, section 19.4. On standard output the repaired table, and on standard error its text: a line
 -- of names, one line per changed cell in index order, values in decimal (row, column, the byte read back, the new byte), and the number of changes. For 8 it writes nothing
 -- on standard output, and on standard error the two lines of the refusal.
 use mathlib.Core.Path.{_≡_}

@@ -1,4 +1,4 @@
--- Document 01's points over the integers, and those over natural numbers, are the same: P is W - 2^63.
+-- The specification's points over the integers, and those over natural numbers, are the same: P is W - 2^63.
 use Rattle.laws.proofs.Basics.{_≡_, refl, sym, subst, ap, _∙_, _⊎_, inl, inr, ⊎-elim, ℕ, _+_, _*_, _-_, _%_, _^_, _≤_, _<_, arith, ltb, ltb→lt, nltb→le, ℤ, pos, _-ℤ_, _*ℤ_}
 use mir.Syntax.{w64}
 use mir.Val.{SFits}
@@ -121,7 +121,7 @@ cell-rules r c b = record { sound = (tt, λ _. (tt, λ _. tt)); in-order = tt }
 pub is-cell : {r c b : ℕ} → ((n p : ℕ) → Wrongs (cellRules r c b) n p → ⊥) → IsCell r c b
 is-cell {r} {c} {b} a = let k = none-clear (cell-rules r c b) a in record { row = k .0 .0; column = k .0 .1; byte = k .1 .0 }
 
--- the computed verdict is document 01's
+-- the computed verdict is the specification's
 pub cell-checked : (r c b : ℕ) → CellChecked r c b (cellOf r c b)
 cell-checked r c b = record { means = go (firstRefusal (cellRules r c b)) (rules-meet (cell-rules r c b) _ refl) }
   where

@@ -37,7 +37,7 @@ truncation-error s k =
 pub column-of : (s k : ℕ) → InColumn (column s k) (signed (s + k))
 column-of s k = record { e = truncationError s k; small = omega arith; is = truncation-error s k }
 
--- P in a column, in document 01's wording over the integers: P is (c - 64)·2^57 + e but for a multiple of 2^64, and a signed number of 64 bits
+-- P in a column, in the specification's wording over the integers: P is (c - 64)·2^57 + e but for a multiple of 2^64, and a signed number of 64 bits
 pub record ExactColumn (m c : ℕ) (P : ℤ) : Type 0 where
   pub e : ℕ
   pub j : ℤ

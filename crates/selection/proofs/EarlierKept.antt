@@ -1,4 +1,4 @@
--- The table that was kept under document 01's span passes under it: it is one that a user may have burned.
+-- The table that was kept under the coarser estimate's span passes under it: it is one that a user may have burned.
 use Rattle.laws.proofs.Basics.{_≡_, sym, subst, ap, _∙_, Bool, true, false, cond, _||_, _⊎_, inl, inr, ⊎-elim, ℕ, _+_, _*_, _/_, _%_, _≤_, _<_, arith, T, ltb, leb, eqb, leb→le, getD}
 use native.Mathlib.Nat.{zero-add, not-le-of-lt}
 use Rattle.laws.specs.Lists.{listFrom}

@@ -1,4 +1,4 @@
--- For a user with a burned table: what passed under document 01's span passes under this one, and the check says so. The converse is false, by the made table.
+-- For a user with a burned table: what passed under the coarser estimate's span passes under this one, and the check says so. The converse is false, by the made table.
 use Rattle.laws.proofs.Basics.{_≡_, refl, sym, ap, ap₂, _∙_, List, ℕ, _+_, _*_, _-_, _/_, _%_, _^_, _≤_, min, arith, lit<, lit≤, ℤ, pos}
 use native.Mathlib.Nat.{le-trans}
 use Rattle.laws.specs.Lists.{listFrom}
@@ -44,7 +44,7 @@ pub made-fails-earlier : PassesUnder earlierSpan madeTable → ⊥
 unfolding madeTable listFrom madeOf allowsOf digit
 made-fails-earlier p = p .allowed 196 (lit< tt) _ _ corner .high .le
 
--- ---- document 01's estimate
+-- ---- the coarser estimate
 
 earlier-truncation-error : (s k : ℕ) → signed (s + k) ≡ signed ((earlierColumn s k + 64) * 2 ^ 57 + earlierTruncationError s k)
 earlier-truncation-error s k =

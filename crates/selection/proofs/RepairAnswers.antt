@@ -1,4 +1,4 @@
--- The answer of the repair: its refusals, that the computed answer is document 02's, and that there is no other.
+-- The answer of the repair: its refusals, that the computed answer is the specification's, and that there is no other.
 use Rattle.laws.proofs.Basics.{_≡_, refl, sym, ap, ap₂, _∙_, List, ℕ, _≤_, _<_, length}
 use Rattle.laws.specs.Lists.{filled}
 use Rattle.laws.proofs.Lists.{fill-at, fill-kept, kept-one}

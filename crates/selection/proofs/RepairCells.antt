@@ -1,4 +1,4 @@
--- The repair, cell by cell: the computed one is document 02's; and what is claimed of every repair.
+-- The repair, cell by cell: the computed one is the specification's; and what is claimed of every repair.
 use Rattle.laws.proofs.Basics.{_≡_, refl, sym, _∙_, Bool, true, false, cond, _||_, List, _⊎_, inl, inr, ⊎-elim, ℕ, _/_, _%_, _≤_, _<_, arith, ltb, eqb, ltb-true, ltb-false, eqb-true, eqb-false, length, getD, take, length-take}
 use Rattle.laws.specs.Counting.{Tally}
 use Rattle.laws.proofs.Tests.{Decides, decides-yes, decides-no}

@@ -1,4 +1,4 @@
--- Tables read back are repaired rightly: document 02's sentences, and the example.
+-- Tables read back are repaired rightly: the specification's sentences, and the example.
 use Rattle.laws.proofs.Basics.{_≡_, refl, sym, ap, subst, _∙_, Bool, true, false, true≢false, not, _||_, List, _⊎_, ⊎-elim, _≢_, ℕ, _+_, _/_, _%_, _≤_, _<_, arith, ltb, length, getD, set, length-set, replicate, length-replicate}
 use native.Mathlib.Nat.{zero-add}
 use lib.ListN.{getD-replicate}

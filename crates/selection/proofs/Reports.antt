@@ -1,4 +1,4 @@
--- The computed report is the check's answer in document 01's words, and a table is admitted exactly if it passes.
+-- The computed report is the check's answer in the specification's words, and a table is admitted exactly if it passes.
 use Rattle.laws.proofs.Basics.{_≡_, refl, sym, subst, ap, ap₂, _∙_, List, [], _∷_, _⊎_, ⊎-elim, ℕ, _+_, _*_, _/_, _%_, _≤_, _<_, arith, ltb, ltb→lt, nltb→le, lt-ltb, length, getD}
 use native.Mathlib.Nat.{not-le-of-lt}
 use Rattle.laws.proofs.Tests.{by-cond, less-decides}

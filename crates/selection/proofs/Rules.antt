@@ -69,7 +69,7 @@ unfolding rank
 positive zero h = absurd (omega arith)
 positive (suc n) h = omega arith
 
--- the order of document 01's refusals, 1 to 10, is that of their numbers
+-- the order of the refusals 1 to 10 is that of their numbers
 pub by-number : (m n : ℕ) → m < n → n < 10 → rank (m + 1) < rank (n + 1)
 unfolding rank
 by-number m n h l =

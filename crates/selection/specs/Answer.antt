@@ -1,4 +1,4 @@
--- The paper numbers of the two answers that hold an enum, and of an admission: document 01, "Who sends bad input". The refusal's number (0: none) and place, and the values, zeros where it refuses.
+-- The numbers of the two answers that hold an enum, and of an admission: the specification, section 18. The refusal's number (0: none) and place, and the values, zeros where it refuses.
 use mathlib.Core.Path.{_≡_}
 use Prim.Native.Nat.{ℕ, _+_, _*_, _≤_}
 use lib.IntN.{pos}

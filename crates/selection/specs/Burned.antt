@@ -1,4 +1,4 @@
--- Burned tables: document 02, "A finer estimate". What document 01's estimate leaves out, and what is said of a table that passed by it.
+-- Burned tables: the specification, section 2.6. What the coarser estimate leaves out, and what is said of a table that passed by it.
 use mathlib.Core.Path.{_≡_}
 use mathlib.Core.List.{List}
 use Prim.Native.Nat.{ℕ, _+_, _*_, _/_, _%_, _^_, _≤_, _<_}
@@ -12,7 +12,7 @@ use Rattle.selection.specs.Computed.{madeTable, reportOf}
 use Rattle.selection.specs.EarlierKept.{earlierKept}
 use Rattle.selection.specs.declared.Admission.the-variants.{Admitted}
 
--- document 01's estimate is the sum of the top seven bits of each word, modulo 128: the column, and what is left out of both words
+-- the coarser estimate is the sum of the top seven bits of each word, modulo 128: the column, and what is left out of both words
 abbrev pub earlierColumn : ℕ → ℕ → ℕ
 earlierColumn s k = (s / 2 ^ 57 + k / 2 ^ 57 + 64) % 128
 

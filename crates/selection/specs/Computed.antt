@@ -1,5 +1,5 @@
 -- The answers, computed: `cellOf`, `rowLimitsOf`, `madeTable`, `makeOf`, `reportOf`, `repairOf`. A reader need not believe them: `cell-checked`, `allows-decides`, `limits-right`,
--- `made-table-is`, `report-checked` and the contracts of `row_limits`, `make_table` and `repair_table` show that each is the answer in the documents' words, and
+-- `made-table-is`, `report-checked` and the contracts of `row_limits`, `make_table` and `repair_table` show that each is the answer in the specification's words, and
 -- `cell-checked-one`, `limited-one`, `made-one`, `makes-one`, `checked-one`, `repairs-one` that there is no other.
 use mathlib.Core.Bool.{cond}
 use mathlib.Core.List.{List, [], _∷_, _++_}

@@ -1,4 +1,4 @@
--- The table that was kept under document 01's span, by the limits of its rows: what a user may have burned.
+-- The table that was kept under the coarser estimate's span, by the limits of its rows: what a user may have burned.
 use mathlib.Core.List.{List, [], _∷_}
 use Prim.Native.Nat.{ℕ, _/_, _%_}
 use lib.ListN.{getD}

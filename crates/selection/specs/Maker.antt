@@ -1,4 +1,4 @@
--- The made table and the limits of its rows: document 01, "Maker". Quotient-digit selection by the allowed digit nearest zero.
+-- The made table and the limits of its rows: the specification, section 5. Quotient-digit selection by the allowed digit nearest zero.
 use mathlib.Core.Path.{_≡_}
 use mathlib.Core.Bool.{cond}
 use mathlib.Core.List.{List, [], _∷_, _++_}

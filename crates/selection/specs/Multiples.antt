@@ -1,5 +1,5 @@
 -- The test of a cell by its row's multiples, computed: which digits are allowed, and the witness. `cellOf`, `allowsOf` and `limitsOf`, which public contracts cite, are
--- computed by it. A reader need not believe it: `test-right`, `cell-checked` and `allows-decides` show that it finds what document 01 asks for.
+-- computed by it. A reader need not believe it: `test-right`, `cell-checked` and `allows-decides` show that it finds what the specification asks for.
 -- It is over natural numbers: W is P + 2^63, b is the digit plus 2.
 use mathlib.Core.Path.{_≡_}
 use mathlib.Core.Bool.{Bool, true, cond, not, _||_}

@@ -1,4 +1,4 @@
--- Who sends bad input: document 01's section of that name, in one order of all refusals. What a call refuses is a list of rules: each call's stands with its answer.
+-- Who sends bad input: the specification, section 18, in one order of all refusals. What a call refuses is a list of rules: each call's stands with its answer.
 use mathlib.Core.Path.{_≡_}
 use mathlib.Core.Bool.{Bool, cond, not, _||_}
 use mathlib.Core.List.{List, [], _∷_}

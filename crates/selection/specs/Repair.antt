@@ -1,4 +1,4 @@
--- The repair of a table read back: document 02, "Repair of a table read back".
+-- The repair of a table read back: the specification, section 14.
 use mathlib.Core.Path.{_≡_}
 use mathlib.Core.List.{List, [], _∷_}
 use mathlib.Core.Logic.{_⊎_, _↔_}

@@ -1,4 +1,4 @@
--- Document 02, "Repair of a table read back", for every list of bytes t and every two buffers that held rs and cs: what is left in them, and the answer.
+-- Repair of a table read back (the specification, section 14), for every list of bytes t and every two buffers that held rs and cs: what is left in them, and the answer.
 use mathlib.Core.Path.{_≡_}
 use mathlib.Core.List.{List}
 use Prim.Native.Nat.{ℕ, _≤_}
@@ -17,7 +17,7 @@ pub record RepairTold (t rs cs : List ℕ) : Type 0 where
   -- the check's own answer to it
   pub checked : reportNumbers (reportOf (take 2048 (repairedOf t rs cs))) ≡ reportZeros (refusal 0 0)
 
--- an example: the made table read back with byte 215 changed from 4 to 2, as in document 01's listing, and byte 0 from 2 to 9; and buffers that just fit
+-- an example: the made table read back with byte 215 changed from 4 to 2, as in the specification's listing, and byte 0 from 2 to 9; and buffers that just fit
 abbrev pub readBack : List ℕ
 readBack = set (set madeTable 0 9) 215 2
 

@@ -1,4 +1,4 @@
--- Tables and their check: document 01, "Cells" and "Check". A table is the list of its bytes.
+-- Tables and their check: the specification, sections 3 and 4. A table is the list of its bytes.
 use mathlib.Core.Path.{_≡_}
 use mathlib.Core.List.{List, [], _∷_, _++_}
 use Prim.Native.Nat.{ℕ, _+_, _*_, _/_, _%_, _≤_, _<_}

@@ -352,10 +352,31 @@ fn report(out: &mut [u8; ROOM]) -> usize
     append_counts(out, seven.end, b"total", seven.total)
 }
 
-fn main() {
+fn print_report() {
     let mut out = [0u8; ROOM];
     let end = report(&mut out);
     if !io::write_all(STDOUT_FILENO, &out[..end]) {
         io::write_all(STDERR_FILENO, b"vectors: not all was written\n");
     }
+}
+
+// Whether the program runs where its files are: the first of them can be opened.
+fn files_are_here() -> bool {
+    let fd = os::open_read(b"div-testfloat.txt");
+    if fd < 0 {
+        return false;
+    }
+    libc::close(fd);
+    true
+}
+
+fn main() {
+    if !files_are_here() {
+        io::write_all(
+            STDERR_FILENO,
+            b"vectors: no div-testfloat.txt here; run it in crates/vectors/data\n",
+        );
+        return;
+    }
+    print_report();
 }

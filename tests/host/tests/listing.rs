@@ -11,7 +11,7 @@ fn listing(input: &[u8]) -> String {
     printed("listing", input)
 }
 
-/// Document 01's listing of an input.
+/// The specification's listing of an input.
 fn wanted(input: &[u8]) -> String {
     let report = rule().check(input);
     if report.refusal == 8 || report.refusal == 9 {

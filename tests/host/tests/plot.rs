@@ -18,8 +18,8 @@ const FEW: usize = 16;
 /// What is drawn above the cells.
 const ABOVE: [&str; 6] = ["grid", "axis", "line", "range", "bad", "ring"];
 
-/// Where the axes have a divisor and a remainder, both in units of 2^60: D from 1 to 2 is 640 wide, P from -6 to 6 is
-/// 576 high. A row is a sixteenth of the width and a column, an eighth of the unit, 6 high.
+/// Where the axes have a divisor and a remainder, the stored numbers divided by 2^60: D from 1 to 2 is 640 wide, P from -6
+/// to 6 is 576 high. A row is a sixteenth of the width and a column, an eighth of the unit, 6 high.
 fn across(d: f64) -> f64 {
     100.0 + 640.0 * (d - 1.0)
 }

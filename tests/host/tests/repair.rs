@@ -1,5 +1,5 @@
 //! Would catch a repair that changes a cell which may stay, leaves one which may not, writes a digit that is not the made
-//! one, marks or counts otherwise, or touches a byte behind the 2,048: the call against the document's rule, on drawn
+//! one, marks or counts otherwise, or touches a byte behind the 2,048: the call against the specification's rule, on drawn
 //! tables with 0 to 2,048 changed bytes and buffers longer than needed; the program's table and text on such tables. The
 //! draws are from the fixed seed below.
 use host::calls::{check_table, repair_table, Repair};
@@ -10,7 +10,7 @@ use host::programs::written;
 const SEED: u64 = 0x5EED_0011;
 const CANARY: u8 = 0x5A;
 
-/// A table read back, and what document 02 makes of it: the repaired table, its marks and the number of changes.
+/// A table read back, and what the specification makes of it: the repaired table, its marks and the number of changes.
 fn wanted(table: &[u8]) -> (Vec<u8>, Vec<u8>, u64) {
     let made = rule().made();
     let stays = |cell: usize| table[cell] <= 4 && rule().witness(cell, table[cell]).is_none();
@@ -31,7 +31,7 @@ fn repaired(table: &[u8], longer: usize, still: usize) -> (Vec<u8>, Vec<u8>, u64
     (repaired[..CELLS].to_vec(), changed[..CELLS].to_vec(), got.count)
 }
 
-/// Repaired as the document's rule says; the check passes it, and a second repair changes nothing.
+/// Repaired as the specification's rule says; the check passes it, and a second repair changes nothing.
 fn check(table: &[u8], what: &str) -> (Vec<u8>, u64) {
     let want = wanted(table);
     let got = repaired(table, table[0] as usize % 3, table[1] as usize % 5);

@@ -1,5 +1,5 @@
 //! Would catch a check that passes a damaged table or refuses a passing one, a wrong number of bad cells, and a first
-//! cell or witness that is not the first or not the least. Each answer is held against the document's rule and against
+//! cell or witness that is not the first or not the least. Each answer is held against the specification's rule and against
 //! the check as it was before the rows' multiples. The draws are from the fixed seed below.
 use host::calls::{check_table, Table};
 use host::document::{rule, CELLS};
@@ -8,7 +8,7 @@ use host::earlier::FINER;
 
 const SEED: u64 = 0x5EED_2048;
 
-/// The check's answer, which is that of the document's rule and of the earlier check.
+/// The check's answer, which is that of the specification's rule and of the earlier check.
 fn checked(table: &[u8], what: &str) -> Table {
     let got = check_table(table);
     assert_eq!(got, rule().check(table), "{what}");

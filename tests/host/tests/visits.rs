@@ -83,7 +83,7 @@ fn the_list_is_written_over() {
     }
 }
 
-/// The first refusal by document 02's order: 2, 16, 7, and then the table's.
+/// The first refusal by the specification's order: 2, 16, 7, and then the table's.
 fn refusal(table: &[u8], bits: u64, digits: usize, room: usize) -> Visits {
     let number = match () {
         () if digits == 0 || digits > 28 => 2,

@@ -1,0 +1,25 @@
+/* Would catch a header or an archive that needs a C library: a program without one, for -ffreestanding and -nostdlib, as C
+   and as C++. It divides 1 by 3 and back, from doubles to doubles, and ends with 0 where both are as they should be. */
+
+#include "quendaric.h"
+
+#ifdef __cplusplus
+extern "C"
+#endif
+    __attribute__((noreturn, used)) void
+    begin(void);
+
+/* The stack is aligned as a function has it. */
+__asm__(".globl _start\n_start:\n\tcall begin\n");
+
+void begin(void) {
+  const double one = 1.0, three = 3.0;
+  const quendaric_binary64 third =
+      quendaric_divide_binary64_kept(quendaric_pattern(one), quendaric_pattern(three), QUENDARIC_NEAREST);
+  const quendaric_binary64 back =
+      quendaric_divide_binary64_kept(third.pattern, quendaric_pattern(quendaric_double(third.pattern) / 3), 0);
+  const int right = third.refusal == 0 && quendaric_double(third.pattern) == 1.0 / 3.0 && back.refusal == 0 &&
+                    quendaric_double(back.pattern) == three;
+  for (;;)
+    __asm__ volatile("syscall" : : "a"(60), "D"(right ? 0 : 1) : "rcx", "r11", "memory");
+}

@@ -1,0 +1,58 @@
+#!/bin/sh
+# The commands of docs/TABLE-MAKER.md, each with what it prints, in a folder of their own: what is burned is the made table, what
+# is read back is the Pentium's. Run it after `rt check maker listing repair plot` and `rt staticlib quendaric`.
+# shellcheck source=tests/cases.sh
+. "$(dirname "$0")/cases.sh"
+page=$root/docs/TABLE-MAKER.md
+for name in include examples target tables; do
+    ln -s "$root/$name" "$work/$name"
+done
+cd "$work" || exit 1
+
+# Where the seven bits as they stand are the address: that of column c is c XOR 64, byte by byte.
+by_bits() {
+    od -An -v -tu1 "$1" | awk '
+        { for (i = 1; i <= NF; i++) byte[n++] = $i }
+        END { for (k = 0; k < n; k++) { c = k % 128; print byte[k - c + (c < 64 ? c + 64 : c - 64)] } }'
+}
+
+# What was read back from the device.
+by_bits "$pentium" | awk '{ printf "\\%03o", $1 }' >octal
+# shellcheck disable=SC2059
+printf "$(cat octal)" >device.rom
+objcopy -I binary -O ihex device.rom readback.hex
+
+# Each command is a case: what it prints is what stands below it.
+count=0
+while IFS= read -r line; do
+    case $line in
+    '    $ rt '*) ;;
+    '    $ '*)
+        count=$((count + 1))
+        echo "${line#    $ }" >"command.$count"
+        : >"printed.$count"
+        ;;
+    '    '*) echo "${line#    }" >>"printed.$count" ;;
+    esac
+done <"$page"
+at=1
+while [ "$at" -le "$count" ]; do
+    sh "./command.$at" >found 2>&1 || echo "status $?" >>found
+    same "$(cat "command.$at")" "printed.$at"
+    at=$((at + 1))
+done
+
+# What the commands wrote.
+cp made.table found && same 'the made table is the kept one' "$kept"
+od -An -v -tu1 made.rom | tr -s ' ' '\n' | sed '/^$/d' >found
+by_bits "$kept" >expected && same 'the table by the bits as they stand' expected
+for name in made.table:made.hex made.rom:made-rom.hex; do
+    objcopy -I ihex -O binary "${name#*:}" found && same "${name#*:} is read back as it was" "${name%:*}"
+done
+cp readback.table found && same 'what was read back' "$pentium"
+cp readback.svg found && same 'its picture' "$root/docs/pentium-1994.svg"
+"$root/target/bin/plot" visits <repaired.table >expected
+cp visits.svg found && same 'the visits of the repaired table' expected
+
+[ "$count" -gt 0 ] || echo 'FAILED: no command on the page'
+ends table-maker $((count + 7))
