@@ -13,7 +13,7 @@ use Rattle.division.proofs.Nearest.{rounds-mono, rounds-exact}
 use Rattle.division.proofs.Scales.{Increasing, exponent-mono}
 use Rattle.ieee.specs.LanguageQuotient.{valueOf}
 use Rattle.ieee.specs.Directions.{signIn}
-use Rattle.ieee.proofs.LanguageOrder.{SignedLe, turned, signed-turned, stands-le}
+use Rattle.ieee.proofs.LanguageOrder.{SignedLe, negatedIf, signed-negated, stands-le}
 use Rattle.ieee.proofs.Operands.{Is, top, top-below, magnitude-top, finite-stands}
 
 pub is-le : (x y : Float) (s t : Bool) (a b : ℕ) → Is x s a → Is y t b → SignedLe s a t b → T (le x y)
@@ -24,8 +24,8 @@ abbrev pub Before : Bool → Float → Float → Type 0
 Before true x y = T (le y x)
 Before false x y = T (le x y)
 
-pub before : (r s t : Bool) (x y : Float) (a b : ℕ) → Is x s a → Is y t b → SignedLe (turned r s) a (turned r t) b → Before r x y
-before true s t x y a b w v h = is-le y x t s b a v w (signed-turned t b s a .1 h)
+pub before : (r s t : Bool) (x y : Float) (a b : ℕ) → Is x s a → Is y t b → SignedLe (negatedIf r s) a (negatedIf r t) b → Before r x y
+before true s t x y a b w v h = is-le y x t s b a v w (signed-negated t b s a .1 h)
 before false s t x y a b w v h = is-le x y s t a b w v h
 
 -- an infinity lies beyond all
@@ -39,8 +39,8 @@ lowest true true n M h l = l
 lowest true false n M h l = zero-le
 lowest false t n M h l = absurd h
 
-pub infinity-before : (r s t : Bool) (n : ℕ) (x : Float) → Is x t n → T (turned r s) → Before r (inf s) x
-infinity-before r s t n x w h = before r s t (inf s) x (2 ^ 2098) n (refl, refl) w (lowest (turned r s) (turned r t) n (2 ^ 2098) h (is-most x t n w))
+pub infinity-before : (r s t : Bool) (n : ℕ) (x : Float) → Is x t n → T (negatedIf r s) → Before r (inf s) x
+infinity-before r s t n x w h = before r s t (inf s) x (2 ^ 2098) n (refl, refl) w (lowest (negatedIf r s) (negatedIf r t) n (2 ^ 2098) h (is-most x t n w))
 
 pub is-sign : (x : Float) (s : Bool) (n : ℕ) → Is x s n → signIn x ≡ s
 is-sign nan s n w = absurd w

@@ -16,7 +16,7 @@ use Rattle.division.proofs.Quotient.{quotient-increasing}
 use Rattle.ieee.specs.LanguageQuotient.{valueOf}
 use Rattle.ieee.specs.Directions.{RoundedToZero, RoundedIn, Directed}
 use Rattle.ieee.proofs.LanguageQuotient.{nearest-quotient}
-use Rattle.ieee.proofs.LanguageOrder.{SignedLe, turned}
+use Rattle.ieee.proofs.LanguageOrder.{SignedLe, negatedIf}
 use Rattle.ieee.proofs.Operands.{top, top-below, magnitude-top, seen, seen-some, finite-stands, exact-rounded, exact-kept, quotient-rounded}
 use Rattle.ieee.proofs.AnswerUnits.{Before, before, infinity-before, is-sign, capped, answered, rounded-stands, rounded-word, units-small, units-mono}
 use Rattle.ieee.proofs.QuotientOrder.{Beside, at-most, at-least, sign-seen, units, beside}
@@ -51,8 +51,8 @@ module _ (s : Bool) (a b : ℕ) {x : Binary64Result} where
     finite = λ g. le-trans (halves (u .K) b (2 ^ u .e) (a * 2 ^ 1074) .1 (u .rounded .over)) (mul-le-mul-right b (capped-high (2 ^ 2098) top _ g));
   }
 
--- down, and where r is true up, which is down with the signs turned
-under : (r s : Bool) (a b : ℕ) {x : Binary64Result} (u : RoundedQuotient (cond r 2 3) s a b x) → Under (turned r s) a b (answered (modeOf (cond r 2 3) s) (u .K * 2 ^ u .e))
+-- down, and where r is true up, which is down with the signs negated
+under : (r s : Bool) (a b : ℕ) {x : Binary64Result} (u : RoundedQuotient (cond r 2 3) s a b x) → Under (negatedIf r s) a b (answered (modeOf (cond r 2 3) s) (u .K * 2 ^ u .e))
 under true true a b u = toward true a b u
 under true false a b u = away false a b u
 under false true a b u = away true a b u
@@ -103,7 +103,7 @@ module _ (a b : ℕ) {x : Binary64Result} (h : T (finite (valueOf a))) (k : 0 < 
           let f = seen q g .below in
           let i = finite-stands q f in
           before r (negative q) (signOf a b) (valueOf q) (valueOf (x .pattern)) (magnitude q) _ i (rounded-stands u)
-          (stays (magnitude a) (magnitude b) (seen-some b k .1) u q f (turned r (negative q)) (turned r (signOf a b)) (units a b h k r (negative q) (magnitude q) (valueOf q) i g .0 y))
+          (stays (magnitude a) (magnitude b) (seen-some b k .1) u q f (negatedIf r (negative q)) (negatedIf r (signOf a b)) (units a b h k r (negative q) (magnitude q) (valueOf q) i g .0 y))
 
 module _ (a b : ℕ) {x : Binary64Result} (h : T (finite (valueOf a))) (k : 0 < num (valueOf b)) where
   to-side : (r : Bool) → RoundedQuotient (cond r 2 3) (signOf a b) (magnitude a) (magnitude b) x → RoundedToZero r a b (x .pattern)

@@ -18,16 +18,16 @@ SignedLe false a true b = a + b ≤ 0
 SignedLe true a false b = 0 ≤ a + b
 SignedLe true a true b = b ≤ a
 
--- upward, where r is true, it is the order with both signs turned
-abbrev pub turned : Bool → Bool → Bool
-turned true s = not s
-turned false s = s
+-- upward, where r is true, it is the order with both signs negated
+abbrev pub negatedIf : Bool → Bool → Bool
+negatedIf true s = not s
+negatedIf false s = s
 
-pub signed-turned : (s : Bool) (a : ℕ) (t : Bool) (b : ℕ) → SignedLe s a t b ↔ SignedLe (not t) b (not s) a
-signed-turned false a false b = (λ h. h, λ h. h)
-signed-turned false a true b = (λ h. omega arith, λ h. omega arith)
-signed-turned true a false b = (λ h. omega arith, λ h. omega arith)
-signed-turned true a true b = (λ h. h, λ h. h)
+pub signed-negated : (s : Bool) (a : ℕ) (t : Bool) (b : ℕ) → SignedLe s a t b ↔ SignedLe (not t) b (not s) a
+signed-negated false a false b = (λ h. h, λ h. h)
+signed-negated false a true b = (λ h. omega arith, λ h. omega arith)
+signed-negated true a false b = (λ h. omega arith, λ h. omega arith)
+signed-negated true a true b = (λ h. h, λ h. h)
 
 -- the logic's word for it
 pub signed-at-most : (s : Bool) (a : ℕ) (t : Bool) (b : ℕ) → SignedLe s a t b → T (atMost s a t b)

@@ -9,14 +9,14 @@ use lib.Ieee.Positive.{num, den}
 use Rattle.division.specs.Format.{negative, magnitude, signOf}
 use Rattle.ieee.specs.LanguageQuotient.{valueOf}
 use Rattle.ieee.specs.Directions.{quotientSign, AtMostQuotient, AtLeastQuotient, IsQuotient}
-use Rattle.ieee.proofs.LanguageOrder.{SignedLe, turned, signed-turned, signed-at-most, at-most-signed, signed-both, rescaled, Stands}
+use Rattle.ieee.proofs.LanguageOrder.{SignedLe, negatedIf, signed-negated, signed-at-most, at-most-signed, signed-both, rescaled, Stands}
 use Rattle.ieee.proofs.Operands.{Is, seen, seen-some}
 
 -- z ≤ x / y, and where r is true x / y ≤ z
 abbrev pub Beside : Bool → Float → Float → Float → Type 0
 Beside r nan x y = ⊥
-Beside r (inf s) x y = T (turned r s)
-Beside r (fin s m e) x y = SignedLe (turned r s) (m * up e * (num y * den x)) (turned r (quotientSign x y)) (num x * (den y * down e))
+Beside r (inf s) x y = T (negatedIf r s)
+Beside r (fin s m e) x y = SignedLe (negatedIf r s) (m * up e * (num y * den x)) (negatedIf r (quotientSign x y)) (num x * (den y * down e))
 
 pub at-most : (z x y : Float) → AtMostQuotient z x y ↔ Beside false z x y
 at-most nan x y = (λ h. h, λ h. h)
@@ -27,7 +27,7 @@ pub at-least : (z x y : Float) → AtLeastQuotient z x y ↔ Beside true z x y
 at-least nan x y = (λ h. h, λ h. h)
 at-least (inf true) x y = (λ h. h, λ h. h)
 at-least (inf false) x y = (λ h. h, λ h. h)
-at-least (fin s m e) x y = let t = quotientSign x y in (λ h. signed-turned t _ s _ .0 (at-most-signed t _ s _ h), λ h. signed-at-most t _ s _ (signed-turned t _ s _ .1 h))
+at-least (fin s m e) x y = let t = quotientSign x y in (λ h. signed-negated t _ s _ .0 (at-most-signed t _ s _ h), λ h. signed-at-most t _ s _ (signed-negated t _ s _ .1 h))
 
 pub both-finite : (x y z : Float) → IsQuotient x y z → T (finite x)
 both-finite nan y z h = absurd (h .0)
@@ -45,12 +45,12 @@ module _ (c M : ℕ) (C : 0 < c) where
 
   -- a finite value with the sign t and n units against a / b
   module _ (r t sx sy : Bool) (a b n mx my : ℕ) (ex ey : ℤ) (p : mx * up ex * c ≡ a * down ex) (q : my * up ey * c ≡ b * down ey) where
-    against : (x : Float) → Stands c M x t n → T (finite x) → Beside r x (fin sx mx ex) (fin sy my ey) ↔ SignedLe (turned r t) (n * b) (turned r (unlike sx sy)) (a * c)
+    against : (x : Float) → Stands c M x t n → T (finite x) → Beside r x (fin sx mx ex) (fin sy my ey) ↔ SignedLe (negatedIf r t) (n * b) (negatedIf r (unlike sx sy)) (a * c)
     against nan w g = absurd w
     against (inf s) w g = absurd g
     against (fin s m e) w g =
-        let t' = turned r t in
-        let s' = turned r (unlike sx sy) in
+        let t' = negatedIf r t in
+        let s' = negatedIf r (unlike sx sy) in
         let k : 0 < down e * down ex * down ey = mul-pos (mul-pos (down-pos e) (down-pos ex)) (down-pos ey) in
         let i = left (m * up e) (down e) n (my * up ey) (down ex) b (down ey) (w .1) q in
         let j = right (mx * up ex) (down ex) a (down e) (down ey) p in
@@ -64,15 +64,15 @@ module _ (a b : ℕ) (h : T (finite (valueOf a))) (k : 0 < num (valueOf b)) wher
       let j = seen-some b k .0 .number in
       rw (i .is, j .is) refl
 
-  pub units : (r t : Bool) (n : ℕ) (x : Float) → Is x t n → T (finite x) → Beside r x (valueOf a) (valueOf b) ↔ SignedLe (turned r t) (n * magnitude b) (turned r (signOf a b)) (magnitude a * 2 ^ 1074)
+  pub units : (r t : Bool) (n : ℕ) (x : Float) → Is x t n → T (finite x) → Beside r x (valueOf a) (valueOf b) ↔ SignedLe (negatedIf r t) (n * magnitude b) (negatedIf r (signOf a b)) (magnitude a * 2 ^ 1074)
   units r t n x w f =
       let i = seen a h .number in
       let j = seen-some b k .0 .number in
       rw (i .is, j .is) (against (2 ^ 1074) (2 ^ 2098) (pow-pos 1074) r t (negative a) (negative b) (magnitude a) (magnitude b) n (i .m) (j .m) (i .e) (j .e) (i .value) (j .value) x w f)
 
   -- of an answer that may be infinite
-  pub beside : (r s : Bool) (n : ℕ) (x : Float) → Is x s n → (n ≡ 2 ^ 2098 → T (turned r s))
-      → (n < 2 ^ 2098 → SignedLe (turned r s) (n * magnitude b) (turned r (signOf a b)) (magnitude a * 2 ^ 1074)) → Beside r x (valueOf a) (valueOf b)
+  pub beside : (r s : Bool) (n : ℕ) (x : Float) → Is x s n → (n ≡ 2 ^ 2098 → T (negatedIf r s))
+      → (n < 2 ^ 2098 → SignedLe (negatedIf r s) (n * magnitude b) (negatedIf r (signOf a b)) (magnitude a * 2 ^ 1074)) → Beside r x (valueOf a) (valueOf b)
   beside r s n nan w f g = absurd w
   beside r s n (inf t) w f g = rw (w .0) (f (w .1))
   beside r s n (fin t m e) w f g = units r s n (fin t m e) w tt .1 (g (w .2))
@@ -86,5 +86,5 @@ module _ (a b : ℕ) (h : T (finite (valueOf a))) (k : 0 < num (valueOf b)) wher
       let i = units false s n x w f in
       let j = units true s n x w f in
       let z = signed-both s (n * magnitude b) (magnitude a * 2 ^ 1074) in
-      let t = signed-turned s (magnitude a * 2 ^ 1074) s (n * magnitude b) in
+      let t = signed-negated s (magnitude a * 2 ^ 1074) s (n * magnitude b) in
       (λ y. z .1 (i .0 (l .0 (y .0)), t .1 (j .0 (g .0 (y .1)))), λ e. (l .1 (i .1 (z .0 e .0)), g .1 (j .1 (t .0 (z .0 e .1)))))
