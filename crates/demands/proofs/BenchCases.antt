@@ -1,7 +1,6 @@
 -- Bench cases 1 to 12: one collection, one result.
-use Rattle.laws.proofs.Basics.{_≡_, refl, sym, subst, List, ℕ, lit≤, lit<}
+use Rattle.laws.proofs.Basics.{refl, sym, subst, List, ℕ, lit≤, lit<}
 use Rattle.selection.specs.Word.{signed}
-use Rattle.selection.specs.Answer.{refusal}
 use Rattle.selection.specs.Cell.{digit, estimate}
 use Rattle.selection.specs.Maker.{MadeTable}
 use Rattle.laws.specs.Lists.{listFrom}
@@ -10,9 +9,7 @@ use Rattle.selection.specs.Computed.{madeTable, madeOf}
 use Rattle.selection.proofs.CellCases.{case-1, case-2, case-3, case-4, case-5, case-6, case-7}
 use Rattle.selection.proofs.MadeTables.{made-bytes, kept-passes}
 use Rattle.recurrence.specs.Recurrence.{after, nextOf, value, endRemainder, resultOf}
-use Rattle.division.specs.Whole.{wholeOf}
 use Rattle.division.specs.Computed.{finiteRounded}
-use Rattle.division.specs.Binary64.{binary64Of}
 use Rattle.demands.specs.BenchCases.{Case8, Case9, BenchCases}
 use Rattle.division.proofs.Answers.{whole-answer, binary64-answer}
 
@@ -24,18 +21,8 @@ case-9 : Case9 madeTable
 unfolding madeTable listFrom madeOf allowsOf after nextOf value endRemainder resultOf digit
 case-9 = record { shown = refl; total = refl; result = refl }
 
-case-10 : wholeOf madeTable 4195835 3145727 ≡ record { refusal = refusal 0 0; quotient = 1; remainder = 1050108 }
-case-10 = whole-answer madeTable kept-passes 4195835 3145727 (lit< tt) (lit< tt) (lit< tt)
-
-case-11 : binary64Of madeTable 0 0x3FF0000000000000 0x4008000000000000 ≡ record { refusal = refusal 0 0; pattern = 0x3FD5555555555555; flags = 1 }
-unfolding finiteRounded
-case-11 = binary64-answer madeTable kept-passes 0 0x3FF0000000000000 0x4008000000000000 (lit≤ tt)
-
-case-12 : (binary64Of madeTable 0 1 0x4000000000000000 ≡ record { refusal = refusal 0 0; pattern = 0; flags = 3 }) × (binary64Of madeTable 2 1 0x4000000000000000 ≡ record { refusal = refusal 0 0; pattern = 1; flags = 3 })
-unfolding finiteRounded
-case-12 = (binary64-answer madeTable kept-passes 0 1 0x4000000000000000 (lit≤ tt), binary64-answer madeTable kept-passes 2 1 0x4000000000000000 (lit≤ tt))
-
 pub bench-cases : (t : List ℕ) → MadeTable t → BenchCases t
+unfolding finiteRounded
 bench-cases t m =
     subst BenchCases (sym (made-bytes m))
     (record {
@@ -48,7 +35,7 @@ bench-cases t m =
       case7 = case-7;
       case8 = case-8;
       case9 = case-9;
-      case10 = case-10;
-      case11 = case-11;
-      case12 = case-12;
+      case10 = whole-answer madeTable kept-passes 4195835 3145727 (lit< tt) (lit< tt) (lit< tt);
+      case11 = binary64-answer madeTable kept-passes 0 0x3FF0000000000000 0x4008000000000000 (lit≤ tt);
+      case12 = (binary64-answer madeTable kept-passes 0 1 0x4000000000000000 (lit≤ tt), binary64-answer madeTable kept-passes 2 1 0x4000000000000000 (lit≤ tt));
     })

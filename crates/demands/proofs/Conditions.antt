@@ -6,22 +6,14 @@ use Rattle.selection.specs.Maker.{limitsZeros}
 use Rattle.selection.specs.Computed.{limitsOf}
 use Rattle.selection.proofs.UniqueMade.{limits-rules, make-rules}
 use Rattle.selection.specs.Answer.{cellNumbers}
-use Rattle.selection.specs.Repair.{repairRules, repairZeros}
-use Rattle.selection.specs.declared.CellVerdict.the-variants as C
 use Rattle.selection.proofs.BiasedPoints.{cell-rules}
 use Rattle.selection.proofs.RepairAnswers.{repair-rules, length-refused, repair-told}
-use Rattle.recurrence.specs.Run.{runRules, runZeros}
-use Rattle.recurrence.specs.Step.{stepRules, stepZeros}
+use Rattle.recurrence.specs.Run.{runRules}
+use Rattle.recurrence.specs.Step.{stepRules}
 use Rattle.recurrence.specs.Visits.{visitsRules}
 use Rattle.recurrence.proofs.Refusals.{run-lent}
 use Rattle.recurrence.proofs.StepRange.{step-lent}
 use Rattle.recurrence.proofs.VisitCounts.{visits-lent}
-use Rattle.division.specs.Whole.{wholeRules, wholeZeros}
-use Rattle.division.specs.Rounding.{directionRules}
-use Rattle.division.specs.Format.{binary64Zeros}
-use Rattle.division.specs.Samples.{samplesRules, samplesZeros}
-use Rattle.division.specs.Ratios.{ratiosRules}
-use Rattle.division.specs.RootCalls.{rootRules, rootZeros}
 use Rattle.division.proofs.Calls.{whole-lent, binary64-rules, binary64-lent}
 use Rattle.division.proofs.SampleRuns.{samples-lent}
 use Rattle.division.proofs.RootCalls.{root-rules}
@@ -29,43 +21,42 @@ use Rattle.division.proofs.Rechecking.{recheck-pairs, recheck-room, recheck-len
 use Rattle.division.proofs.RecheckingWhole.{recheck-large, recheck-by-zero, recheck-whole-length, recheck-whole-told}
 use Rattle.division.proofs.PackedCalls.{packed-dividend, packed-divisor, packed-by-zero}
 use Rattle.division.proofs.RatioCalls.{ratios-rules, ratios-by, ratios-told}
-use Rattle.exposure.specs.Averages.{averagesRules}
 use Rattle.exposure.proofs.Refusals.{averages-rules}
 use Rattle.exposure.proofs.Averages.{answer-accepts, refused-kept}
 use Rattle.demands.specs.Demand1.{Conditions}
 
 pub conditions : Conditions
-unfolding repairRules runRules stepRules visitsRules wholeRules directionRules samplesRules ratiosRules rootRules averagesRules
+unfolding runRules stepRules visitsRules
 conditions = record {
-  row-column = λ r c b h. ap cellNumbers (ap (answerBy C.Refused _) (refused-at (cell-rules r c b) 0 0 (refl, h)));
-  byte = λ r c b hr hc h. ap cellNumbers (ap (answerBy C.Refused _) (refused-at (cell-rules r c b) 1 _ ((hr, hc), (refl, h))));
-  row = λ r h. ap (answerBy limitsZeros _) (refused-at (limits-rules r) 0 0 (refl, h));
+  row-column = λ r c b h. ap cellNumbers (ap (answerBy _ _) (refused-at (cell-rules r c b) 0 0 (refl, h)));
+  byte = λ r c b hr hc h. ap cellNumbers (ap (answerBy _ _) (refused-at (cell-rules r c b) 1 _ ((hr, hc), (refl, h))));
+  row = λ r h. ap (answerBy _ _) (refused-at (limits-rules r) 0 0 (refl, h));
   row-told = λ r h. ap (λ (v : Admission). answerBy limitsZeros (record { refusal = refusal 0 0; limits = limitsOf r }) v .refusal) (clear-admits (limits-rules r) (h, tt));
   room = λ s h. ap refusalOf (refused-at (make-rules (length s)) 0 0 (refl, h));
   room-told = λ s h. ap refusalOf (clear-admits (make-rules (length s)) (h, tt));
-  repair-room = λ t rs cs h. ap (answerBy repairZeros _) (refused-at (repair-rules (length t) (length rs) (length cs)) 0 0 (refl, h));
+  repair-room = λ t rs cs h. ap (answerBy _ _) (refused-at (repair-rules (length t) (length rs) (length cs)) 0 0 (refl, h));
   repair-length = length-refused;
   repair-told = repair-told;
-  digits = λ t N D n b place h. ap (answerBy runZeros _) (refused-at (run-lent N D n (length b) place t) 0 0 (refl, h));
-  operands = λ t N D n b place some most h. ap (answerBy runZeros _) (refused-at (run-lent N D n (length b) place t) 1 0 (
+  digits = λ t N D n b place h. ap (answerBy _ _) (refused-at (run-lent N D n (length b) place t) 0 0 (refl, h));
+  operands = λ t N D n b place some most h. ap (answerBy _ _) (refused-at (run-lent N D n (length b) place t) 1 0 (
     ((λ e. omega arith), most),
     (refl, ⊎-elim (λ x. inl (inl x)) (⊎-elim (λ x. inl (inr (omega arith))) (λ x. inr (omega arith))) h),
   ));
-  buffer = λ t N D n b place o some most h. ap (answerBy runZeros _) (refused-at (run-lent N D n (length b) place t) 2 0 (
+  buffer = λ t N D n b place o some most h. ap (answerBy _ _) (refused-at (run-lent N D n (length b) place t) 2 0 (
     ((λ e. omega arith), most),
     (((o .least, omega (arith, o .most)), omega (arith, o .dividend)), (refl, h)),
   ));
-  step-divisor = λ s k D t h. ap (answerBy stepZeros _) (refused-at (step-lent s k D t) 0 0 (refl, ⊎-elim inl (λ x. inr (omega arith)) h));
-  step-range = λ s k D t least most h. ap (answerBy stepZeros _) (refused-at (step-lent s k D t) 1 0 ((least, omega arith), (refl, h)));
+  step-divisor = λ s k D t h. ap (answerBy _ _) (refused-at (step-lent s k D t) 0 0 (refl, ⊎-elim inl (λ x. inr (omega arith)) h));
+  step-range = λ s k D t least most h. ap (answerBy _ _) (refused-at (step-lent s k D t) 1 0 ((least, omega arith), (refl, h)));
   visits-digits = λ t k n v h. ap refusalOf (refused-at (visits-lent k n (length v) t) 0 0 (refl, h));
   visits-bits = λ t k n v some most h. ap refusalOf (refused-at (visits-lent k n (length v) t) 1 0 (((λ e. omega arith), most), (refl, h)));
   visits-room = λ t k n v some most least few h. ap refusalOf (refused-at (visits-lent k n (length v) t) 2 0 (((λ e. omega arith), most), (((λ e. omega arith), few), (refl, h))));
-  large = λ t a b h. ap (answerBy wholeZeros _) (refused-at (whole-lent a b t) 0 0 (refl, h));
-  by-zero = λ t a h. ap (answerBy wholeZeros _) (refused-at (whole-lent a 0 t) 1 0 ((h, omega arith), (refl, refl)));
-  direction = λ t d a b h. ap (answerBy binary64Zeros _) (refused-at (binary64-lent d t) 0 0 (refl, h));
-  samples-direction = λ t d xs ys given h. ap (answerBy samplesZeros _) (refused-at (samples-lent d (length xs) (length ys) (length given) t) 0 0 (refl, h));
-  samples-lengths = λ t d xs ys given l h. ap (answerBy samplesZeros _) (refused-at (samples-lent d (length xs) (length ys) (length given) t) 1 0 (l, (refl, h)));
-  samples-room = λ t d xs ys given l e h. ap (answerBy samplesZeros _) (refused-at (samples-lent d (length xs) (length ys) (length given) t) 2 0 (l, (e, (refl, h))));
+  large = λ t a b h. ap (answerBy _ _) (refused-at (whole-lent a b t) 0 0 (refl, h));
+  by-zero = λ t a h. ap (answerBy _ _) (refused-at (whole-lent a 0 t) 1 0 ((h, omega arith), (refl, refl)));
+  direction = λ t d a b h. ap (answerBy _ _) (refused-at (binary64-lent d t) 0 0 (refl, h));
+  samples-direction = λ t d xs ys given h. ap (answerBy _ _) (refused-at (samples-lent d (length xs) (length ys) (length given) t) 0 0 (refl, h));
+  samples-lengths = λ t d xs ys given l h. ap (answerBy _ _) (refused-at (samples-lent d (length xs) (length ys) (length given) t) 1 0 (l, (refl, h)));
+  samples-room = λ t d xs ys given l e h. ap (answerBy _ _) (refused-at (samples-lent d (length xs) (length ys) (length given) t) 2 0 (l, (e, (refl, h))));
   recheck-lengths = recheck-pairs;
   recheck-room = recheck-room;
   recheck-length = recheck-length;
@@ -80,8 +71,8 @@ conditions = record {
   ratio-large = λ a b c d h. ratios-by a b c d (refused-at (ratios-rules a b c d) 0 0 (refl, h));
   ratio-by-zero = λ a b c d ha hb hc hd h. ratios-by a b c d (refused-at (ratios-rules a b c d) 1 0 ((ha, (hb, (hc, hd))), (refl, h)));
   ratio-told = ratios-told;
-  root-large = λ a h. ap (answerBy rootZeros _) (refused-at (root-rules a) 0 0 (refl, h));
-  root-direction = λ d p h. ap (answerBy binary64Zeros _) (refused-at (binary64-rules d) 0 0 (refl, h));
+  root-large = λ a h. ap (answerBy _ _) (refused-at (root-rules a) 0 0 (refl, h));
+  root-direction = λ d p h. ap (answerBy _ _) (refused-at (binary64-rules d) 0 0 (refl, h));
   averages-width = λ xs w ms rs h. ap refusalOf (refused-at (averages-rules xs w (length ms) (length rs)) 0 0 (refl, h));
   averages-reading = λ xs w ms rs p some most full h l s. ap refusalOf (refused-at (averages-rules xs w (length ms) (length rs)) 1 p (((λ e. omega arith), (most, full)), (h, record { here = l; before = λ i k x. omega (arith, s i k) })));
   averages-room = λ xs w ms rs some most full s h. ap refusalOf (refused-at (averages-rules xs w (length ms) (length rs)) 2 0 (((λ e. omega arith), (most, full)), ((λ i k x. omega (arith, s i k)), (refl, h))));

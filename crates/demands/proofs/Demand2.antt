@@ -1,50 +1,36 @@
 -- Demand 2.
-use Rattle.laws.proofs.Basics.{_≡_, refl, sym, List, [], _∷_, ℕ, _^_, _≤_, _<_, arith, length, lit≤}
+use Rattle.laws.proofs.Basics.{refl, sym, List, [], _∷_, ℕ, arith, length, lit≤}
 use native.Mathlib.Nat.{div-add-mod', mod-lt}
 use Rattle.laws.specs.Lists.{listFrom}
 use Rattle.laws.proofs.Division.{quotient}
 use Rattle.selection.specs.Table.{Passes}
 use Rattle.selection.proofs.Orders.{passed-last}
 use Rattle.selection.proofs.MadeTables.{kept-passes}
-use Rattle.division.specs.Whole.{wholeOf}
-use Rattle.division.specs.Binary64.{binary64Of}
-use Rattle.division.specs.Samples.{samplesRules, samplesValues, joined, samplesOf, concentrationsOf}
+use Rattle.division.specs.Samples.{samplesRules, joined}
 use Rattle.division.specs.Computed.{finiteRounded}
-use Rattle.demands.specs.Demand2.{Divides, DividesBinary64, DividesSamples, SamplesExample, RightThrough, Demand2}
+use Rattle.demands.specs.Demand2.{RightThrough, Demand2}
 use Rattle.division.proofs.SampleRuns.{samples-clear, samples-right, samples-are, compensated-one}
 use Rattle.division.proofs.Answers.{whole-answer, binary64-answer}
 use Rattle.division.proofs.IeeeLaws.{ieee}
 use Rattle.division.proofs.IeeeOne.{ieee-one}
 
-module _ (t : List ℕ) (p : Passes t) where
-  whole : (a b : ℕ) → a < 2 ^ 60 → 0 < b → b < 2 ^ 60 → Divides a b (wholeOf t a b)
-  whole a b ha pb hb =
+right : (t : List ℕ) → Passes t → RightThrough t
+unfolding joined listFrom finiteRounded
+right t p = record {
+  whole = λ a b ha pb hb.
       rw (whole-answer t p a b ha pb hb)
-      (record { done = refl; equation = sym (div-add-mod' a b); below = mod-lt a pb; only = λ Q R e l. let k = quotient (sym e) l in (sym (k .0), sym (k .1)) })
-
-  binary64 : (direction a b : ℕ) → direction ≤ 3 → DividesBinary64 direction a b (binary64Of t direction a b)
-  binary64 direction a b h =
+      (record { done = refl; equation = sym (div-add-mod' a b); below = mod-lt a pb; only = λ Q R e l. let k = quotient (sym e) l in (sym (k .0), sym (k .1)) });
+  binary64 = λ direction a b h.
       rw (binary64-answer t p direction a b h)
-      (record { done = refl; meaning = ieee direction a b; only = λ x i. ieee-one direction a b i (ieee direction a b) })
-
-  samples : (direction : ℕ) (currents sensitivities given : List ℕ) → direction ≤ 3 → length currents ≡ length sensitivities → length currents ≤ length given
-      → DividesSamples t direction currents sensitivities given (concentrationsOf t direction currents sensitivities given) (samplesOf t direction currents sensitivities given)
-  samples direction currents sensitivities given h e l =
+      (record { done = refl; meaning = ieee direction a b; only = λ x i. ieee-one direction a b i (ieee direction a b) });
+  samples = λ direction currents sensitivities given h e l.
       let m = samples-right t p direction h currents sensitivities given e l in
-      record { meaning = m; only = λ y other n. compensated-one y _ n m }
-
-  no-samples : (direction : ℕ) (given : List ℕ) → direction ≤ 3 → (samplesOf t direction [] [] given ≡ samplesValues 0 0) × (concentrationsOf t direction [] [] given ≡ given)
-  unfolding joined listFrom
-  no-samples direction given h = rw (passed-last p (samplesRules direction 0 0 (length given)), samples-clear direction 0 0 (length given) h refl (omega arith)) (refl, refl)
-
-  samples-example : SamplesExample t
-  unfolding joined listFrom finiteRounded
+      record { meaning = m; only = λ y other n. compensated-one y _ n m };
+  no-samples = λ direction given h. rw (passed-last p (samplesRules direction 0 0 (length given)), samples-clear direction 0 0 (length given) h refl (omega arith)) (refl, refl);
   samples-example =
       let x = samples-are t p 0 (lit≤ tt) (0x7FE0_0000_0000_0000 ∷ 0x0010_0000_0000_0000 ∷ []) (0x3FD0_0000_0000_0000 ∷ 0x4008_0000_0000_0000 ∷ []) (11 ∷ 12 ∷ 13 ∷ []) refl (lit≤ tt) in
-      record { answer = x .0; concentrations = x .1 }
-
-  right : RightThrough t
-  right = record { whole = whole; binary64 = binary64; samples = samples; no-samples = no-samples; samples-example = samples-example }
+      record { answer = x .0; concentrations = x .1 };
+}
 
 pub demand-2 : Demand2
 demand-2 = record { passed = right; kept = right _ kept-passes }

@@ -22,31 +22,11 @@ use Rattle.demands.proofs.BenchCases.{bench-cases}
 use Rattle.demands.proofs.RootExamples.{root-examples}
 use Rattle.demands.proofs.FlagExamples.{flag-examples}
 
+ruleset calls = (demand-1, demand-2, demand-3, root-demand, packed-demand, ratio-demand, averages-demand, reversal-demand, recheck-demand)
+
+ruleset layers = (repair-demand, burned-tables, pair-demand, step-demand, visits-demand, whole-digits, ieee-754, root-ordered)
+
+ruleset worked = (made-table-is, bench-cases, root-examples, flag-examples, averages-example, pair-example, step-example, visits-example)
+
 pub demands : Demands
-demands = record {
-  demand-1 = demand-1;
-  demand-2 = demand-2;
-  demand-3 = demand-3;
-  root-demand = root-demand;
-  packed-demand = packed-demand;
-  ratio-demand = ratio-demand;
-  averages-demand = averages-demand;
-  reversal-demand = reversal-demand;
-  repair-demand = repair-demand;
-  recheck-demand = recheck-demand;
-  burned-tables = burned-tables;
-  pair-demand = pair-demand;
-  step-demand = step-demand;
-  visits-demand = visits-demand;
-  whole-digits = whole-digits;
-  ieee-754 = ieee-754;
-  root-ordered = root-ordered;
-  made-table-is = made-table-is;
-  bench-cases = bench-cases;
-  root-examples = root-examples;
-  flag-examples = flag-examples;
-  averages-example = averages-example;
-  pair-example = pair-example;
-  step-example = step-example;
-  visits-example = visits-example;
-}
+demands = search (calls, layers, worked)

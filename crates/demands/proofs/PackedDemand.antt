@@ -7,7 +7,7 @@ use Rattle.selection.specs.Computed.{madeTable}
 use Rattle.division.specs.Whole.{wholeOf}
 use Rattle.demands.proofs.Demand2.{demand-2}
 use Rattle.demands.specs.Demand2.{Divides}
-use Rattle.division.specs.Packed.{numberTo, packedNumber, Packed, packedBytes, packedRules, packedValues, packedOf}
+use Rattle.division.specs.Packed.{numberTo, packedNumber, Packed, packedBytes, packedValues, packedOf}
 use Rattle.demands.specs.PackedDemand.{OnePacked, DividesPacked, PackedExamples, PackedDemand}
 use Rattle.division.proofs.PackedBytes.{number-below, bytes-back, bytes-packed, number-back}
 use Rattle.division.proofs.PackedCalls.{packed-done}
@@ -26,29 +26,24 @@ module _ (xs ys : List ℕ) (px : Packed xs) (py : Packed ys) (some : 0 < packed
   divides : DividesPacked xs ys (packedOf xs ys)
   divides =
       let x = wholeOf madeTable (packedNumber xs) (packedNumber ys) in
-      let q : x .quotient < 10 ^ 16 = omega (arith, whole .equation, le-mul-of-pos-right (x .quotient) some, below xs px) in
-      let r : x .remainder < 10 ^ 16 = omega (arith, whole .below, below ys py) in
+      let q = number-back (x .quotient) (omega (arith, whole .equation, le-mul-of-pos-right (x .quotient) some, below xs px)) in
+      let r = number-back (x .remainder) (omega (arith, whole .below, below ys py)) in
       rw (packed-done xs ys (px .decimal) (py .decimal) (λ e. omega arith))
       (record {
         done = refl;
         quotient = bytes-packed (x .quotient);
         remainder = bytes-packed (x .remainder);
-        equation = rw (number-back (x .quotient) q, number-back (x .remainder) r) (whole .equation);
-        below = rw (number-back (x .remainder) r) (whole .below);
+        equation = rw (q, r) (whole .equation);
+        below = rw r (whole .below);
         only = λ qs rs pq pr e l. let k = whole .only (packedNumber qs) (packedNumber rs) e l in (sym (bytes-back qs pq) ∙ ap packedBytes (k .0), sym (bytes-back rs pr) ∙ ap packedBytes (k .1));
       })
 
 examples : PackedExamples
-unfolding numberTo packedRules firstFrom listFrom
+unfolding numberTo firstFrom listFrom
 examples =
     let k = demand-2 .kept .whole 9876543210123456 7654321 (lit< tt) (lit< tt) (lit< tt) .only 1290322578 4563918 refl (lit< tt) in
-    record {
-      number = refl;
-      divided = ap₂ (λ (q r : ℕ). packedValues (record { refusal = refusal 0 0; quotient = q; remainder = r })) (sym (k .0)) (sym (k .1));
-      dividend = refl;
-      divisor = refl;
-      by-zero = refl;
-    }
+    let divided = ap₂ (λ (q r : ℕ). packedValues (record { refusal = refusal 0 0; quotient = q; remainder = r })) (sym (k .0)) (sym (k .1)) in
+    record { number = refl; divided = divided; dividend = refl; divisor = refl; by-zero = refl }
 
 pub packed-demand : PackedDemand
 packed-demand = record { back = bytes-back; below = below; one = one; divides = divides; room = lit< tt; admitted = λ xs ys px py some. whole xs ys px py some .done; examples = examples }

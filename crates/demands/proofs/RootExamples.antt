@@ -1,11 +1,10 @@
 -- The worked roots, computed.
 use Rattle.laws.proofs.Basics.{refl}
 use Rattle.division.specs.Computed.{finiteRounded}
-use Rattle.division.specs.Rounding.{directionRules}
 use Rattle.demands.specs.RootExamples.{RootExamples}
 
 pub root-examples : RootExamples
-unfolding finiteRounded directionRules
+unfolding finiteRounded
 root-examples = record {
   four = (refl, refl, refl, refl);
   least = (refl, refl, refl, refl);

@@ -12,7 +12,7 @@ use Rattle.laws.specs.Counting.{Tally}
 use Rattle.selection.specs.Answer.{refusal, refusalOf, cellNumbers, cellZeros, reportNumbers, reportZeros}
 use Rattle.selection.specs.declared.Refusal.{Refusal}
 use Rattle.selection.specs.declared.numbers.ReportNumbers.{ReportNumbers}
-use Rattle.selection.specs.Refusals.{Wrongs, firstRefusal, rank, FirstRefusal, RefusedBy, Refuses, RefusesLent}
+use Rattle.selection.specs.Refusals.{Wrongs, firstRefusal, rank, IsFirstRefusal, RefusedBy, Refuses, RefusesLent}
 use Rattle.selection.specs.Cell.{LeastWitness, cellRules, digit}
 use Rattle.selection.specs.Maker.{limitsRules, limitsZeros, makeRules}
 use Rattle.selection.specs.Table.{BadAt, tableRules}
@@ -45,8 +45,8 @@ pub record Carries (t : List ℕ) (p : ℕ) (x : ReportNumbers) : Type 0 where
 -- the check: zeros besides under 8 and 9
 pub record CheckRefuses (t : List ℕ) (x : ReportNumbers) : Type 0 where
   pub by : RefusedBy (Wrongs (tableRules t)) (x .refusal)
-  pub besides : (n p : ℕ) → n < 10 → FirstRefusal (Wrongs (tableRules t)) n p → x ≡ reportZeros (refusal n p)
-  pub carries : (p : ℕ) → FirstRefusal (Wrongs (tableRules t)) 10 p → Carries t p x
+  pub besides : (n p : ℕ) → n < 10 → IsFirstRefusal (Wrongs (tableRules t)) n p → x ≡ reportZeros (refusal n p)
+  pub carries : (p : ℕ) → IsFirstRefusal (Wrongs (tableRules t)) 10 p → Carries t p x
 
 -- a run, and its buffer
 abbrev pub RunRefuses : (ℕ → ℕ → Type 0) → List ℕ → ℕ → ℕ → ℕ → List ℕ → ℕ → Type 0
@@ -142,16 +142,16 @@ pub record Demand1 : Type 0 where
   pub check-cell : (r c b : ℕ) → Refuses (Wrongs (cellRules r c b)) (λ x. x .refusal) cellZeros (cellNumbers (cellOf r c b))
   pub row-limits : (r : ℕ) → Refuses (Wrongs (limitsRules r)) (λ x. x .refusal) limitsZeros (rowLimitsOf r)
   pub make-table : (s : List ℕ) → RefusedBy (Wrongs (makeRules (length s))) (makeOf s)
-  pub make-buffer : (s : List ℕ) (n p : ℕ) → FirstRefusal (Wrongs (makeRules (length s))) n p → madeBuffer s ≡ s
+  pub make-buffer : (s : List ℕ) (n p : ℕ) → IsFirstRefusal (Wrongs (makeRules (length s))) n p → madeBuffer s ≡ s
   pub repair : (t rs cs : List ℕ) → Refuses (Wrongs (repairRules (length t) (length rs) (length cs))) (λ x. x .refusal) repairZeros (repairOf t rs cs)
-  pub repair-buffers : (t rs cs : List ℕ) (n p : ℕ) → FirstRefusal (Wrongs (repairRules (length t) (length rs) (length cs))) n p → (repairedOf t rs cs ≡ rs) × (changedOf t rs cs ≡ cs)
+  pub repair-buffers : (t rs cs : List ℕ) (n p : ℕ) → IsFirstRefusal (Wrongs (repairRules (length t) (length rs) (length cs))) n p → (repairedOf t rs cs ≡ rs) × (changedOf t rs cs ≡ cs)
   pub check-table : (t : List ℕ) → CheckRefuses t (reportNumbers (reportOf t))
   -- what the calls below make of a table that they are lent
   pub admit : (t : List ℕ) → RefusedBy (Wrongs (tableRules t)) (refusalOf (firstRefusal (tableRules t)))
   pub run : (t : List ℕ) (N D n : ℕ) (b : List ℕ) (place : ℕ) → RunRefuses (Wrongs (runRules N D n (length b) place ++ tableRules t)) t N D n b place
   pub step : (s k D : ℕ) (t : List ℕ) → Refuses (Wrongs (stepRules s k D ++ tableRules t)) (λ x. x .refusal) stepZeros (stepOf s k D t)
   pub visits : (t : List ℕ) (k n : ℕ) (v : List ℕ) → RefusedBy (Wrongs (visitsRules k n (length v) ++ tableRules t)) (visitsAnswer t k n v)
-  pub visits-list : (t : List ℕ) (k n : ℕ) (v : List ℕ) (m p : ℕ) → FirstRefusal (Wrongs (visitsRules k n (length v) ++ tableRules t)) m p → visitsLeft t k n v ≡ v
+  pub visits-list : (t : List ℕ) (k n : ℕ) (v : List ℕ) (m p : ℕ) → IsFirstRefusal (Wrongs (visitsRules k n (length v) ++ tableRules t)) m p → visitsLeft t k n v ≡ v
   pub whole : (t : List ℕ) (a b : ℕ) → Refuses (Wrongs (wholeRules a b ++ tableRules t)) (λ x. x .refusal) wholeZeros (wholeOf t a b)
   pub binary64 : (t : List ℕ) (direction a b : ℕ) → Refuses (Wrongs (directionRules direction ++ tableRules t)) (λ x. x .refusal) binary64Zeros (binary64Of t direction a b)
   pub samples : (t : List ℕ) (direction : ℕ) (currents sensitivities given : List ℕ)
@@ -173,5 +173,5 @@ pub record Demand1 : Type 0 where
   pub root-binary64 : (direction p : ℕ) → Refuses (Wrongs (directionRules direction)) (λ x. x .refusal) binary64Zeros (rootBinary64Of direction p)
   -- averages are divided over the kept table, and their direction has no part in what is refused
   pub averages : (xs : List ℕ) (w : ℕ) (ms rs : List ℕ) → RefusedBy (Wrongs (averagesRules xs w (length ms) (length rs))) (averagesOf xs w ms rs)
-  pub averages-lists : (xs : List ℕ) (w : ℕ) (newestFirst : Bool) (ms rs : List ℕ) (n p : ℕ) → FirstRefusal (Wrongs (averagesRules xs w (length ms) (length rs))) n p
+  pub averages-lists : (xs : List ℕ) (w : ℕ) (newestFirst : Bool) (ms rs : List ℕ) (n p : ℕ) → IsFirstRefusal (Wrongs (averagesRules xs w (length ms) (length rs))) n p
       → (meansOf xs w newestFirst ms rs ≡ ms) × (remaindersOf xs w newestFirst ms rs ≡ rs)

@@ -2,22 +2,23 @@
 use mathlib.Core.Path.{_≡_}
 use mathlib.Core.List.{List, [], _∷_}
 use mathlib.Core.Logic.{_⊎_}
-use Prim.Native.Nat.{ℕ, min, _+_, _*_, _^_, _≤_, _<_}
+use Prim.Native.Nat.{ℕ, suc, min, _+_, _*_, _^_, _≤_, _<_}
 use lib.ListN.{length, getD, set}
+use lib.IntN.{natAbs}
 use Rattle.laws.specs.Counting.{Tally}
 use Rattle.selection.specs.Repair.{ReplacedAt}
-use Rattle.recurrence.specs.Recurrence.{cellAt, after, resultOf}
+use Rattle.recurrence.specs.Recurrence.{cellAt, stepBy, after, digits, value, endRemainder, correctedQuotient, correctedRemainder, resultOf}
 use Rattle.selection.specs.Answer.{refusal}
 use Rattle.selection.specs.Computed.{madeTable, repairedOf}
 use Rattle.selection.specs.Table.{Passes}
 use Rattle.recurrence.specs.Recheck.{Copies, RunsClaim, repairedTable}
-use Rattle.division.specs.Format.{IsNonzero, binary64Values}
+use Rattle.division.specs.Format.{IsNonzero, signOf, binary64Values}
 use Rattle.division.specs.Significands.{significandOf}
-use Rattle.division.specs.Binary64Steps.{ratioThrough, binary64Through}
+use Rattle.division.specs.Binary64Steps.{ratioThrough, roundedQuotient, binary64Through}
 use Rattle.division.specs.WholeSteps.{wholeRun}
 use Rattle.division.specs.Binary64.{binary64Of}
 use Rattle.division.specs.Recheck.{runOperand, OperandOf, Rechecked, Rechecks, RecordClaim, RecheckExamples, recheckOf, affectedOf}
-use Rattle.division.specs.RecheckWhole.{wholeCount, WholeRechecks, WholeClaim, recheckWholeOf}
+use Rattle.division.specs.RecheckWhole.{wholeDividend, wholeDivisor, wholeCount, WholeRechecks, WholeClaim, recheckWholeOf}
 use Rattle.division.specs.declared.recheck.AffectedAnswer.{AffectedAnswer}
 use Rattle.division.specs.declared.recheck.AffectedWholeAnswer.{AffectedWholeAnswer}
 use Rattle.ieee.specs.Directions.{Pinned}
@@ -33,6 +34,9 @@ pub record RecheckTold (t currents sensitivities given : List ℕ) : Type 0 wher
   pub by-class : (j : ℕ) → j < length currents → (IsNonzero (getD currents j 0) → ⊥) ⊎ (IsNonzero (getD sensitivities j 0) → ⊥) → getD (affectedOf t currents sensitivities given) j 0 ≡ 0
   pub cell : (j : ℕ) → j < length currents → getD (affectedOf t currents sensitivities given) j 0 ≡ 1
       → (i : ℕ) × (i < 28) × ReplacedAt t (cellAt (after t (runOperand (getD currents j 0)) (runOperand (getD sensitivities j 0)) i))
+  -- and the other way round: where a step of two finite numbers other than zero reads a bad cell, the mark is 1, also if the answer is right all the same
+  pub bad : (j : ℕ) → j < length currents → IsNonzero (getD currents j 0) → IsNonzero (getD sensitivities j 0) → (i : ℕ) → i < 28
+      → ReplacedAt t (cellAt (after t (runOperand (getD currents j 0)) (runOperand (getD sensitivities j 0)) i)) → getD (affectedOf t currents sensitivities given) j 0 ≡ 1
   -- a record whose mark is 0: what the burned table's own digits form is the answer of the call over the kept table, and the logic's own account of IEEE 754 asks for its pattern
   pub kept : (j : ℕ) → j < length currents → getD (affectedOf t currents sensitivities given) j 0 ≡ 0 → (direction : ℕ) → direction ≤ 3
       → binary64Values (binary64Through t direction (getD currents j 0) (getD sensitivities j 0)) ≡ binary64Of madeTable direction (getD currents j 0) (getD sensitivities j 0)
@@ -44,7 +48,10 @@ pub record RecheckWholeTold (t : List ℕ) (a b : ℕ) : Type 0 where
   pub done : recheckWholeOf t a b .refusal ≡ refusal 0 0
   pub claim : WholeClaim t a b (recheckWholeOf t a b .affected)
   pub mark : (recheckWholeOf t a b .affected ≡ 0) ⊎ (recheckWholeOf t a b .affected ≡ 1)
-  -- the steps are as many as the division's digits
+  pub cell : recheckWholeOf t a b .affected ≡ 1 → (i : ℕ) × (i < wholeCount a b) × ReplacedAt t (cellAt (after t (wholeDividend a b) (wholeDivisor b) i))
+  pub bad : (i : ℕ) → i < wholeCount a b → ReplacedAt t (cellAt (after t (wholeDividend a b) (wholeDivisor b) i)) → recheckWholeOf t a b .affected ≡ 1
+  -- the division's result is that of the run of these operands, and it takes as many digits
+  pub formed : wholeRun t a b ≡ resultOf t (wholeDividend a b) (wholeDivisor b) (wholeCount a b)
   pub digits : wholeRun t a b .count ≡ wholeCount a b
 
 -- the made table with a byte above 4 in the cell (0, 72), which 1.0 / 1.0 reads first, and 1.125 / 1.0 not; 17 / 16 reads it, and 16 / 17 not
@@ -55,6 +62,10 @@ pub record RecheckCallExample : Type 0 where
   pub whole-unaffected : recheckWholeOf (set madeTable 72 5) 16 17 .affected ≡ 0
 
 pub record RecheckDemand : Type 0 where
+  -- a step takes the byte of its cell, whatever the table, and the result of a run is formed from its digits
+  pub step : (t : List ℕ) (N D i : ℕ) → after t N D (suc i) ≡ stepBy (getD t (cellAt (after t N D i)) 0) (after t N D i)
+  pub result : (t : List ℕ) (N D n : ℕ) → resultOf t N D n
+      ≡ record { quotient = natAbs (correctedQuotient (value (digits t N D n)) (endRemainder t N D n)); remainder = natAbs (correctedRemainder (endRemainder t N D n) D); count = n }
   -- a run through any table and one through a table that copies its good cells; the repair is such a table, and it passes
   pub runs : (t u : List ℕ) (N D n : ℕ) → Copies t u → RunsClaim t u N D n
   pub repair : (t : List ℕ) → Copies t (repairedTable t) × Passes (repairedTable t)
@@ -65,6 +76,9 @@ pub record RecheckDemand : Type 0 where
   -- what is rounded of a binary64 quotient: twice the quotient of that run, and 1 more where something is left
   pub formed : (t : List ℕ) (a b : ℕ) → ratioThrough t (significandOf a .sig) (significandOf b .sig)
       ≡ 2 * resultOf t (runOperand a) (runOperand b) 28 .quotient + min 1 (resultOf t (runOperand a) (runOperand b) 28 .remainder)
+  -- and that is rounded once, whatever the table: an answer is formed from the table's own digits
+  pub rounds : (t : List ℕ) (direction a b : ℕ) → IsNonzero a → IsNonzero b
+      → binary64Through t direction a b ≡ roundedQuotient direction (signOf a b) (ratioThrough t (significandOf a .sig) (significandOf b .sig)) (significandOf a .exp + 1021) (significandOf b .exp)
   -- the answer and the third list, where it refuses and where not; and nothing else fits
   pub answer : (t currents sensitivities given : List ℕ) → Rechecks t currents sensitivities given (affectedOf t currents sensitivities given) (recheckOf t currents sensitivities given)
   pub one : (t currents sensitivities given out : List ℕ) (x : AffectedAnswer) → Rechecks t currents sensitivities given out x

@@ -1,7 +1,6 @@
 -- The names of binary64 that proofs share: the format, rounding, and what is computed of them. Nothing is defined here.
 pub use Rattle.division.specs.Format.{IsFinite, IsNonzero, binary64Values, binary64Zeros, classOf, field, fraction, inexactFlag, invalidFlag, magnitude, negative, overflowFlag, quietNan, signBit, signOf, signalling, underflowFlag}
-pub use Rattle.division.specs.Rounding.{AwayFromZero, Rounds, ToNearest, TowardZero, modeOf}
-unfoldable pub use Rattle.division.specs.Rounding.{directionRules}
+pub use Rattle.division.specs.Rounding.{AwayFromZero, Rounds, ToNearest, TowardZero, directionRules, modeOf}
 pub use Rattle.division.specs.Rounded.{IsExponent, Rounded, flagsOfResult, overflowOf}
 pub use Rattle.division.specs.Computed.{assembled, byClass, caseOf, decided, finiteQuotient, flagsOf, nanFlags, orRounded, quotientOf, roundedAt, roundedResult, roundedTo, roundedUnits, tailAt, unitsAt}
 unfoldable pub use Rattle.division.specs.Computed.{finiteRounded, greatest, largest}

@@ -1,12 +1,12 @@
 -- The binary64 root means what the specification says, for every pattern, and nothing else means it; a root is never subnormal, never overflows and never ties.
 use Rattle.laws.proofs.Basics.{_≡_, refl, sym, ap, subst, _∙_, Bool, true, false, inl, inr, ⊎-elim, ℕ, min, _+_, _-_, _*_, _/_, _%_, _^_, _≤_, _<_, arith, eqb, lt-ltb, ne-eqb}
 use Rattle.laws.proofs.Tests.{cond-in}
-use native.Mathlib.Nat.{le-trans, le-of-eq, le-of-mul-le-mul-right, mul-le-mul-right, mul-lt-mul-of-pos-right}
+use native.Mathlib.Nat.{le-trans, le-of-eq, eq-of-mul-eq-mul-right, mul-le-mul-right, mul-lt-mul-of-pos-right}
 use Rattle.division.proofs.Binary64Names.{negative, field, magnitude, classOf, IsNonzero, modeOf, IsExponent, greatest, roundedTo, roundedResult, orRounded, significandOf, rootScale, rootPlace, RoundedRoot, IeeeRoot, RootPlain, Class, Zero, Subnormal, Normal, Infinite, Nan, Mode, Binary64Result, finiteRoot, rootOfClass, rootOf}
 use Rattle.division.proofs.RoundedResults.{rounded-near, result-fits}
 use Rattle.division.proofs.Scales.{exponent-one, greatest-meets}
 use Rattle.division.proofs.RoundedOne.{rounded-one}
-use Rattle.division.proofs.Classes.{nonzero-operand}
+use Rattle.division.proofs.Classes.{nonzero-operand, by-kind}
 use Rattle.division.proofs.IeeeLaws.{magnitude-below}
 use Rattle.division.proofs.Quotient.{ScaledTo}
 use Rattle.division.proofs.Binary64Through.{significand-right}
@@ -17,36 +17,30 @@ answer-of : (direction p : ℕ) (k : Class) {x : Binary64Result} → classOf p �
 answer-of direction p k e f = ap (λ (k : Class). orRounded (finiteRoot direction (magnitude p)) (rootOfClass p k)) e ∙ f
 
 pub ieee-root : (direction p : ℕ) → IeeeRoot direction p (rootOf direction p)
-ieee-root direction p =
-    record {
-      nan = λ e. answer-of direction p Nan e refl;
-      below-zero = λ s. ⊎-elim
-          (⊎-elim (λ e. answer-of direction p Subnormal e (rw s)) (λ e. answer-of direction p Normal e (rw s)))
-          (λ e. answer-of direction p Infinite e (rw s));
-      itself = ⊎-elim
-          (λ e. answer-of direction p Zero e refl)
-          (λ e. answer-of direction p Infinite (e .1) (rw (e .0)));
-      root = λ s h.
-          subst (RoundedRoot direction (magnitude p)) (sym (⊎-elim (λ e. answer-of direction p Subnormal e (rw s)) (λ e. answer-of direction p Normal e (rw s)) h))
-          (rounded-root direction (magnitude p) (magnitude-below p (nonzero-operand p h .finite)));
-    }
+ieee-root direction p = record {
+  nan = λ e. answer-of direction p Nan e refl;
+  below-zero = λ s. ⊎-elim
+      (⊎-elim (λ e. answer-of direction p Subnormal e (rw s)) (λ e. answer-of direction p Normal e (rw s)))
+      (λ e. answer-of direction p Infinite e (rw s));
+  itself = ⊎-elim
+      (λ e. answer-of direction p Zero e refl)
+      (λ e. answer-of direction p Infinite (e .1) (rw (e .0)));
+  root = λ s h.
+      subst (RoundedRoot direction (magnitude p)) (sym (⊎-elim (λ e. answer-of direction p Subnormal e (rw s)) (λ e. answer-of direction p Normal e (rw s)) h))
+      (rounded-root direction (magnitude p) (magnitude-below p (nonzero-operand p h .finite)));
+}
 
 -- one answer for each pattern
 pub ieee-root-one : (direction p : ℕ) {x y : Binary64Result} → IeeeRoot direction p x → IeeeRoot direction p y → x ≡ y
-ieee-root-one direction p {x} {y} u v = go (negative p) refl (classOf p) refl
+ieee-root-one direction p {x} {y} u v = go (negative p) refl
   where
-    roots : negative p ≡ false → IsNonzero p → x ≡ y
-    roots s h = rounded-one _ false rootScale root-increasing (rootPlace (magnitude p)) (u .root s h) (v .root s h)
-
-    go : (s : Bool) → negative p ≡ s → (k : Class) → classOf p ≡ k → x ≡ y
-    go s e Zero f = u .itself (inl f) ∙ sym (v .itself (inl f))
-    go true e Subnormal f = u .below-zero e (inl (inl f)) ∙ sym (v .below-zero e (inl (inl f)))
-    go false e Subnormal f = roots e (inl f)
-    go true e Normal f = u .below-zero e (inl (inr f)) ∙ sym (v .below-zero e (inl (inr f)))
-    go false e Normal f = roots e (inr f)
-    go true e Infinite f = u .below-zero e (inr f) ∙ sym (v .below-zero e (inr f))
-    go false e Infinite f = u .itself (inr (e, f)) ∙ sym (v .itself (inr (e, f)))
-    go s e Nan f = u .nan f ∙ sym (v .nan f)
+    go : (s : Bool) → negative p ≡ s → x ≡ y
+    go true e = by-kind p (λ f. u .itself (inl f) ∙ sym (v .itself (inl f))) (λ h. u .below-zero e (inl h) ∙ sym (v .below-zero e (inl h))) (λ f. u .below-zero e (inr f) ∙ sym (v .below-zero e (inr f))) (λ f. u .nan f ∙ sym (v .nan f))
+    go false e = by-kind p
+        (λ f. u .itself (inl f) ∙ sym (v .itself (inl f)))
+        (λ h. rounded-one _ false rootScale root-increasing (rootPlace (magnitude p)) (u .root e h) (v .root e h))
+        (λ f. u .itself (inr (e, f)) ∙ sym (v .itself (inr (e, f))))
+        (λ f. u .nan f ∙ sym (v .nan f))
 
 -- ---- what never happens to the root of a number above 0
 
@@ -55,23 +49,15 @@ normal-result : (mode : Mode) (e k tail : ℕ) → 485 ≤ e → e ≤ 1533 → 
     → (classOf (roundedResult mode false e k tail .pattern) ≡ Normal) × (roundedResult mode false e k tail .flags ≤ 1)
 normal-result mode e k tail l h a b =
     let n = rounded-near mode k tail in
-    let K = roundedTo mode k tail in
-    let f = result-fits mode false e k tail b (omega arith) (omega arith) in
-    let g : 0 < field (0 + (e * 2 ^ 52 + K)) = omega arith in
-    let i : field (0 + (e * 2 ^ 52 + K)) < 2047 = omega arith in (
-      ap (λ (x : Binary64Result). classOf (x .pattern)) f ∙ normal (0 + (e * 2 ^ 52 + K)) g i,
-      le-trans (le-of-eq (ap (λ (x : Binary64Result). x .flags) f)) (rw (ne-eqb e 0 (omega arith)) (cond-in (λ (z : ℕ). z ≤ 1) (eqb tail 0) (omega arith) (omega arith))),
+    let p = 0 + (e * 2 ^ 52 + roundedTo mode k tail) in
+    rw (result-fits mode false e k tail b (omega arith) (omega arith)) (
+      rw (ne-eqb (field p) 0 (omega arith), lt-ltb (field p) 2047 (omega arith)),
+      rw (ne-eqb e 0 (omega arith)) (cond-in (λ (z : ℕ). z ≤ 1) (eqb tail 0) (omega arith) (omega arith)),
     )
-  where
-    normal : (q : ℕ) → 0 < field q → field q < 2047 → classOf q ≡ Normal
-    normal q g i = rw (ne-eqb (field q) 0 (omega arith), lt-ltb (field q) 2047 i)
 
 -- an odd number's square is no multiple of 2^54
 odd-square : (j m c : ℕ) → 0 < c → (2 * j + 1) * (2 * j + 1) * c ≡ 2 ^ 54 * m * c → ⊥
-odd-square j m c p e =
-    let l : (2 * j + 1) * (2 * j + 1) ≤ 2 ^ 54 * m = le-of-mul-le-mul-right (le-of-eq e) p in
-    let h : 2 ^ 54 * m ≤ (2 * j + 1) * (2 * j + 1) = le-of-mul-le-mul-right (le-of-eq (sym e)) p in
-    omega arith
+odd-square j m c p e = omega (arith, eq-of-mul-eq-mul-right c p ((2 * j + 1) * (2 * j + 1)) (2 ^ 54 * m) e)
 
 module _ (p : ℕ) (h : IsNonzero p) where
   scaled : ScaledTo (magnitude p) (significandOf p)

@@ -3,7 +3,6 @@ pub mod Sticky
 pub mod Nearest
 pub mod RoundedResults
 pub mod Scales
-pub mod Meaning
 pub mod Rounded
 pub mod RoundedOne
 pub mod Quotient
@@ -14,7 +13,6 @@ pub mod WholeThrough
 pub mod WholeDigits
 pub mod Binary64Through
 pub mod Calls
-pub mod FlagBounds
 pub mod JoinedFlags
 pub mod SampleRuns
 pub mod PackedBytes

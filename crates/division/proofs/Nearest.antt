@@ -1,12 +1,10 @@
 -- What rounding means. An exact magnitude x is given by an increasing scale f and a number m: half a unit taken j times lies at f j, and x at m.
 -- A quotient n / u has f j = j * u and m = 2 * n; a root has squares. Rounding is stated and shown once, for every scale.
-use Rattle.laws.proofs.Basics.{_≡_, sym, ap, inl, inr, ⊎-elim, ℕ, suc, min, _+_, _-_, _*_, _/_, _%_, _≤_, _<_, arith, lt-ltb, le-ltb, eq-eqb, ne-eqb}
-use native.Mathlib.Nat.{le-of-lt, lt-of-lt-of-le, eq-zero-or-pos, eq-or-lt-of-le, le-refl, le-of-eq, lt-of-not-le, not-le-of-lt, le-trans}
+use Rattle.laws.proofs.Basics.{_≡_, sym, ap, inl, inr, ⊎-elim, ℕ, min, _+_, _-_, _*_, _/_, _%_, _≤_, _<_, arith, lt-ltb, le-ltb, eq-eqb, ne-eqb}
+use native.Mathlib.Nat.{le-of-lt, eq-zero-or-pos, eq-or-lt-of-le, le-refl, le-of-eq}
+use Rattle.laws.proofs.Comparisons.{not-below}
 use Rattle.division.proofs.Binary64Names.{AwayFromZero, ToNearest, Rounds, roundedTo, tailAt, Mode, Nearest, Toward, Away}
 use Rattle.laws.proofs.Division.{le-or-lt}
-
-parity : (y : ℕ) → suc y % 2 ≡ 0 → y % 2 ≡ 0 → ⊥
-parity y p q = omega arith
 
 module _ (f : ℕ → ℕ) (up : (i j : ℕ) → i < j → f i < f j) where
   -- order on the scale
@@ -15,22 +13,14 @@ module _ (f : ℕ → ℕ) (up : (i j : ℕ) → i < j → f i < f j) where
 
   -- a greater magnitude is not rounded to a smaller number
   pub rounds-mono : (mode : Mode) (m n x y : ℕ) → m ≤ n → Rounds mode f m x → Rounds mode f n y → x ≤ y
-  rounds-mono Toward m n x y h p q = ⊎-elim (λ (g : x ≤ y). g)
-      (λ (g : y < x). absurd (omega (arith, mono (2 * y + 2) (2 * x) (omega arith), p .under, q .next)))
-      (le-or-lt x y)
-  rounds-mono Away m n x y h p q = ⊎-elim (λ (g : x ≤ y). g)
-      (λ (g : y < x). absurd (omega (arith, mono (2 * y) (2 * x - 2) (omega arith), q .over, p .last (omega arith))))
-      (le-or-lt x y)
-  rounds-mono Nearest m n x y h p q = ⊎-elim (λ (g : x ≤ y). g)
-      (λ (g : y < x).
+  rounds-mono Toward m n x y h p q = not-below (λ g. omega (arith, mono (2 * y + 2) (2 * x) (omega arith), p .under, q .next))
+  rounds-mono Away m n x y h p q = not-below (λ g. omega (arith, mono (2 * y) (2 * x - 2) (omega arith), q .over, p .last (omega arith)))
+  rounds-mono Nearest m n x y h p q = not-below (λ (g : y < x).
       let a : f (2 * x - 1) ≤ m = p .above (omega arith) in
       let b : n ≤ f (2 * y + 1) = q .below in
-      let s : 2 * x - 1 < suc (2 * y + 1) = lt-of-not-le (λ l. not-le-of-lt (up (2 * y + 1) (2 * x - 1) l) (omega arith)) in
-      let e : 2 * x - 1 ≡ 2 * y + 1 = omega arith in
-      let c : f (2 * x - 1) ≡ f (2 * y + 1) = ap f e in
-      let z : x ≡ suc y = omega arith in
-      absurd (parity y (rw z at (p .even (inr (omega arith, omega arith)))) (q .even (inl (omega arith)))))
-      (le-or-lt x y)
+      let s : 2 * x - 1 ≤ 2 * y + 1 = not-below (λ l. omega (arith, up (2 * y + 1) (2 * x - 1) l)) in
+      let c : f (2 * x - 1) ≡ f (2 * y + 1) = ap f (omega arith) in
+      omega (arith, p .even (inr (omega arith, omega arith)), q .even (inl (omega arith))))
 
   -- no two numbers round one magnitude
   pub rounds-one : (mode : Mode) (m x y : ℕ) → Rounds mode f m x → Rounds mode f m y → x ≡ y
@@ -61,9 +51,6 @@ module _ (f : ℕ → ℕ) (up : (i j : ℕ) → i < j → f i < f j) where
         (le-or-lt (f (2 * k + 1)) m)))
         (eq-or-lt-of-le low)
 
-    next-even : f (2 * (k + 1)) ≡ f (2 * k + 2)
-    next-even = ap f (omega arith)
-
     stays : m ≤ f (2 * k + 1) → (m ≡ f (2 * k + 1) → k % 2 ≡ 0) → ToNearest f m k
     stays h t = record {
       above = λ p. omega (arith, mono (2 * k - 1) (2 * k) (omega arith));
@@ -77,12 +64,6 @@ module _ (f : ℕ → ℕ) (up : (i j : ℕ) → i < j → f i < f j) where
         let l : m < f (2 * (k + 1) + 1) = omega (arith, up (2 * k + 2) (2 * (k + 1) + 1) (omega arith)) in
         record { above = λ p. rw e h; below = le-of-lt l; even = ⊎-elim (λ w. absurd (omega arith)) (λ w. t (rw e at (w .1))) }
 
-    tie : m ≡ f (2 * k + 1) → ToNearest f m (k + k % 2)
-    tie e = ⊎-elim
-        (λ (z : k % 2 ≡ 0). let w : k + k % 2 ≡ k = omega arith in rw w (stays (le-of-eq e) (λ t. z)))
-        (λ (z : 0 < k % 2). let w : k + k % 2 ≡ k + 1 = omega arith in rw w (goes (le-of-eq (sym e)) (λ t. omega arith)))
-        (eq-zero-or-pos (k % 2))
-
     pub rounds : (mode : Mode) → Rounds mode f m (roundedTo mode k (tailAt f m k))
     rounds Toward = record { under = low; next = high }
     rounds Away = place (λ r. AwayFromZero f m (roundedTo Away k r))
@@ -92,38 +73,31 @@ module _ (f : ℕ → ℕ) (up : (i j : ℕ) → i < j → f i < f j) where
         (λ g. stepped (omega (arith, up (2 * k) (2 * k + 1) (omega arith))))
       where
         stepped : f (2 * k) < m → AwayFromZero f m (k + 1)
-        stepped g = record { over = omega (arith, next-even); last = λ p. let e : 2 * (k + 1) - 2 ≡ 2 * k = omega arith in rw e g }
+        stepped g = record { over = omega (arith, mono (2 * k + 2) (2 * (k + 1)) (omega arith)); last = λ p. let e : 2 * (k + 1) - 2 ≡ 2 * k = omega arith in rw e g }
     rounds Nearest = place (λ r. ToNearest f m (roundedTo Nearest k r))
         (λ e. let g = up (2 * k) (2 * k + 1) (omega arith) in stays (omega arith) (λ t. absurd (omega arith)))
         (λ g h. stays (le-of-lt h) (λ t. absurd (omega arith)))
-        tie
+        (λ e. ⊎-elim
+        (λ (z : k % 2 ≡ 0). let w : k + k % 2 ≡ k = omega arith in rw w (stays (le-of-eq e) (λ t. z)))
+        (λ (z : 0 < k % 2). let w : k + k % 2 ≡ k + 1 = omega arith in rw w (goes (le-of-eq (sym e)) (λ t. omega arith)))
+        (eq-zero-or-pos (k % 2)))
         (λ g. goes (le-of-lt g) (λ t. absurd (omega arith)))
 
 -- h half units and a sticky bit, as code has them: the whole units are h / 2, and the tail is the lowest bit of h and the sticky bit
 module _ (f : ℕ → ℕ) (up : (i j : ℕ) → i < j → f i < f j) (m h : ℕ) (low : f h ≤ m) (high : m < f (h + 1)) where
   pub whole-units : (f (2 * (h / 2)) ≤ m) × (m < f (2 * (h / 2) + 2))
-  whole-units = (
-    le-trans (mono f up (2 * (h / 2)) h (omega arith)) low,
-    lt-of-lt-of-le high (mono f up (h + 1) (2 * (h / 2) + 2) (omega arith)),
-  )
+  whole-units = omega (arith, mono f up (2 * (h / 2)) h (omega arith), mono f up (h + 1) (2 * (h / 2) + 2) (omega arith))
 
   pub halves : tailAt f m (h / 2) ≡ 2 * (h % 2) + min 1 (m - f h)
   halves =
-      let l : f (h + 1) ≤ f (2 * (h / 2) + 2) = mono f up (h + 1) (2 * (h / 2) + 2) (omega arith) in
-      place f up m (h / 2) (whole-units .0) (whole-units .1) (λ r. r ≡ 2 * (h % 2) + min 1 (m - f h))
-      (λ e. ⊎-elim
-      (λ (z : h % 2 ≡ 0). let q : h ≡ 2 * (h / 2) = omega arith in omega (arith, ap f q))
-      (λ (z : 0 < h % 2). absurd (omega (arith, up (2 * (h / 2)) h (omega arith))))
-      (eq-zero-or-pos (h % 2)))
-      (λ g t. ⊎-elim
-      (λ (z : h % 2 ≡ 0). let q : h ≡ 2 * (h / 2) = omega arith in omega (arith, ap f q))
-      (λ (z : 0 < h % 2). absurd (omega (arith, mono f up (2 * (h / 2) + 1) h (omega arith))))
-      (eq-zero-or-pos (h % 2)))
-      (λ e. ⊎-elim
-      (λ (z : h % 2 ≡ 0). absurd (omega (arith, mono f up (h + 1) (2 * (h / 2) + 1) (omega arith))))
-      (λ (z : 0 < h % 2). let q : h ≡ 2 * (h / 2) + 1 = omega arith in omega (arith, ap f q))
-      (eq-zero-or-pos (h % 2)))
-      (λ g. ⊎-elim
-      (λ (z : h % 2 ≡ 0). absurd (omega (arith, mono f up (h + 1) (2 * (h / 2) + 1) (omega arith))))
-      (λ (z : 0 < h % 2). let q : h ≡ 2 * (h / 2) + 1 = omega arith in omega (arith, ap f q))
-      (eq-zero-or-pos (h % 2)))
+      let at = place f up m (h / 2) (whole-units .0) (whole-units .1) (λ r. r ≡ 2 * (h % 2) + min 1 (m - f h)) in
+      let l = up (2 * (h / 2)) (2 * (h / 2) + 1) (omega arith) in
+      ⊎-elim
+      (λ (z : h % 2 ≡ 0).
+      let a : f h ≡ f (2 * (h / 2)) = ap f (omega arith) in
+      let b : f (h + 1) ≡ f (2 * (h / 2) + 1) = ap f (omega arith) in
+      at (λ e. omega arith) (λ g t. omega arith) (λ e. omega arith) (λ g. omega arith))
+      (λ (z : 0 < h % 2).
+      let a : f h ≡ f (2 * (h / 2) + 1) = ap f (omega arith) in
+      at (λ e. omega arith) (λ g t. omega arith) (λ e. omega arith) (λ g. omega arith))
+      (eq-zero-or-pos (h % 2))

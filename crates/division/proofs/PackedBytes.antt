@@ -1,22 +1,11 @@
 -- Packed decimal: bytes to a number and back.
 use Rattle.laws.proofs.Basics.{_≡_, refl, sym, ap, _∙_, ⊎-elim, List, ℕ, zero, suc, _+_, _-_, _*_, _/_, _%_, _^_, _≤_, _<_, add-one, arith, length, getD, set, length-set, replicate}
-use native.Mathlib.Nat.{eq-or-lt-of-le, le-of-suc-le-suc, zero-add, pow-suc, pow-succ', div-div-eq-div-mul}
+use native.Mathlib.Nat.{eq-or-lt-of-le, le-of-suc-le-suc, pow-suc, pow-succ', div-div-eq-div-mul}
 use lib.Seq.{ext-getD, getD-set-same, getD-set-other}
-use Rattle.laws.proofs.Lists.{list-length, list-at}
+use Rattle.laws.proofs.Lists.{list-length, list-value}
 use Rattle.division.specs.Packed.{twoDigits, numberTo, packedNumber, Decimal, Packed, digitsByte, byteAt, packedBytes}
 
--- ---- two digits and their byte
-
-byte-back : (b : ℕ) → b / 16 ≤ 9 → b % 16 ≤ 9 → digitsByte (twoDigits b) ≡ b
-byte-back b h l = omega arith
-
-two-back : (t : ℕ) → t < 100 → twoDigits (digitsByte t) ≡ t
-two-back t h = omega arith
-
 -- a number without its last two digits
-cut : (x m : ℕ) → x / 100 / 100 ^ m ≡ x / 100 ^ suc m
-cut x m = div-div-eq-div-mul x 100 (100 ^ m) ∙ ap (λ (d : ℕ). x / d) (sym (pow-succ' 100 m))
-
 cut-last : (x m : ℕ) → x / 100 ^ m / 100 ≡ x / 100 ^ suc m
 cut-last x m = div-div-eq-div-mul x (100 ^ m) 100 ∙ ap (λ (d : ℕ). x / d) (sym (pow-suc 100 m))
 
@@ -46,7 +35,7 @@ module _ (bs : List ℕ) where
         (λ (g : k < n).
         let z : suc n - 1 - k ≡ suc (n - 1 - k) = omega arith in
         let v : (numberTo bs n * 100 + twoDigits (getD bs n 0)) / 100 ≡ numberTo bs n = omega (arith, d .high n h, d .low n h) in
-        rw (z, ← cut (numberTo bs n * 100 + twoDigits (getD bs n 0)) (n - 1 - k), v) (pair-at n k (omega arith) g))
+        rw (z, pow-succ', ← div-div-eq-div-mul (numberTo bs n * 100 + twoDigits (getD bs n 0)) 100 (100 ^ (n - 1 - k)), v) (pair-at n k (omega arith) g))
         (eq-or-lt-of-le (le-of-suc-le-suc l))
 
 -- ---- there and back
@@ -55,28 +44,19 @@ bytes-length : (x : ℕ) → length (packedBytes x) ≡ 8
 bytes-length x = list-length (byteAt x) 0 8
 
 bytes-at : (x k : ℕ) → k < 8 → getD (packedBytes x) k 0 ≡ byteAt x k
-bytes-at x k h = list-at (byteAt x) 0 0 8 k h ∙ ap (byteAt x) (zero-add k)
+bytes-at x k h = list-value (byteAt x) 0 8 k h
 
 pub bytes-back : (bs : List ℕ) → Packed bs → packedBytes (packedNumber bs) ≡ bs
-bytes-back bs p = ext-getD 0 (packedBytes (packedNumber bs)) bs (bytes-length (packedNumber bs) ∙ sym (p .eight)) at
-  where
-    at : (k : ℕ) → k < length (packedBytes (packedNumber bs)) → getD (packedBytes (packedNumber bs)) k 0 ≡ getD bs k 0
-    at k h =
-        let l : k < 8 = omega (arith, bytes-length (packedNumber bs)) in
-        bytes-at (packedNumber bs) k l ∙ ap digitsByte (pair-at bs (p .decimal) 8 k (omega arith) l) ∙ byte-back (getD bs k 0) (p .decimal .high k l) (p .decimal .low k l)
+bytes-back bs p = ext-getD 0 (packedBytes (packedNumber bs)) bs (bytes-length (packedNumber bs) ∙ sym (p .eight)) (λ k h.
+    let l : k < 8 = omega (arith, bytes-length (packedNumber bs)) in
+    bytes-at (packedNumber bs) k l ∙ ap digitsByte (pair-at bs (p .decimal) 8 k (omega arith) l) ∙ omega (arith, p .decimal .high k l, p .decimal .low k l))
 
 module _ (x : ℕ) where
   pub bytes-packed : Packed (packedBytes x)
   bytes-packed = record {
     eight = bytes-length x;
-    decimal = record { high = λ k h. rw (bytes-at x k h) (high (x / 100 ^ (7 - k))); low = λ k h. rw (bytes-at x k h) (low (x / 100 ^ (7 - k))) };
+    decimal = record { high = λ k h. rw (bytes-at x k h) (omega arith); low = λ k h. rw (bytes-at x k h) (omega arith) };
   }
-    where
-      high : (y : ℕ) → digitsByte (y % 100) / 16 ≤ 9
-      high y = omega arith
-
-      low : (y : ℕ) → digitsByte (y % 100) % 16 ≤ 9
-      low y = omega arith
 
   -- the first n bytes of a number are the number without its later digits
   module _ (h : x < 10 ^ 16) where
@@ -87,11 +67,8 @@ module _ (x : ℕ) where
         let i : 8 - n ≡ suc (7 - n) = omega arith in
         let j : 8 - suc n ≡ 7 - n = omega arith in
         let v : numberTo (packedBytes x) n ≡ x / 100 ^ (7 - n) / 100 = first-bytes n (omega arith) ∙ ap (λ (m : ℕ). x / 100 ^ m) i ∙ sym (cut-last x (7 - n)) in
-        let w : twoDigits (getD (packedBytes x) n 0) ≡ x / 100 ^ (7 - n) % 100 = ap twoDigits (bytes-at x n l) ∙ two-back (x / 100 ^ (7 - n) % 100) (omega arith) in
-        ap (numberTo (packedBytes x)) e ∙ number-more (packedBytes x) n ∙ rw j (joined (x / 100 ^ (7 - n)) v w)
-      where
-        joined : (y : ℕ) {a b : ℕ} → a ≡ y / 100 → b ≡ y % 100 → a * 100 + b ≡ y
-        joined y p q = omega arith
+        let w : twoDigits (getD (packedBytes x) n 0) ≡ x / 100 ^ (7 - n) % 100 = rw (bytes-at x n l) (omega arith) in
+        ap (numberTo (packedBytes x)) e ∙ number-more (packedBytes x) n ∙ rw (j, v, w) (omega arith)
 
     pub number-back : packedNumber (packedBytes x) ≡ x
     number-back = first-bytes 8 (omega arith) ∙ omega arith

@@ -17,7 +17,7 @@ module _ (xs ys : List ℕ) where
   above-decides k h = let b = operandByte xs ys k in holds-decides (eitherOf (below 9 (b / 16)) (below 9 (b % 16)))
 
   packed-rules : WellFormed (packedRules xs ys)
-  unfolding packedRules rank
+  unfolding rank
   packed-rules = record { sound = (above-decides, λ _. (tt, λ _. tt)); in-order = tt }
 
   -- the operands' own bytes
@@ -39,20 +39,17 @@ module _ (xs ys : List ℕ) where
 
   -- ---- the answer: the two refusals, and none
 
-  answer : Admission → PackedAnswer
+  abbrev answer : Admission → PackedAnswer
   answer = answerBy packedZeros (packedValues (wholeOf madeTable (packedNumber xs) (packedNumber ys)))
 
   pub byte-refused : (p : ℕ) → p ≡ firstAbove9 xs ys → p < 16 → packedOf xs ys ≡ packedZeros (refusal 15 p)
-  unfolding packedRules answer
   byte-refused p e h = ap answer (refused-at packed-rules 0 p (found (λ i. isAbove9 (operandByte xs ys i)) 16 above-decides e h))
 
   module _ (none : 16 ≤ firstAbove9 xs ys) where
     pub zero-refused : packedNumber ys ≡ 0 → packedOf xs ys ≡ packedZeros (refusal 5 0)
-    unfolding packedRules answer
     zero-refused h = ap answer (refused-at packed-rules 1 0 (not-found (λ i. isAbove9 (operandByte xs ys i)) 16 above-decides none, (refl, h)))
 
     pub none-refused : (packedNumber ys ≡ 0 → ⊥) → packedOf xs ys ≡ packedValues (wholeOf madeTable (packedNumber xs) (packedNumber ys))
-    unfolding packedRules answer
     none-refused h = ap answer (clear-admits packed-rules (not-found (λ i. isAbove9 (operandByte xs ys i)) 16 above-decides none, (h, tt)))
 
   -- ---- for demand 1
@@ -61,17 +58,13 @@ module _ (xs ys : List ℕ) where
   packed-refuses = refuses packed-rules (λ x. x .refusal) packedZeros (packedValues (wholeOf madeTable (packedNumber xs) (packedNumber ys))) refl (λ f. refl) refl
 
   pub packed-dividend : (p : ℕ) → p < 8 → Above9 (getD xs p 0) → ((i : ℕ) → i < p → Above9 (getD xs i 0) → ⊥) → packedOf xs ys ≡ packedZeros (refusal 15 p)
-  unfolding packedRules answer
   packed-dividend p h a before = ap answer (refused-at packed-rules 0 p (omega arith, record { here = rw (dividend-byte p h) a; before = λ i l x. before i l (rw (dividend-byte i (omega arith)) at x) }))
 
   pub packed-divisor : (p : ℕ) → Decimal xs → p < 8 → Above9 (getD ys p 0) → ((i : ℕ) → i < p → Above9 (getD ys i 0) → ⊥) → packedOf xs ys ≡ packedZeros (refusal 15 (p + 8))
-  unfolding packedRules answer
   packed-divisor p d h a before = ap answer (refused-at packed-rules 0 (p + 8) (omega arith, record { here = rw (divisor-byte p h) a; before = none-before d p (omega arith) before }))
 
   pub packed-by-zero : Decimal xs → Decimal ys → packedNumber ys ≡ 0 → packedOf xs ys ≡ packedZeros (refusal 5 0)
-  unfolding packedRules answer
   packed-by-zero dx dy h = ap answer (refused-at packed-rules 1 0 (decimal-past dx dy, (refl, h)))
 
   pub packed-done : Decimal xs → Decimal ys → (packedNumber ys ≡ 0 → ⊥) → packedOf xs ys ≡ packedValues (wholeOf madeTable (packedNumber xs) (packedNumber ys))
-  unfolding packedRules answer
   packed-done dx dy h = ap answer (clear-admits packed-rules (decimal-past dx dy, (h, tt)))

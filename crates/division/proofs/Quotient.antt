@@ -22,12 +22,11 @@ pub record AlignedTo (w up down : ℕ) (x : Aligned) : Type 0 where
 
 -- the scale of a quotient
 pub quotient-increasing : (b : ℕ) → 0 < b → Increasing (quotientScale b)
-quotient-increasing b p =
-    record {
-      none = λ e. zero-mul (b * 2 ^ e);
-      up = λ e i j g. mul-lt-mul-of-pos-right g (mul-pos p (pow-pos e));
-      double = λ e j. rw (pow-suc 2 e) (omega arith);
-    }
+quotient-increasing b p = record {
+  none = λ e. zero-mul (b * 2 ^ e);
+  up = λ e i j g. mul-lt-mul-of-pos-right g (mul-pos p (pow-pos e));
+  double = λ e j. rw (pow-suc 2 e) (omega arith);
+}
 
 -- the greatest exponent reaches beyond every quotient; x, y and z stand for 2 ^ 2098, 2 ^ 1074 and 2 ^ 3119
 reach : (a b x y z : ℕ) → a < x → 0 < y → x * y ≡ 2 ^ 53 * z → 0 < b → 2 * (a * y) < 2 ^ 54 * (b * z)

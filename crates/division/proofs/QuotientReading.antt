@@ -4,17 +4,14 @@ use native.Mathlib.Nat.{pow-suc}
 use Rattle.division.proofs.Binary64Names.{IsExponent, quotientScale, quotientPlace}
 
 -- x stands for 2 ^ 1022, p for the power of the exponent
-low : (a b x p : ℕ) → (2 ^ 53 * (b * p) ≤ 2 * (a * (x * 2 ^ 52))) ↔ (b * p ≤ a * x)
-low a b x p = (λ h. omega arith, λ h. omega arith)
-
-high : (a b x p : ℕ) → (2 * (a * (x * 2 ^ 52)) < 2 ^ 54 * (b * p)) ↔ (a * x < b * (p * 2))
-high a b x p = (λ h. omega arith, λ h. omega arith)
+span : (a b x p : ℕ) → ((2 ^ 53 * (b * p) ≤ 2 * (a * (x * 2 ^ 52))) ↔ (b * p ≤ a * x)) × ((2 * (a * (x * 2 ^ 52)) < 2 ^ 54 * (b * p)) ↔ (a * x < b * (p * 2)))
+span a b x p = omega arith
 
 -- e is E + 1022, for E the largest whole number with 2^E ≤ a/b, or -1022 if that is larger
 pub quotient-exponent : (a b e : ℕ) → IsExponent (quotientScale b) (quotientPlace a) e ↔ ((0 < e → b * 2 ^ e ≤ a * 2 ^ 1022) × (a * 2 ^ 1022 < b * 2 ^ suc e))
 quotient-exponent a b e = (
-  λ x. (λ p. low a b (2 ^ 1022) (2 ^ e) .0 (x .reached p), rw (pow-suc 2 e) (high a b (2 ^ 1022) (2 ^ e) .0 (x .beyond))),
-  λ y. record { reached = λ p. low a b (2 ^ 1022) (2 ^ e) .1 (y .0 p); beyond = high a b (2 ^ 1022) (2 ^ e) .1 (rw (pow-suc 2 e) at (y .1)) },
+  λ x. (λ p. span a b (2 ^ 1022) (2 ^ e) .0 .0 (x .reached p), rw (pow-suc 2 e) (span a b (2 ^ 1022) (2 ^ e) .1 .0 (x .beyond))),
+  λ y. record { reached = λ p. span a b (2 ^ 1022) (2 ^ e) .0 .1 (y .0 p); beyond = span a b (2 ^ 1022) (2 ^ e) .1 .1 (rw (pow-suc 2 e) at (y .1)) },
 )
 
 -- K units of 2^(e - 1074) are exactly a/b; y stands for 2 ^ 1074

@@ -1,5 +1,6 @@
 -- What the code of the comparison asks: its refusals, and its answer in numbers.
-use Rattle.laws.proofs.Basics.{_≡_, refl, sym, ap, subst, _∙_, _⊎_, ⊎-elim, ℕ, _*_, _^_, _<_, arith}
+use Rattle.laws.proofs.Basics.{_≡_, refl, sym, ap, subst, _∙_, ℕ, _*_, _^_, _<_, arith, ltb}
+use Rattle.laws.proofs.Tests.{cond-in}
 use Rattle.selection.proofs.Refusing.{refusal, answerBy, Wrongs, firstRefusal, rank, Refuses, WellFormed, refuses, cleared, clear-admits}
 use Rattle.selection.specs.declared.Admission.{Admission}
 use Rattle.selection.specs.declared.Admission.the-variants as A
@@ -8,23 +9,20 @@ use Rattle.division.specs.Ratios.{Ratios, comparisonOf, ratiosRules, com
 use Rattle.division.specs.declared.ratio.Comparison.{Comparison}
 use Rattle.division.specs.declared.ratio.Comparison.the-variants.{Refused}
 use Rattle.division.specs.declared.ratio.ComparisonNumbers.{ComparisonNumbers}
-use Rattle.division.proofs.Ratios.{comparison-less, comparison-equal, comparison-greater, three}
 
 -- ---- the refusals
 
 pub ratios-rules : (a b c d : ℕ) → WellFormed (ratiosRules a b c d)
-unfolding ratiosRules rank
+unfolding rank
 ratios-rules a b c d = record { sound = (tt, λ _. (tt, λ _. tt)); in-order = tt }
 
 -- nothing is refused exactly of what can be compared
 pub ratios-spans : (a b c d : ℕ) → firstRefusal (ratiosRules a b c d) ≡ A.Admitted → Ratios a b c d
-unfolding ratiosRules
 ratios-spans a b c d e =
     let k = cleared (ratios-rules a b c d) e in
     record { a-below = k .0 .0; b-some = pos-of-ne-zero (k .1 .0 .0); b-below = k .0 .1 .0; c-below = k .0 .1 .1 .0; d-some = pos-of-ne-zero (k .1 .0 .1); d-below = k .0 .1 .1 .1 }
 
 pub ratios-clear : (a b c d : ℕ) → Ratios a b c d → firstRefusal (ratiosRules a b c d) ≡ A.Admitted
-unfolding ratiosRules
 ratios-clear a b c d r = clear-admits (ratios-rules a b c d) ((r .a-below, (r .b-below, (r .c-below, r .d-below))), (((λ e. omega (arith, r .b-some)), λ e. omega (arith, r .d-some)), tt))
 
 -- ---- the numbers of the answer
@@ -36,12 +34,7 @@ module _ (a b c d : ℕ) where
 
   -- what is found is no refusal
   unrefused : comparisonNumbers (comparisonOf (a * d) (c * b)) .refusal ≡ refusal 0 0
-  unrefused = ⊎-elim
-      (λ (h : a * d < c * b). ap (λ (x : Comparison). comparisonNumbers x .refusal) (comparison-less (a * d) (c * b) h))
-      (⊎-elim
-      (λ (h : a * d ≡ c * b). ap (λ (x : Comparison). comparisonNumbers x .refusal) (comparison-equal (a * d) (c * b) h))
-      (λ (h : c * b < a * d). ap (λ (x : Comparison). comparisonNumbers x .refusal) (comparison-greater (a * d) (c * b) h)))
-      (three (a * d) (c * b))
+  unrefused = let P : Comparison → Type 0 = λ x. comparisonNumbers x .refusal ≡ refusal 0 0 in cond-in P (ltb (a * d) (c * b)) refl (cond-in P (ltb (c * b) (a * d)) refl refl)
 
   pub ratios-refuse : Refuses (Wrongs (ratiosRules a b c d)) (λ x. x .refusal) comparisonZeros (comparisonNumbers (comparedOf a b c d))
   ratios-refuse = subst (Refuses (Wrongs (ratiosRules a b c d)) (λ x. x .refusal) comparisonZeros) (sym (numbers (firstRefusal (ratiosRules a b c d))))

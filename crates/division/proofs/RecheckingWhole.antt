@@ -1,11 +1,10 @@
 -- Whether a wrong table affected a division of whole numbers: its mark, what it claims, the refusals of the call, and that no other answer fits.
-use Rattle.laws.proofs.Basics.{_≡_, refl, sym, ap, ap₂, _∙_, List, _⊎_, ℕ, _+_, _-_, _*_, _^_, _≤_, _<_, arith, length}
+use Rattle.laws.proofs.Basics.{_≡_, refl, ap, _∙_, List, _⊎_, ℕ, _+_, _-_, _*_, _^_, _≤_, _<_, arith, length}
 use native.Mathlib.Nat.{pos-of-ne-zero}
-use Rattle.selection.proofs.Refusing.{refusal, answerBy, Wrongs, firstRefusal, rank, WellFormed, Meets, rules-meet, admits, refuses, cleared, clear-admits, refused-at, answered}
-use Rattle.selection.specs.declared.Refusal.{Refusal}
+use Rattle.selection.proofs.Refusing.{refusal, answerBy, firstRefusal, rank, WellFormed, refuses-one, admits, refuses, cleared, clear-admits, refused-at}
 use Rattle.selection.specs.declared.Admission.{Admission}
-use Rattle.selection.specs.declared.Admission.the-variants.{Admitted, Refused}
-use Rattle.recurrence.specs.Recheck.{Marks, readsBad, runMark, repairedTable}
+use Rattle.selection.specs.declared.Admission.the-variants.{Admitted}
+use Rattle.recurrence.specs.Recheck.{Marks, SameRun, readsBad, runMark, repairedTable}
 use Rattle.recurrence.proofs.SameRuns.{runs-claim, first-bad, reads-decides, run-mark-right, mark-none, mark-some, mark-one, repair-copies, repair-passes}
 use Rattle.laws.specs.Shifts.{shiftTo}
 use Rattle.division.specs.WholeSteps.{digitsAfter, shiftedRun, shiftedThrough, wholeThrough}
@@ -14,17 +13,19 @@ use Rattle.division.specs.declared.recheck.AffectedWholeAnswer.{Affected
 use Rattle.division.proofs.WholeThrough.{whole-divides}
 
 module _ (t : List ℕ) (a b : ℕ) where
-  whole-same : (WholeAffected t a b → ⊥) → wholeThrough t a b ≡ wholeThrough (repairedTable t) a b
+  whole-same : SameRun t (repairedTable t) (wholeDividend a b) (wholeDivisor b) (wholeCount a b) → wholeThrough t a b ≡ wholeThrough (repairedTable t) a b
   unfolding shiftedThrough shiftedRun
-  whole-same n = let s = runs-claim t (repairedTable t) (wholeDividend a b) (wholeDivisor b) (wholeCount a b) (repair-copies t) .same n .result in rw s refl
+  whole-same s = let r = s .result in rw r refl
 
   pub whole-claim : {m : ℕ} → a < 2 ^ 60 → 0 < b → b < 2 ^ 60 → Marks (WholeAffected t a b) m → WholeClaim t a b m
-  whole-claim {m} ha pb hb r =
-      let d = reads-decides t t (wholeDividend a b) (wholeDivisor b) (wholeCount a b) in
+  whole-claim ha pb hb r =
+      let some = mark-some (readsBad t t (wholeDividend a b) (wholeDivisor b) (wholeCount a b)) (reads-decides t t (wholeDividend a b) (wholeDivisor b) (wholeCount a b)) r in
+      let same = runs-claim t (repairedTable t) (wholeDividend a b) (wholeDivisor b) (wholeCount a b) (repair-copies t) .same in
       record {
-        right = λ e. whole-same (mark-none r e) ∙ whole-divides (repairedTable t) a b (repair-passes t) ha pb hb;
-        affected = mark-some (readsBad t t (wholeDividend a b) (wholeDivisor b) (wholeCount a b)) d r;
-        first = λ e. first-bad t t (wholeDividend a b) (wholeDivisor b) (wholeCount a b) (mark-some (readsBad t t (wholeDividend a b) (wholeDivisor b) (wholeCount a b)) d r e);
+        right = λ e. whole-same (same (mark-none r e)) ∙ whole-divides (repairedTable t) a b (repair-passes t) ha pb hb;
+        run = λ e. same (mark-none r e);
+        affected = some;
+        first = λ e. first-bad t t (wholeDividend a b) (wholeDivisor b) (wholeCount a b) (some e);
       }
 
   -- what the code asks: its words are those of the definition
@@ -35,16 +36,14 @@ module _ (t : List ℕ) (a b : ℕ) where
 
 module _ (len a b : ℕ) where
   pub recheck-whole-rules : WellFormed (recheckWholeRules len a b)
-  unfolding recheckWholeRules rank
+  unfolding rank
   recheck-whole-rules = record { sound = (tt, λ _. (tt, λ _. (tt, λ _. tt))); in-order = tt }
 
   -- nothing is refused exactly if all is accepted
   pub recheck-whole-accepts : firstRefusal (recheckWholeRules len a b) ≡ Admitted → RecheckWholeAccepts len a b
-  unfolding recheckWholeRules
   recheck-whole-accepts e = let c = cleared recheck-whole-rules e in record { dividend = c .0 .0; divisor = c .0 .1; some = pos-of-ne-zero (c .1 .0); size = c .1 .1 .0 }
 
   pub recheck-whole-admits : RecheckWholeAccepts len a b → firstRefusal (recheckWholeRules len a b) ≡ Admitted
-  unfolding recheckWholeRules
   recheck-whole-admits x = clear-admits recheck-whole-rules ((x .dividend, x .divisor), ((λ e. omega (arith, x .some)), (x .size, tt)))
 
 -- ---- the call
@@ -60,45 +59,32 @@ module _ (t : List ℕ) (a b : ℕ) where
   pub recheck-whole-answer : {v : Admission} {x : AffectedWholeAnswer} → firstRefusal (recheckWholeRules (length t) a b) ≡ v
       → x ≡ answerBy recheckWholeZeros (recheckWholeValues (wholeMark t a b)) v
       → (x ≡ recheckWholeOf t a b) × WholeRechecks t a b x
-  recheck-whole-answer e g =
-      let x = answered recheckWholeZeros (recheckWholeValues (wholeMark t a b)) e g in
-      (x, rw x whole-rechecks-right)
+  recheck-whole-answer e g = rw (g, ← e) (refl, whole-rechecks-right)
 
   -- the conditions in numbers: where one holds and none before it, the call refuses so
   pub recheck-large : (2 ^ 60 ≤ a) ⊎ (2 ^ 60 ≤ b) → recheckWholeOf t a b ≡ recheckWholeZeros (refusal 4 0)
-  unfolding recheckWholeRules
   recheck-large h = ap (answerBy recheckWholeZeros _) (refused-at (recheck-whole-rules (length t) a b) 0 0 (refl, h))
 
   pub recheck-by-zero : a < 2 ^ 60 → b ≡ 0 → recheckWholeOf t a b ≡ recheckWholeZeros (refusal 5 0)
-  unfolding recheckWholeRules
   recheck-by-zero h e = ap (answerBy recheckWholeZeros _) (refused-at (recheck-whole-rules (length t) a b) 1 0 ((h, omega arith), (refl, e)))
 
   pub recheck-whole-length : a < 2 ^ 60 → 0 < b → b < 2 ^ 60 → (length t ≡ 2048 → ⊥) → recheckWholeOf t a b ≡ recheckWholeZeros (refusal 8 0)
-  unfolding recheckWholeRules
   recheck-whole-length h p k n = ap (answerBy recheckWholeZeros _) (refused-at (recheck-whole-rules (length t) a b) 2 0 ((h, k), ((λ e. omega arith), (refl, n))))
 
   -- and where none does, it refuses nothing
   pub recheck-whole-told : a < 2 ^ 60 → 0 < b → b < 2 ^ 60 → length t ≡ 2048 → recheckWholeOf t a b .refusal ≡ refusal 0 0
-  recheck-whole-told h p k e =
-      ap (λ (v : Admission). answerBy recheckWholeZeros (recheckWholeValues (wholeMark t a b)) v .refusal)
-      (recheck-whole-admits (length t) a b (record { dividend = h; divisor = k; some = p; size = e }))
+  recheck-whole-told h p k e = rw (recheck-whole-admits (length t) a b (record { dividend = h; divisor = k; some = p; size = e }))
 
--- an answer that is not refused
-pub recheck-whole-claim : {t : List ℕ} {a b : ℕ} (x : AffectedWholeAnswer) → WholeRechecks t a b x → x .refusal ≡ refusal 0 0 → WholeClaim t a b (x .affected)
-recheck-whole-claim {t} {a} {b} x r e =
-    let k = recheck-whole-accepts (length t) a b (admits (recheck-whole-rules (length t) a b) (r .refuses .by .none .0 e)) in
-    whole-claim t a b (k .dividend) (k .some) (k .divisor) (r .rechecks k)
+module _ {t : List ℕ} {a b : ℕ} where
+  -- an answer that is not refused
+  pub recheck-whole-claim : (x : AffectedWholeAnswer) → WholeRechecks t a b x → x .refusal ≡ refusal 0 0 → WholeClaim t a b (x .affected)
+  recheck-whole-claim x r e =
+      let k = recheck-whole-accepts (length t) a b (admits (recheck-whole-rules (length t) a b) (r .refuses .by .none .0 e)) in
+      whole-claim t a b (k .dividend) (k .some) (k .divisor) (r .rechecks k)
 
--- no other answer fits
-pub whole-rechecks-one : {t : List ℕ} {a b : ℕ} (f g : AffectedWholeAnswer) → WholeRechecks t a b f → WholeRechecks t a b g → f ≡ g
-whole-rechecks-one {t} {a} {b} f g x y = go (firstRefusal (recheckWholeRules (length t) a b)) refl (rules-meet (recheck-whole-rules (length t) a b) _ refl)
-  where
-    make : Refusal → ℕ → AffectedWholeAnswer
-    make r n = record { refusal = r; affected = n }
-
-    go : (v : Admission) → firstRefusal (recheckWholeRules (length t) a b) ≡ v → Meets (Wrongs (recheckWholeRules (length t) a b)) v → f ≡ g
-    go Admitted e m =
-        let k = recheck-whole-accepts (length t) a b e in
-        ap₂ make (x .refuses .by .none .1 m ∙ sym (y .refuses .by .none .1 m))
-        (mark-one _ (reads-decides t t (wholeDividend a b) (wholeDivisor b) (wholeCount a b)) (x .rechecks k) (y .rechecks k))
-    go (Refused r) e m = x .refuses .besides _ _ m ∙ sym (y .refuses .besides _ _ m)
+  -- no other answer fits
+  pub whole-rechecks-one : (f g : AffectedWholeAnswer) → WholeRechecks t a b f → WholeRechecks t a b g → f ≡ g
+  whole-rechecks-one f g x y = refuses-one (recheck-whole-rules (length t) a b) (x .refuses) (y .refuses) (λ e r.
+      let k = recheck-whole-accepts (length t) a b e in
+      let m = mark-one _ (reads-decides t t (wholeDividend a b) (wholeDivisor b) (wholeCount a b)) (x .rechecks k) (y .rechecks k) in
+      λ i. record { refusal = r i; affected = m i })

@@ -1,24 +1,23 @@
 -- What the code of the roots asks.
-use Rattle.laws.proofs.Basics.{_≡_, refl, sym, ap, subst, _∙_, Bool, true, false, cond, inl, inr, ℕ, min, _+_, _*_, _/_, _%_, _^_, _≤_, _<_, arith}
+use Rattle.laws.proofs.Basics.{_≡_, sym, ap, subst, _∙_, false, ℕ, min, _+_, _*_, _/_, _%_, _^_, _≤_, _<_, arith}
 use native.Mathlib.Nat.{mod-eq-of-lt}
+use Rattle.laws.proofs.Tests.{cond-in}
 use Rattle.selection.proofs.Refusing.{firstRefusal, rank, WellFormed, cleared, clear-admits}
 use Rattle.selection.specs.declared.Admission.the-variants.{Admitted}
-use Rattle.division.specs.Format.{magnitude, negative, classOf}
+use Rattle.division.specs.Format.{magnitude, negative}
 use Rattle.division.specs.Significands.{significandOf, FiniteNonzero}
 use Rattle.division.specs.Rounding.{modeOf}
-use Rattle.division.specs.Computed.{roundedResult, orRounded}
-use Rattle.division.specs.RootSteps.{DigitsTaken, finiteRoot, rootOfClass, rootByClass, rootOf}
+use Rattle.division.specs.Computed.{roundedResult}
+use Rattle.division.specs.RootSteps.{DigitsTaken, finiteRoot, rootOfClass, rootByClass}
 use Rattle.division.specs.RootCalls.{rootRules}
 use Rattle.division.specs.declared.rounding.Mode.{Mode}
 use Rattle.division.specs.declared.format.Binary64Result.{Binary64Result}
-use Rattle.division.specs.declared.format.Class.{Class}
-use Rattle.division.specs.declared.format.Class.the-variants.{Zero, Subnormal, Normal, Infinite, Nan}
 use Rattle.division.specs.declared.format.Scaled.{Scaled}
 use Rattle.division.specs.declared.format.ByClass.{ByClass}
 use Rattle.division.specs.declared.format.ByClass.the-variants.{Decided, Undecided}
 use Rattle.division.specs.declared.root.RootState.{RootState}
 use Rattle.division.proofs.Quotient.{ScaledTo}
-use Rattle.division.proofs.Classes.{nonzero-operand}
+use Rattle.division.proofs.Classes.{nonzero-operand, by-kind}
 use Rattle.division.proofs.Binary64Through.{significand-right}
 use Rattle.division.proofs.Roots.{exponentOf, radicandOf, radicand-span, exponent-span, half-span, root-is}
 
@@ -44,10 +43,7 @@ module _ (p : ℕ) (x : Scaled) (u : FiniteNonzero p) (ex : x ≡ significandOf 
     left = let w = rw (d .weight) at (d .left) in omega (arith, w, doubled)
 
     pub rounded-ready : (exponentOf x ≤ 3119) × (v / 4 < 2 ^ 53) × (2 ^ 52 * min 1 (exponentOf x) ≤ v / 4) × (v % 4 < 4)
-    rounded-ready =
-        let s = half-span (magnitude p) x read (y .twice / 2) (y .rest) sum left in
-        let e = exponent-span (magnitude p) x read in
-        (omega arith, omega arith, omega arith, omega arith)
+    rounded-ready = omega (arith, half-span (magnitude p) x read (y .twice / 2) (y .rest) sum left, exponent-span (magnitude p) x read)
 
     pub finite-root-is : (direction : ℕ) {m : Mode} {r : Binary64Result} → m ≡ modeOf direction false → r ≡ roundedResult m false (exponentOf x) (v / 4) (v % 4) → r ≡ finiteRoot direction (magnitude p)
     finite-root-is direction em er =
@@ -56,33 +52,21 @@ module _ (p : ℕ) (x : Scaled) (u : FiniteNonzero p) (ex : x ≡ significandOf 
 
 -- where its class and its sign decide nothing, the operand is a finite number other than zero
 pub root-operand : (p : ℕ) → rootByClass p ≡ Undecided → FiniteNonzero p
-root-operand p u = go (classOf p) refl u
+root-operand p u = by-kind p (λ e. absurd (no (sym (ap (rootOfClass p) e) ∙ u))) (nonzero-operand p)
+    (λ e. absurd (cond-in (λ (k : ByClass). k ≡ Undecided → ⊥) (negative p) no no (sym (ap (rootOfClass p) e) ∙ u)))
+    (λ e. absurd (no (sym (ap (rootOfClass p) e) ∙ u)))
   where
-    signed : (s : Bool) (x y : Binary64Result) → cond s (Decided x) (Decided y) ≡ Undecided → ⊥
-    signed true x y u = let z : _≡_ {A = ℕ} 0 1 = cc in omega arith
-    signed false x y u = let z : _≡_ {A = ℕ} 0 1 = cc in omega arith
-
-    go : (k : Class) → classOf p ≡ k → rootOfClass p k ≡ Undecided → FiniteNonzero p
-    go Zero e u = absurd (let z : _≡_ {A = ℕ} 0 1 = cc in omega arith)
-    go Subnormal e u = nonzero-operand p (inl e)
-    go Normal e u = nonzero-operand p (inr e)
-    go Infinite e u = absurd (signed (negative p) _ _ u)
-    go Nan e u = absurd (let z : _≡_ {A = ℕ} 0 1 = cc in omega arith)
-
--- an answer that the class decides, or that it leaves to the rounding
-pub by-root-class : (direction p : ℕ) (k : ByClass) → rootByClass p ≡ k → orRounded (finiteRoot direction (magnitude p)) k ≡ rootOf direction p
-by-root-class direction p k e = sym (ap (orRounded (finiteRoot direction (magnitude p))) e)
+    no : {x : Binary64Result} → Decided x ≡ Undecided → ⊥
+    no u = let z : _≡_ {A = ℕ} 0 1 = cc in omega arith
 
 -- ---- the refusal of a whole number
 
 pub root-rules : (a : ℕ) → WellFormed (rootRules a)
-unfolding rootRules rank
+unfolding rank
 root-rules a = record { sound = (tt, λ _. tt); in-order = tt }
 
 pub root-span : (a : ℕ) → firstRefusal (rootRules a) ≡ Admitted → a < 2 ^ 60
-unfolding rootRules
 root-span a e = cleared (root-rules a) e .0
 
 pub root-clear : (a : ℕ) → a < 2 ^ 60 → firstRefusal (rootRules a) ≡ Admitted
-unfolding rootRules
 root-clear a h = clear-admits (root-rules a) (h, tt)

@@ -1,17 +1,10 @@
 -- The digits of a root, one a step.
-use Rattle.laws.proofs.Basics.{_≡_, refl, sym, ap, _∙_, cond, _⊎_, inl, inr, ⊎-elim, ℕ, suc, _+_, _-_, _*_, _/_, _%_, _^_, _≤_, _<_, arith, ltb, lt-ltb, le-ltb}
-use native.Mathlib.Nat.{pow-suc, add-zero, mod-eq-of-lt}
+use Rattle.laws.proofs.Basics.{_≡_, refl, sym, ap, _∙_, cond, _⊎_, ⊎-elim, ℕ, suc, _+_, _-_, _*_, _/_, _%_, _^_, _≤_, _<_, arith, ltb, lt-ltb, le-ltb}
+use native.Mathlib.Nat.{pow-suc, add-zero}
 use lib.Pow.{pow-mono}
 use Rattle.laws.proofs.Division.{le-or-lt}
 use Rattle.division.specs.RootSteps.{DigitsTaken}
 use Rattle.division.specs.declared.root.RootState.{RootState}
-
--- a difference modulo 2^64 is the difference, or its top bit is set
-difference : (n t d : ℕ) → n < 2 ^ 63 → t < 2 ^ 63 → d < 2 ^ 64 → (d + t) % 2 ^ 64 ≡ n → ((d < 2 ^ 63) × (d + t ≡ n)) ⊎ ((2 ^ 63 ≤ d) × (n < t))
-difference n t d h l k e = ⊎-elim
-    (λ (g : 2 ^ 64 ≤ d + t). inr (omega arith, omega arith))
-    (λ (g : d + t < 2 ^ 64). let f : d + t ≡ n = sym (mod-eq-of-lt g) ∙ e in inl (omega arith, f))
-    (le-or-lt (2 ^ 64) (d + t))
 
 -- one digit of the weight h, after digits down to twice that weight: s is twice the root so far and r what is left, x and y are the next of both
 record Digit (s r h x y : ℕ) : Type 0 where
@@ -32,9 +25,9 @@ module _ (s r h : ℕ) (l : r < s + h * 2) where
   -- d is what the trial leaves, modulo 2^64: its top bit tells whether the trial fits
   digit-meets : (d : ℕ) → s + 2 * (h * 2) ≤ 2 ^ 61 → d < 2 ^ 64 → (d + (s + h)) % 2 ^ 64 ≡ 2 * r → Digit s r h (s + cond (ltb d (2 ^ 63)) (h * 2) 0) (cond (ltb d (2 ^ 63)) d (2 * r))
   digit-meets d b w e = ⊎-elim
-      (λ g. rw (lt-ltb d (2 ^ 63) (g .0)) (taken d (g .1)))
-      (λ g. rw (le-ltb d (2 ^ 63) (g .0), add-zero s) (passed (g .1)))
-      (difference (2 * r) (s + h) d (omega arith) (omega arith) w e)
+      (λ (g : 2 ^ 64 ≤ d + (s + h)). rw (le-ltb d (2 ^ 63) (omega arith), add-zero s) (passed (omega arith)))
+      (λ (g : d + (s + h) < 2 ^ 64). rw (lt-ltb d (2 ^ 63) (omega arith)) (taken d (omega arith)))
+      (le-or-lt (2 ^ 64) (d + (s + h)))
 
 -- no digit yet, and one digit more
 pub none-taken : (radicand k u : ℕ) → radicand < 2 ^ k → k ≤ 60 → u ≡ 1 * 2 ^ k % 2 ^ 64 → DigitsTaken (2 ^ k * radicand) k (record { twice = 0; rest = radicand; unit = u })

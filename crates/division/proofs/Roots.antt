@@ -1,8 +1,8 @@
 -- Roots: the digits give the definitions' answers, and the whole root is what it should be.
-use Rattle.laws.proofs.Basics.{_≡_, sym, ap, _∙_, false, ⊎-elim, ℕ, zero, suc, min, zero-le, _+_, _-_, _*_, _/_, _%_, _^_, _≤_, _<_, arith, lit≤}
+use Rattle.laws.proofs.Basics.{_≡_, sym, ap, _∙_, false, ℕ, zero, suc, min, zero-le, _+_, _-_, _*_, _/_, _%_, _^_, _≤_, _<_, arith, lit≤}
 use native.Mathlib.Nat.{mul-le-mul, mul-le-mul-left, mul-le-mul-right, mul-lt-mul-of-pos-right, mul-pos, zero-mul, le-of-lt, lt-of-le-of-lt, lt-of-lt-of-le, pow-suc}
 use lib.Pow.{pow-add, pow-pos, pow-mono}
-use Rattle.laws.proofs.Division.{le-or-lt}
+use Rattle.laws.proofs.Comparisons.{not-below, not-most}
 use Rattle.laws.proofs.Powers.{four-pow, by-digits}
 use Rattle.selection.specs.Answer.{refusal}
 use Rattle.division.proofs.Binary64Names.{modeOf, roundedResult, rootScale, rootPlace, RoundedRoot, Scaled, DigitsTaken, wholeRoot, finiteRoot}
@@ -47,12 +47,11 @@ four-pos e = rw (four-pow e) (pow-pos (e + e))
 
 -- the scale of a root
 pub root-increasing : Increasing rootScale
-root-increasing =
-    record {
-      none = λ e. zero-mul (4 ^ e);
-      up = λ e i j g. mul-lt-mul-of-pos-right (squares i j g) (four-pos e);
-      double = λ e j. rw (pow-suc 4 e) (omega arith);
-    }
+root-increasing = record {
+  none = λ e. zero-mul (4 ^ e);
+  up = λ e i j g. mul-lt-mul-of-pos-right (squares i j g) (four-pos e);
+  double = λ e j. rw (pow-suc 4 e) (omega arith);
+}
 
 -- the greatest exponent reaches beyond every root; x and y stand for 2 ^ 2098 and 2 ^ 1074
 reach : (a x y : ℕ) → a < x → 0 < y → 4 * (a * y) < 4 * (x * y)
@@ -92,21 +91,14 @@ module _ (a : ℕ) (x : Scaled) (sx : ScaledTo a x) where
 
   -- the radicand has 53 or 54 bits
   pub radicand-span : (2 ^ 52 ≤ radicandOf x) × (radicandOf x < 2 ^ 54)
-  radicand-span = (
-    mul-le-mul {n₁ = 2 ^ 52} {m₁ = 1} (sx .bits .low) (pow-pos (x .exp % 2)),
-    lt-of-le-of-lt (mul-le-mul-left (x .sig) (pow-mono {i = x .exp % 2} {j = 1} (omega arith))) (omega (arith, sx .bits .high)),
-  )
+  radicand-span = omega (arith, sx .bits, mul-le-mul-left (x .sig) (pow-pos (x .exp % 2)), mul-le-mul-left (x .sig) (pow-mono {i = x .exp % 2} {j = 1} (omega arith)))
 
   -- h is the whole root of the radicand with 54 bits after it, and r what is left
   module _ (h r : ℕ) (sum : h * h + r ≡ 2 ^ 54 * radicandOf x) (left : r ≤ 2 * h) where
     pub half-span : (2 ^ 53 ≤ h) × (h < 2 ^ 54)
     half-span = (
-      ⊎-elim (λ (g : 2 ^ 53 ≤ h). g)
-          (λ (g : h < 2 ^ 53). absurd (omega (arith, mul-le-mul {n₁ = h + 1} {m₁ = h + 1} {n₂ = 2 ^ 53} {m₂ = 2 ^ 53} (omega arith) (omega arith), radicand-span .0)))
-          (le-or-lt (2 ^ 53) h),
-      ⊎-elim (λ (g : 2 ^ 54 ≤ h). absurd (omega (arith, mul-le-mul {n₁ = 2 ^ 54} {m₁ = 2 ^ 54} {n₂ = h} {m₂ = h} g g, radicand-span .1)))
-          (λ (g : h < 2 ^ 54). g)
-          (le-or-lt (2 ^ 54) h),
+      not-below (λ g. omega (arith, mul-le-mul {n₁ = h + 1} {m₁ = h + 1} {n₂ = 2 ^ 53} {m₂ = 2 ^ 53} (omega arith) (omega arith), radicand-span .0)),
+      not-most (λ (g : 2 ^ 54 ≤ h). omega (arith, mul-le-mul {n₁ = 2 ^ 54} {m₁ = 2 ^ 54} {n₂ = h} {m₂ = h} g g, radicand-span .1)),
     )
 
     under : rootScale (exponentOf x) h ≤ rootPlace a
@@ -116,10 +108,7 @@ module _ (a : ℕ) (x : Scaled) (sx : ScaledTo a x) where
     over = let l : 2 ^ 54 * radicandOf x < (h + 1) * (h + 1) = omega arith in rw place-is (mul-lt-mul-of-pos-right l (four-pos (exponentOf x)))
 
     beyond : min 1 r ≡ min 1 (rootPlace a - rootScale (exponentOf x) h)
-    beyond = rw (place-is, ← sum) (bit r (4 ^ exponentOf x) (four-pos (exponentOf x)) ∙ ap (min 1) (difference (h * h) r (4 ^ exponentOf x)))
-      where
-        difference : (q r c : ℕ) → r * c ≡ (q + r) * c - q * c
-        difference q r c = omega arith
+    beyond = rw (place-is, ← sum) (omega (arith, bit r (4 ^ exponentOf x) (four-pos (exponentOf x))))
 
     -- h with a sticky bit below gives the definition's answer
     pub root-is : (direction v : ℕ) → v ≡ 2 * h + min 1 r → finiteRoot direction a ≡ roundedResult (modeOf direction false) false (exponentOf x) (v / 4) (v % 4)

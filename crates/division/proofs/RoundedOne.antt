@@ -1,9 +1,10 @@
 -- Of two answers that `Rounded` accepts for one exact magnitude, one is the other, on every scale.
-use Rattle.laws.proofs.Basics.{_≡_, refl, sym, ap, ap₂, subst, _∙_, Bool, true, false, ⊎-elim, ℕ, suc, _+_, _-_, _*_, _/_, _^_, _≤_, _<_, arith, ne-eqb, leb-true, leb-false}
-use native.Mathlib.Nat.{mul-le-mul-left, mul-lt-mul-of-pos-right, eq-zero-or-pos, pow-suc, mul-div-cancel}
+use Rattle.laws.proofs.Basics.{_≡_, sym, ap, ap₂, _∙_, Bool, ⊎-elim, ℕ, suc, _+_, _-_, _*_, _^_, _≤_, _<_, arith, ne-eqb, le-leb, lt-leb, leb-true, leb-false}
+use native.Mathlib.Nat.{le-antisymm, mul-le-mul-left, mul-lt-mul-of-pos-right, eq-zero-or-pos, eq-of-mul-eq-mul-right, pow-suc}
+use Rattle.laws.proofs.Comparisons.{not-below}
 use lib.Pow.{pow-pos, pow-mono}
 use Rattle.laws.proofs.Division.{le-or-lt}
-use Rattle.division.proofs.Binary64Names.{negative, field, fraction, magnitude, Rounds, flagsOfResult, Rounded, Mode, Binary64Result}
+use Rattle.division.proofs.Binary64Names.{negative, field, fraction, magnitude, flagsOfResult, Rounded, Mode, Binary64Result}
 use Rattle.division.proofs.Nearest.{rounds-one}
 use Rattle.division.proofs.Scales.{Increasing, exponent-one}
 
@@ -11,7 +12,7 @@ use Rattle.division.proofs.Scales.{Increasing, exponent-one}
 magnitude-above : (p : ℕ) → 0 < field p → 2 ^ 52 * 2 ^ (field p - 1) ≤ magnitude p
 magnitude-above p h = rw (ne-eqb (field p) 0 (omega arith)) (omega arith)
 
-magnitude-under : (p : ℕ) → magnitude p < 2 ^ 52 * 2 ^ field p
+pub magnitude-under : (p : ℕ) → magnitude p < 2 ^ 52 * 2 ^ field p
 magnitude-under p = ⊎-elim
     (λ (z : field p ≡ 0). rw z (omega arith))
     (λ (g : 0 < field p).
@@ -27,19 +28,14 @@ field-order p q h =
 
 -- a magnitude has one exponent field and one fraction
 field-one : (p q : ℕ) → magnitude p ≡ magnitude q → field p ≡ field q
-field-one p q e = ⊎-elim
-    (λ (g : field p ≤ field q). ⊎-elim (λ (h : field q ≤ field p). omega arith) (λ (h : field p < field q). absurd (omega (arith, field-order p q h))) (le-or-lt (field q) (field p)))
-    (λ (g : field q < field p). absurd (omega (arith, field-order q p g)))
-    (le-or-lt (field p) (field q))
+field-one p q e = le-antisymm (not-below (λ g. omega (arith, field-order q p g))) (not-below (λ g. omega (arith, field-order p q g)))
 
 fraction-one : (p q : ℕ) → magnitude p ≡ magnitude q → field p ≡ field q → fraction p ≡ fraction q
 fraction-one p q e f = ⊎-elim
     (λ (z : field q ≡ 0). rw (f, z) at e)
     (λ (g : 0 < field q).
     let d = rw (f, ne-eqb (field q) 0 (omega arith)) at e in
-    let k : 0 < 2 ^ (field q - 1) = pow-pos (field q - 1) in
-    let w : 2 ^ 52 + fraction p ≡ 2 ^ 52 + fraction q = sym (mul-div-cancel _ k) ∙ ap (λ (n : ℕ). n / 2 ^ (field q - 1)) d ∙ mul-div-cancel _ k in
-    omega arith)
+    omega (arith, eq-of-mul-eq-mul-right (2 ^ (field q - 1)) (pow-pos (field q - 1)) (2 ^ 52 + fraction p) (2 ^ 52 + fraction q) d))
     (eq-zero-or-pos (field q))
 
 -- a 64-bit pattern is determined by its magnitude and its sign
@@ -47,29 +43,24 @@ pub pattern-one : (p q : ℕ) → p < 2 ^ 64 → q < 2 ^ 64 → magnitude p ≡ 
 pattern-one p q hp hq e s =
     let f = field-one p q e in
     let r = fraction-one p q e f in
-    go (negative p) refl s f r
-  where
-    go : (x : Bool) → negative p ≡ x → x ≡ negative q → field p ≡ field q → fraction p ≡ fraction q → p ≡ q
-    go true i j f r = omega (arith, leb-true (2 ^ 63) p i, leb-true (2 ^ 63) q (sym j))
-    go false i j f r = omega (arith, leb-false (2 ^ 63) p i, leb-false (2 ^ 63) q (sym j))
+    ⊎-elim
+    (λ (g : 2 ^ 63 ≤ p). omega (arith, leb-true (2 ^ 63) q (sym s ∙ le-leb (2 ^ 63) p g)))
+    (λ (g : p < 2 ^ 63). omega (arith, leb-false (2 ^ 63) q (sym s ∙ lt-leb (2 ^ 63) p g)))
+    (le-or-lt (2 ^ 63) p)
 
 module _ (mode : Mode) (s : Bool) (scale : ℕ → ℕ → ℕ) (inc : Increasing scale) (m : ℕ) {x y : Binary64Result} (u : Rounded mode s scale m x) (v : Rounded mode s scale m y) where
   exponents : u .e ≡ v .e
   exponents = exponent-one scale inc m (u .e) (v .e) (u .exponent) (v .exponent)
 
   multiples : u .K ≡ v .K
-  multiples = rounds-one (scale (v .e)) (inc .up (v .e)) mode m (u .K) (v .K)
-      (subst (λ (e : ℕ). Rounds mode (scale e) m (u .K)) exponents (u .rounded)) (v .rounded)
+  multiples = rounds-one (scale (v .e)) (inc .up (v .e)) mode m (u .K) (v .K) (rw exponents at (u .rounded)) (v .rounded)
 
   pub rounded-one : x ≡ y
   rounded-one = ⊎-elim
       (λ (h : 2 ^ 2098 ≤ u .K * 2 ^ u .e). u .over h ∙ sym (v .over (rw (multiples, exponents) at h)))
       (λ (h : u .K * 2 ^ u .e < 2 ^ 2098).
       let k = rw (multiples, exponents) at h in
-      ap₂ result
-      (pattern-one (x .pattern) (y .pattern) (u .word h) (v .word k) (u .value h ∙ ap₂ (λ (m n : ℕ). m * 2 ^ n) multiples exponents ∙ sym (v .value k)) (u .sign h ∙ sym (v .sign k)))
-      (u .flags h ∙ ap₂ (flagsOfResult scale m) exponents multiples ∙ sym (v .flags k)))
+      let p = pattern-one (x .pattern) (y .pattern) (u .word h) (v .word k) (u .value h ∙ ap₂ (λ (m n : ℕ). m * 2 ^ n) multiples exponents ∙ sym (v .value k)) (u .sign h ∙ sym (v .sign k)) in
+      let f = u .flags h ∙ ap₂ (flagsOfResult scale m) exponents multiples ∙ sym (v .flags k) in
+      λ i. record { pattern = p i; flags = f i })
       (le-or-lt (2 ^ 2098) (u .K * 2 ^ u .e))
-    where
-      result : ℕ → ℕ → Binary64Result
-      result p f = record { pattern = p; flags = f }

@@ -1,6 +1,7 @@
 -- The scale of an exact magnitude: the exponent that the definition finds is the largest, and there is one; so are the whole units, and they have 53 bits.
 use Rattle.laws.proofs.Basics.{_≡_, sym, ap, ⊎-elim, ℕ, zero, suc, min, _+_, _*_, _^_, _≤_, _<_, arith, le-leb, lt-leb}
 use native.Mathlib.Nat.{pow-suc, le-of-eq, le-refl, le-trans, eq-or-lt-of-le}
+use Rattle.laws.proofs.Comparisons.{not-below, not-most}
 use Rattle.laws.proofs.Division.{le-or-lt}
 use Rattle.division.proofs.Binary64Names.{IsExponent, largest, greatest}
 use Rattle.division.proofs.Nearest.{mono}
@@ -25,7 +26,7 @@ module _ (f : ℕ → ℕ) (up : (i j : ℕ) → i < j → f i < f j) (m : ℕ) 
       (le-or-lt (f (k + 2 ^ n)) m)
 
   least : (i j : ℕ) → f i ≤ m → m < f (j + 1) → i ≤ j
-  least i j l h = ⊎-elim (λ (g : i ≤ j). g) (λ (g : j < i). absurd (omega (arith, mono f up (j + 1) i (omega arith)))) (le-or-lt i j)
+  least i j l h = not-below (λ g. omega (arith, mono f up (j + 1) i (omega arith)))
 
   -- there is one
   pub greatest-one : (i j : ℕ) → f i ≤ m → m < f (i + 1) → f j ≤ m → m < f (j + 1) → i ≡ j
@@ -53,9 +54,7 @@ module _ (scale : ℕ → ℕ → ℕ) (inc : Increasing scale) where
 
   -- a greater magnitude has no smaller exponent
   pub exponent-mono : (m n d e : ℕ) → m ≤ n → IsExponent scale m d → IsExponent scale n e → d ≤ e
-  exponent-mono m n d e h x y = ⊎-elim (λ (g : d ≤ e). g)
-      (λ (g : e < d). absurd (omega (arith, y .beyond, beside e d g, x .reached (omega arith))))
-      (le-or-lt d e)
+  exponent-mono m n d e h x y = not-below (λ g. omega (arith, y .beyond, beside e d g, x .reached (omega arith)))
 
   module _ (m : ℕ) where
     pub largest-meets : (d : ℕ) → m < scale d (2 ^ 54) → IsExponent scale m (largest d scale m)
@@ -73,16 +72,7 @@ module _ (scale : ℕ → ℕ → ℕ) (inc : Increasing scale) where
     -- the whole units at that exponent: fewer than 2^53, and 2^52 or more where it is not 0
     module _ (e k : ℕ) (is : IsExponent scale m e) (low : scale e (2 * k) ≤ m) (high : m < scale e (2 * k + 2)) where
       pub units-high : k < 2 ^ 53
-      units-high = ⊎-elim
-          (λ (g : 2 ^ 53 ≤ k). absurd (omega (arith, is .beyond, order e (2 ^ 54) (2 * k) (omega arith))))
-          (λ (g : k < 2 ^ 53). g)
-          (le-or-lt (2 ^ 53) k)
+      units-high = not-most (λ (g : 2 ^ 53 ≤ k). omega (arith, is .beyond, order e (2 ^ 54) (2 * k) (omega arith)))
 
       pub units-low : 2 ^ 52 * min 1 e ≤ k
-      units-low = ⊎-elim
-          (λ (g : e ≤ 0). omega arith)
-          (λ (p : 0 < e). ⊎-elim
-          (λ (g : 2 ^ 52 ≤ k). omega arith)
-          (λ (g : k < 2 ^ 52). absurd (omega (arith, is .reached p, order e (2 * k + 2) (2 ^ 53) (omega arith))))
-          (le-or-lt (2 ^ 52) k))
-          (le-or-lt e 0)
+      units-low = not-below (λ (g : k < 2 ^ 52 * min 1 e). omega (arith, is .reached (omega arith), order e (2 * k + 2) (2 ^ 53) (omega arith)))

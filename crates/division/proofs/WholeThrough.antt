@@ -7,7 +7,7 @@ use Rattle.laws.proofs.Division.{scaled}
 use Rattle.laws.proofs.Powers.{four-pow, lifted, pow-cancel}
 use Rattle.laws.specs.Shifts.{shiftTo}
 use Rattle.selection.specs.Table.{Passes}
-use Rattle.recurrence.specs.Recurrence.{Operands, resultOf}
+use Rattle.recurrence.specs.Recurrence.{resultOf}
 use Rattle.recurrence.proofs.RunDemand.{result-divides}
 use Rattle.division.specs.WholeSteps.{digitsAfter, shiftedRun, shiftedThrough, wholeThrough}
 
@@ -24,13 +24,6 @@ after-bounds a s h l =
     let r = room-above a h in
     (omega (arith, r .0), omega (arith, r .0), r .1 (s - 2 * digitsAfter a s) (omega (arith, r .0)))
 
--- the run's operands
-pub whole-operands : (a b : ℕ) → a < 2 ^ 60 → 0 < b → b < 2 ^ 60
-    → let s = shiftTo 60 b in Operands (a * 2 ^ (s - 2 * digitsAfter a s)) (b * 2 ^ s)
-whole-operands a b ha p hb =
-    let l = lifted 60 b (lit< tt) p hb in
-    record { dividend = after-bounds a (shiftTo 60 b) ha (l .1) .2; least = l .2; most = l .3 }
-
 -- the run of a·2^(s − 2k) by b·2^s, k + 1 digits, gives a / b and (a % b)·2^s
 pub whole-through : (t : List ℕ) (a b : ℕ) → Passes t → a < 2 ^ 60 → 0 < b → b < 2 ^ 60
     → let s = shiftTo 60 b in let k = digitsAfter a s in
@@ -38,8 +31,9 @@ pub whole-through : (t : List ℕ) (a b : ℕ) → Passes t → a < 2 ^ 60 → 0
 whole-through t a b p ha pb hb =
     let s = shiftTo 60 b in
     let k = digitsAfter a s in
-    let bounds = after-bounds a s ha (lifted 60 b (lit< tt) pb hb .1) in
-    let e = result-divides t (a * 2 ^ (s - 2 * k)) (b * 2 ^ s) (k + 1) p (whole-operands a b ha pb hb) (omega arith) in
+    let l = lifted 60 b (lit< tt) pb hb in
+    let bounds = after-bounds a s ha (l .1) in
+    let e = result-divides t (a * 2 ^ (s - 2 * k)) (b * 2 ^ s) (k + 1) p (record { dividend = bounds .2; least = l .2; most = l .3 }) (omega arith) in
     let i : k + 1 - 1 ≡ k = omega arith in
     let j : s - 2 * k + (k + k) ≡ s = omega (arith, bounds .1) in
     let m : a * 2 ^ (s - 2 * k) * 4 ^ (k + 1 - 1) ≡ a * 2 ^ s = rw (i, mul-assoc, four-pow k, ← pow-add 2 (s - 2 * k) (k + k), j) in

@@ -1,9 +1,12 @@
 -- Binary64 division through a table, step by step: the significands' quotient is the run's, its digits the table's. No step need be believed: `binary64-through`
 -- shows that through every table that passes they give `quotientOf`, and `ieee` what that means.
+use mathlib.Core.Path.{_≡_}
 use mathlib.Core.Bool.{Bool, cond}
 use mathlib.Core.List.{List}
-use Prim.Native.Nat.{ℕ, min, _+_, _-_, _*_, _/_, _%_, _^_}
+use Prim.Native.Nat.{ℕ, min, _+_, _-_, _*_, _/_, _%_, _^_, _≤_, _<_}
 use lib.Dec.{leb}
+use Rattle.selection.specs.Cell.{row}
+use Rattle.selection.specs.Table.{Passes, rowBytes}
 use Rattle.recurrence.specs.Recurrence.{resultOf}
 use Rattle.division.specs.Format.{signOf}
 use Rattle.division.specs.Significands.{significandOf}
@@ -20,6 +23,12 @@ sticky n u = 2 * (n / u) + min 1 (n % u)
 -- the quotient of two significands through the table t, 28 digits, with its sticky bit
 unfoldable pub ratioThrough : List ℕ → ℕ → ℕ → ℕ
 ratioThrough t a b = let r = resultOf t (a * 256) (b * 256) 28 in 2 * r .quotient + min 1 (r .remainder)
+
+-- r is that quotient through every table that passes and has these bytes for the row of b * 256, and it has 55 or 56 bits
+pub record RatioOf (bytes : List ℕ) (a b r : ℕ) : Type 0 where
+  pub through : (t : List ℕ) → Passes t → bytes ≡ rowBytes t (row (b * 256)) → r ≡ ratioThrough t a b
+  pub low : 2 ^ 54 ≤ r
+  pub high : r < 2 ^ 56
 
 -- that quotient at the exponent which its size gives, or at the least exponent: quarters of a unit, the lowest bit sticky
 abbrev pub alignedOf : ℕ → ℕ → ℕ → Aligned

@@ -67,7 +67,7 @@ abbrev pub firstAbove9 : List ℕ → List ℕ → ℕ
 firstAbove9 xs ys = firstFrom (λ i. isAbove9 (operandByte xs ys i)) 0 16
 
 -- what is refused of the dividend xs and the divisor ys. 15: a half byte is above 9, place: the first such byte's index. 5: the divisor is 0
-unfoldable pub packedRules : List ℕ → List ℕ → List Rule
+abbrev pub packedRules : List ℕ → List ℕ → List Rule
 packedRules xs ys = numberFirst 15 (λ i. Above9 (operandByte xs ys i)) (λ i. isAbove9 (operandByte xs ys i)) 16 ∷ number 5 (zeroDivisor (packedNumber ys)) ∷ []
 
 -- number and place of a refusal, and zeros

@@ -50,7 +50,7 @@ FoundIn (suc n) a b c d x = Round (a / b) (a % b) (c / d) (c % d) x (FoundIn n d
 -- ---- the answer
 
 -- what is refused. 4: any of them is 2^60 or more. 5: b or d is 0
-unfoldable pub ratiosRules : ℕ → ℕ → ℕ → ℕ → List Rule
+abbrev pub ratiosRules : ℕ → ℕ → ℕ → ℕ → List Rule
 ratiosRules a b c d =
     number 4 (eitherOf (largeOperand a) (eitherOf (largeOperand b) (eitherOf (largeOperand c) (largeOperand d))))
     ∷ number 5 (eitherOf (zeroDivisor b) (zeroDivisor d))

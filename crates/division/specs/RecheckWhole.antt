@@ -7,7 +7,7 @@ use Rattle.selection.specs.Answer.{refusal, answerBy}
 use Rattle.laws.specs.Search.{First}
 use Rattle.selection.specs.Refusals.{Rule, differ, eitherOf, number, firstRefusal, Wrongs, Refuses}
 use Rattle.selection.specs.declared.Refusal.{Refusal}
-use Rattle.recurrence.specs.Recheck.{BadStep, ReadsBad, Marks, runMark}
+use Rattle.recurrence.specs.Recheck.{BadStep, ReadsBad, Marks, runMark, SameRun, repairedTable}
 use Rattle.laws.specs.Shifts.{shiftTo}
 use Rattle.division.specs.Whole.{largeOperand, zeroDivisor}
 use Rattle.division.specs.WholeSteps.{digitsAfter, wholeThrough}
@@ -28,7 +28,7 @@ abbrev pub WholeAffected : List ℕ → ℕ → ℕ → Type 0
 WholeAffected t a b = ReadsBad t (wholeDividend a b) (wholeDivisor b) (wholeCount a b)
 
 -- what is refused. 4: a or b is 2^60 or more; 5: b is 0; 8: length not 2,048
-unfoldable pub recheckWholeRules : ℕ → ℕ → ℕ → List Rule
+abbrev pub recheckWholeRules : ℕ → ℕ → ℕ → List Rule
 recheckWholeRules len a b = number 4 (eitherOf (largeOperand a) (largeOperand b)) ∷ number 5 (zeroDivisor b) ∷ number 8 (differ len 2048) ∷ []
 
 abbrev pub recheckWholeZeros : Refusal → AffectedWholeAnswer
@@ -50,6 +50,8 @@ pub record WholeRechecks (t : List ℕ) (a b : ℕ) (x : AffectedWholeAnswer) : 
 pub record WholeClaim (t : List ℕ) (a b m : ℕ) : Type 0 where
   -- 0: the digits of the burned table itself give a / b and a % b
   pub right : m ≡ 0 → wholeThrough t a b ≡ record { quotient = a / b; remainder = a % b }
+  -- the digits and the states are those of the repair
+  pub run : m ≡ 0 → SameRun t (repairedTable t) (wholeDividend a b) (wholeDivisor b) (wholeCount a b)
   -- 1: a step reads a bad cell, and there is a first. Nothing is claimed of the answer
   pub affected : m ≡ 1 → WholeAffected t a b
   pub first : m ≡ 1 → (i : ℕ) × (i < wholeCount a b) × First (BadStep t t (wholeDividend a b) (wholeDivisor b)) i

@@ -12,7 +12,7 @@ use Rattle.division.specs.declared.format.Binary64Answer.{Binary64Answer
 use Rattle.division.specs.declared.root.RootAnswer.{RootAnswer}
 
 -- what is refused of a whole number. 4: a is 2^60 or more
-unfoldable pub rootRules : ℕ → List Rule
+abbrev pub rootRules : ℕ → List Rule
 rootRules a = number 4 (largeOperand a) ∷ []
 
 -- number and place of a refusal, and zeros

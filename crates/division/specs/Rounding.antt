@@ -11,7 +11,7 @@ use Rattle.division.specs.declared.rounding.Mode.{Mode}
 use Rattle.division.specs.declared.rounding.Mode.the-variants.{Nearest, Toward, Away}
 
 -- what a call that rounds refuses of its arguments. 6: direction above 3
-unfoldable pub directionRules : ℕ → List Rule
+abbrev pub directionRules : ℕ → List Rule
 directionRules direction = number 6 (below 3 direction) ∷ []
 
 -- direction 0 nearest, 1 toward zero, 2 toward plus infinity, 3 toward minus infinity; true is a negative sign. Above 3, which the calls refuse, it is read as 0

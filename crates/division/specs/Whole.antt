@@ -22,7 +22,7 @@ abbrev pub zeroDivisor : ℕ → Condition
 zeroDivisor b = same b 0
 
 -- what is refused of the arguments. 4: a or b is 2^60 or more. 5: b is 0
-unfoldable pub wholeRules : ℕ → ℕ → List Rule
+abbrev pub wholeRules : ℕ → ℕ → List Rule
 wholeRules a b = number 4 (eitherOf (largeOperand a) (largeOperand b)) ∷ number 5 (zeroDivisor b) ∷ []
 
 -- number and place of a refusal, and zeros

@@ -1,7 +1,8 @@
 -- Whole-number division through a table, step by step. No step need be believed: `whole-through` and `whole-divides` show that through every table that passes
 -- they give a / b and a % b.
+use mathlib.Core.Path.{_≡_}
 use mathlib.Core.List.{List}
-use Prim.Native.Nat.{ℕ, _+_, _-_, _*_, _/_, _^_}
+use Prim.Native.Nat.{ℕ, _+_, _-_, _*_, _/_, _^_, _≤_, _<_}
 use Rattle.laws.specs.Shifts.{shiftTo}
 use Rattle.recurrence.specs.Recurrence.{resultOf}
 use Rattle.recurrence.specs.declared.RunResult.{RunResult}
@@ -10,6 +11,20 @@ use Rattle.division.specs.declared.whole.WholeResult.{WholeResult}
 -- how many digits follow the first, where the divisor is moved up by s bits: each of them brings two of the s, and a is moved up by the rest, to bit 60 at most
 abbrev pub digitsAfter : ℕ → ℕ → ℕ
 digitsAfter a s = (s - shiftTo 60 a + 1) / 2
+
+-- s moves the divisor b up into its span
+pub record DivisorShift (b s : ℕ) : Type 0 where
+  pub is : s ≡ shiftTo 60 b
+  pub small : s ≤ 60
+  pub least : 2 ^ 60 ≤ b * 2 ^ s
+  pub most : b * 2 ^ s < 2 ^ 61
+
+-- k digits follow the first, and they leave the dividend a in its span
+pub record DigitCount (a s k : ℕ) : Type 0 where
+  pub is : k ≡ digitsAfter a s
+  pub few : k ≤ 30
+  pub within : 2 * k ≤ s
+  pub dividend : a * 2 ^ (s - 2 * k) < 2 ^ 61
 
 -- the run of a by a divisor that has been moved up by s bits to d, in the divisor's span: a is moved up by the bits that the digits after the first do not bring
 unfoldable pub shiftedRun : List ℕ → ℕ → ℕ → ℕ → RunResult

@@ -1,14 +1,13 @@
 // Whole-number division over the run.
 ghost use mathlib.Core.Path.{_≡_};
 ghost use mathlib.Core.List.{List};
-ghost use Prim.Native.Nat.{ℕ, _+_, _-_, _*_, _/_, _^_, _≤_, _<_};
-ghost use Rattle.laws.specs.Shifts.{shiftTo};
+ghost use Prim.Native.Nat.{ℕ, _^_, _≤_, _<_};
 ghost use Rattle.selection.specs.Cell as Cell;
 ghost use Rattle.selection.specs.Computed.{madeTable};
 ghost use Rattle.selection.specs.Table.{Passes, rowBytes};
 ghost use Rattle.selection.specs.Refusals.{firstRefusal};
 ghost use Rattle.recurrence.specs.Row.{Row};
-ghost use Rattle.division.specs.WholeSteps.{digitsAfter, shiftedRun, shiftedThrough, wholeThrough};
+ghost use Rattle.division.specs.WholeSteps.{DivisorShift, DigitCount, shiftedRun, shiftedThrough, wholeThrough};
 ghost use Rattle.division.specs.Whole.{wholeRules, wholeZeros, wholeValues, wholeOf};
 use recurrence::RunResult;
 use selection::Admission;
@@ -35,7 +34,7 @@ pub struct WholeAnswer {
 // How far the divisor is moved up, for its leading one to stand at bit 60.
 pub(crate) fn shift_of(b: u64) -> u32
     requires { ⌜ (0 < b) × (b < 2 ^ 60) ⌝ }
-    ensures { λ s. ⌜ (s ≡ shiftTo 60 b) × (s ≤ 60) × (2 ^ 60 ≤ b * 2 ^ s) × (b * 2 ^ s < 2 ^ 61) ⌝ }
+    ensures { λ s. ⌜ DivisorShift b s ⌝ }
 {
     u64::leading_zeros(b) - 3
 }
@@ -43,7 +42,7 @@ pub(crate) fn shift_of(b: u64) -> u32
 // How many digits follow the first, where the divisor is moved up by s bits: as few as bring a, moved up the rest of the way, into the dividend's span.
 pub(crate) fn digits_after(a: u64, s: u32) -> u32
     requires { ⌜ (a < 2 ^ 60) × (s ≤ 60) ⌝ }
-    ensures { λ k. ⌜ (k ≡ digitsAfter a s) × (k ≤ 30) × (2 * k ≤ s) × (a * 2 ^ (s - 2 * k) < 2 ^ 61) ⌝ }
+    ensures { λ k. ⌜ DigitCount a s k ⌝ }
 {
     let room = u64::leading_zeros(a) - 3;
     if s <= room {

@@ -5,7 +5,7 @@ use Rattle.laws.specs.Sums.{sumBelow}
 use Rattle.laws.specs.Search.{First, firstFrom}
 use Rattle.laws.specs.Counting.{Tally, countBelow}
 use Rattle.laws.specs.Counting.Tally.{none, one, other}
-use Rattle.laws.proofs.Tests.{cond-in, Decides}
+use Rattle.laws.proofs.Tests.{by-cond, cond-in, is-true, either, Decides}
 use Rattle.laws.proofs.Sums.{sum-more, sum-part, sum-most, sum-nothing, sum-zero, sum-as}
 use Rattle.laws.proofs.Search.{first-below}
 
@@ -38,57 +38,44 @@ module _ (f : ℕ → Bool) where
 
   pub count-none : (n : ℕ) → ((k : ℕ) → k < n → f k ≡ true → ⊥) → countBelow f n ≡ 0
   unfolding countBelow
-  count-none n h = sum-nothing _ n (λ k l. go (f k) (h k l))
-    where
-      go : (x : Bool) → (x ≡ true → ⊥) → cond {A = ℕ} x 1 0 ≡ 0
-      go true e = absurd (e refl)
-      go false e = refl
-
-  count-zero : (n : ℕ) → countBelow f n ≡ 0 → (k : ℕ) → k < n → f k ≡ true → ⊥
-  unfolding countBelow
-  count-zero n z k h e = omega (arith, rw e at (sum-zero (λ k. cond (f k) 1 0) n z k h))
+  count-none n h = sum-nothing _ n (λ k l. by-cond (λ x. x ≡ 0) (f k) 1 0 (λ t. absurd (h k l (is-true (f k) t))) (λ t. refl))
 
   -- where none is counted, none is the first, and else one is
   first-true : (n : ℕ) → let k = firstFrom f 0 n in ((k ≡ n) × ((j : ℕ) → j < n → f j ≡ true → ⊥)) ⊎ ((k < n) × First (λ j. f j ≡ true) k)
   first-true n = first-below {P = λ j. f j ≡ true} f n (λ k h. record { yes = λ e. e; no = λ e q. subst T (sym q ∙ e) tt })
 
   pub none-counted : (n : ℕ) → countBelow f n ≡ 0 → firstFrom f 0 n ≡ n
-  none-counted n z = ⊎-elim (λ x. x .0) (λ x. absurd (count-zero n z (firstFrom f 0 n) (x .0) (x .1 .here))) (first-true n)
+  unfolding countBelow
+  none-counted n z = ⊎-elim (λ x. x .0) (λ x. absurd (omega (arith, rw (x .1 .here) at (sum-zero (λ k. cond (f k) 1 0) n z (firstFrom f 0 n) (x .0))))) (first-true n)
 
   pub some-counted : (n : ℕ) → 0 < countBelow f n → firstFrom f 0 n < n
   some-counted n h = ⊎-elim (λ x. absurd (omega (arith, count-none n (x .1)))) (λ x. x .0) (first-true n)
 
-module _ (f g : ℕ → Bool) where
-  pub count-same : (m : ℕ) → ((k : ℕ) → k < m → f k ≡ g k) → countBelow f m ≡ countBelow g m
-  unfolding countBelow
-  count-same m e = sum-as _ _ m (λ k h. rw (e k h))
-
-  -- tests that differ in one number
-  pub count-more : (j m : ℕ) → j < m → f j ≡ true → g j ≡ false → ((k : ℕ) → k < m → k ≢ j → f k ≡ g k) → countBelow f m ≡ countBelow g m + 1
-  unfolding countBelow sumBelow
-  count-more j zero h y n e = absurd (omega arith)
-  count-more j (suc m) h y n e =
-      ⊎-elim
-      (λ q. rw (← q, y, n) (omega (arith, count-same j (λ k l. e k (omega arith) (λ x. omega arith)))))
-      (λ l. rw (e m (omega arith) (λ x. omega arith)) (omega (arith, count-more j m l y n (λ k i. e k (omega arith)))))
-      (eq-or-lt-of-le {n = j} {m = m} (omega arith))
+-- tests that differ in one number
+pub count-more : (f g : ℕ → Bool) (j m : ℕ) → j < m → f j ≡ true → g j ≡ false → ((k : ℕ) → k < m → k ≢ j → f k ≡ g k) → countBelow f m ≡ countBelow g m + 1
+unfolding countBelow sumBelow
+count-more f g j zero h y n e = absurd (omega arith)
+count-more f g j (suc m) h y n e =
+    ⊎-elim
+    (λ q. rw (← q, y, n) (omega (arith, sum-as (λ k. cond (f k) 1 0) (λ k. cond (g k) 1 0) j (λ k l. rw (e k (omega arith) (λ x. omega arith))))))
+    (λ l. rw (e m (omega arith) (λ x. omega arith)) (omega (arith, count-more f g j m l y n (λ k i. e k (omega arith)))))
+    (eq-or-lt-of-le {n = j} {m = m} (omega arith))
 
 -- ---- properties
 
 pub count-tally : {P : ℕ → Type 0} (f : ℕ → Bool) (m : ℕ) → ((k : ℕ) → k < m → Decides (P k) (f k)) → Tally P m (countBelow f m)
 unfolding countBelow sumBelow
 count-tally f zero d = none
-count-tally {P} f (suc m) d = go (f m) (d m (omega arith)) (count-tally f m (λ k h. d k (omega arith)))
-  where
-    go : {n : ℕ} (b : Bool) → Decides (P m) b → Tally P m n → Tally P (suc m) (n + cond b 1 0)
-    go true q t = rw add-one (one (q .yes refl) t)
-    go false q t = rw add-zero (other (q .no refl) t)
+count-tally f (suc m) d =
+    let t = count-tally f m (λ k h. d k (omega arith)) in
+    let q = d m (omega arith) in
+    ⊎-elim (λ (e : f m ≡ true). rw (e, add-one) (one (q .yes e) t)) (λ (e : f m ≡ false). rw (e, add-zero) (other (q .no e) t)) (either (f m))
 
 -- of properties that say the same
-pub tally-as : {P Q : ℕ → Type 0} {m n : ℕ} → ((k : ℕ) → P k → Q k) → ((k : ℕ) → Q k → P k) → Tally P m n → Tally Q m n
+pub tally-as : {P Q : ℕ → Type 0} {m n : ℕ} → ((k : ℕ) → k < m → P k → Q k) → ((k : ℕ) → k < m → Q k → P k) → Tally P m n → Tally Q m n
 tally-as f g none = none
-tally-as f g (one p x) = one (f _ p) (tally-as f g x)
-tally-as f g (other p x) = other (λ q. p (g _ q)) (tally-as f g x)
+tally-as f g (one p x) = one (f _ (omega arith) p) (tally-as (λ k h. f k (omega arith)) (λ k h. g k (omega arith)) x)
+tally-as f g (other p x) = other (λ q. p (g _ (omega arith) q)) (tally-as (λ k h. f k (omega arith)) (λ k h. g k (omega arith)) x)
 
 -- where every number that has P has Q, no fewer have Q
 pub tally-most : {P Q : ℕ → Type 0} {m i j : ℕ} → ((k : ℕ) → k < m → P k → Q k) → Tally P m i → Tally Q m j → i ≤ j

@@ -1,5 +1,5 @@
 -- A list by its index, a lent list filled from the front, and a part of a list lent and put back.
-use Rattle.laws.proofs.Basics.{_≡_, refl, sym, ap, subst, _∙_, ⊎-elim, List, [], _∷_, _++_, append-assoc, append-nil, ℕ, zero, suc, _+_, _-_, _≤_, _<_, add-one, arith, length, getD, take, drop, set, length-append, length-take, length-drop, drop-of-length-le}
+use Rattle.laws.proofs.Basics.{_≡_, refl, sym, ap, _∙_, ⊎-elim, List, [], _∷_, _++_, append-assoc, append-nil, ℕ, zero, suc, _+_, _-_, _≤_, _<_, add-one, arith, length, getD, take, drop, set, length-append, length-take, length-drop, drop-of-length-le}
 use native.Mathlib.Nat.{add-zero, add-suc, suc-add, zero-add, not-suc-le-zero, le-of-suc-le-suc, eq-or-lt-of-le}
 use lib.Seq.{drop-drop, drop-cons, set-at, getD-set-same, getD-set-other, getD-append-add, getD-drop, ext-getD}
 use lib.ListN.{List·getD-append}
@@ -17,6 +17,9 @@ module _ {X : Type 0} (f : ℕ → X) where
   list-at d i zero k h = absurd (not-suc-le-zero h)
   list-at d i (suc n) zero h = ap f (sym (add-zero i))
   list-at d i (suc n) (suc k) h = list-at d (suc i) n k (le-of-suc-le-suc h) ∙ ap f (suc-add i k ∙ sym (add-suc i k))
+
+  pub list-value : (d : X) (n k : ℕ) → k < n → getD (listFrom f 0 n) k d ≡ f k
+  list-value d n k h = rw zero-add at (list-at d 0 n k h)
 
   list-more : (i n : ℕ) → listFrom f i (suc n) ≡ listFrom f i n ++ (f (i + n) ∷ [])
   unfolding listFrom
@@ -44,7 +47,7 @@ module _ {X : Type 0} (f : ℕ → X) where
 
     -- what stands at a place that is filled, and at one past them
     pub fill-at : (d : X) (n k : ℕ) → k < n → getD (filled f n o) k d ≡ f k
-    fill-at d n k h = List·getD-append (listFrom f 0 n) (drop n o) d k (omega (arith, list-length 0 n)) ∙ list-at d 0 n k h ∙ ap f (zero-add k)
+    fill-at d n k h = List·getD-append (listFrom f 0 n) (drop n o) d k (omega (arith, list-length 0 n)) ∙ list-value d n k h
 
     pub fill-rest : (d : X) (n k : ℕ) → n ≤ k → getD (filled f n o) k d ≡ getD o k d
     fill-rest d n k h =
@@ -74,7 +77,4 @@ put-back b ys a n = let e : a + (a + n - a) ≡ a + n = omega arith in rw (drop-
 -- the first i entries have P: entry i is stored
 pub set-more : {X : Type 0} (P : ℕ → X → Type 0) (l : List X) (i : ℕ) (v d : X) → i < length l → ((j : ℕ) → j < i → P j (getD l j d)) → P i v → (j : ℕ) → j < i + 1 → P j (getD (set l i v) j d)
 set-more P l i v d h below here j k =
-    ⊎-elim
-    (λ e. subst (λ (m : ℕ). P m (getD (set l i v) m d)) (sym e) (subst (P i) (sym (getD-set-same l i v d h)) here))
-    (λ lt. subst (P j) (sym (getD-set-other l i j v d (λ e. omega arith))) (below j lt))
-    (eq-or-lt-of-le (omega arith))
+    ⊎-elim (λ (e : j ≡ i). rw (e, getD-set-same l i v d h) here) (λ (lt : j < i). rw (getD-set-other l i j v d (λ e. omega arith)) (below j lt)) (eq-or-lt-of-le (omega arith))

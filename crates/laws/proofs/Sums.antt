@@ -21,11 +21,8 @@ module _ (f : ℕ → ℕ) where
   -- without the first
   pub sum-leaves : (i n : ℕ) → sumFrom f i (n + 1) ≡ f i + sumFrom f (i + 1) n
   unfolding sumBelow
-  sum-leaves i n = rw add-one (go n)
-    where
-      go : (n : ℕ) → sumFrom f i (suc n) ≡ f i + sumFrom f (i + 1) n
-      go zero = rw (add-zero i) (omega arith)
-      go (suc n) = let e : i + suc n ≡ i + 1 + n = omega arith in omega (arith, go n, ap f e)
+  sum-leaves i zero = rw (add-zero i) (omega arith)
+  sum-leaves i (suc n) = let e : i + suc n ≡ i + 1 + n = omega arith in rw (add-one (suc n)) (omega (arith, rw (add-one n) at (sum-leaves i n), ap f e))
 
   pub sum-all : (s m : ℕ) → ((i : ℕ) → i < m → f i ≡ s) → sumBelow f m ≡ m * s
   unfolding sumBelow

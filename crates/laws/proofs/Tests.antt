@@ -1,5 +1,5 @@
 -- Tests that antt computes, and what a passed one says: one test over all entries of a table, and a law that carries it to each.
-use Rattle.laws.proofs.Basics.{_≡_, refl, _∙_, subst, sym, Bool, true, false, not, cond, ⊎-elim, List, [], _∷_, ℕ, zero, suc, _+_, _≤_, _<_, arith, needs, lt-ltb, le-ltb, le-leb, lt-leb, eq-eqb, ne-eqb, ltb, ltb-true, ltb-false, T, length, getD}
+use Rattle.laws.proofs.Basics.{_≡_, refl, subst, sym, Bool, true, false, not, cond, _⊎_, inl, inr, ⊎-elim, List, [], _∷_, ℕ, zero, suc, _+_, _≤_, _<_, arith, needs, lt-ltb, le-ltb, le-leb, lt-leb, eq-eqb, ne-eqb, ltb, ltb-true, ltb-false, T, length, getD}
 use native.Mathlib.Nat.{add-zero, zero-add, add-suc, suc-add, le-of-suc-le-suc, not-suc-le-zero, not-le-of-lt, eq-or-lt-of-le}
 
 -- what code that climbs a list of tests asks at each way out: `search tests`
@@ -17,6 +17,10 @@ cond-in P c p q = by-cond P c _ _ (λ t. p) (λ t. q)
 pub is-true : (x : Bool) → T x → x ≡ true
 is-true true t = refl
 is-true false t = absurd t
+
+pub either : (x : Bool) → (x ≡ true) ⊎ (x ≡ false)
+either true = inl refl
+either false = inr refl
 
 -- the value b of a test says whether P holds
 pub record Decides (P : Type 0) (b : Bool) : Type 0 where
@@ -38,8 +42,7 @@ alike true y = y
 alike false y = not y
 
 pub alike-eq : (x y : Bool) → T (alike x y) → x ≡ y
-alike-eq true true t = refl
-alike-eq true false t = absurd t
+alike-eq true y t = sym (is-true y t)
 alike-eq false true t = absurd t
 alike-eq false false t = refl
 
@@ -72,13 +75,11 @@ every f i (x ∷ xs) = both (f i x) (every f (suc i) xs)
 
 every-from : (f : ℕ → ℕ → Bool) (xs : List ℕ) (i : ℕ) → T (every f i xs) → (k : ℕ) → k < length xs → T (f (i + k) (getD xs k 0))
 every-from f [] i t k h = absurd (not-suc-le-zero h)
-every-from f (x ∷ xs) i t zero h = subst (λ (m : ℕ). T (f m x)) (sym (add-zero i)) (both-left (f i x) (every f (suc i) xs) t)
-every-from f (x ∷ xs) i t (suc k) h =
-    subst (λ (m : ℕ). T (f m (getD xs k 0))) (suc-add i k ∙ sym (add-suc i k))
-    (every-from f xs (suc i) (both-right (f i x) (every f (suc i) xs) t) k (le-of-suc-le-suc h))
+every-from f (x ∷ xs) i t zero h = rw (add-zero i) (both-left (f i x) (every f (suc i) xs) t)
+every-from f (x ∷ xs) i t (suc k) h = rw (add-suc i k, ← suc-add i k) (every-from f xs (suc i) (both-right (f i x) (every f (suc i) xs) t) k (le-of-suc-le-suc h))
 
 pub every-at : (f : ℕ → ℕ → Bool) (xs : List ℕ) → T (every f 0 xs) → (k : ℕ) → k < length xs → T (f k (getD xs k 0))
-every-at f xs t k h = subst (λ (m : ℕ). T (f m (getD xs k 0))) (zero-add k) (every-from f xs 0 t k h)
+every-at f xs t k h = rw zero-add at (every-from f xs 0 t k h)
 
 -- what holds of 0 to 4 holds of each number up to 4
 pub up-to-four : (P : ℕ → Type 0) → P 0 → P 1 → P 2 → P 3 → P 4 → (b : ℕ) → b ≤ 4 → P b

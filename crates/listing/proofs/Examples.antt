@@ -1,5 +1,5 @@
 -- A table with no bad cell or with one, and the specification's example of a listing.
-use Rattle.laws.proofs.Basics.{_≡_, refl, sym, ap, _∙_, List, [], _++_, append-nil, ⊎-elim, _⊎_, _≢_, ℕ, zero, suc, _/_, _%_, _<_, arith, pos, length, getD, set, length-set}
+use Rattle.laws.proofs.Basics.{_≡_, refl, sym, ap, _∙_, List, [], _++_, append-nil, ⊎-elim, _⊎_, _≢_, ℕ, zero, suc, _/_, _%_, _<_, arith, pos, getD, set, length-set}
 use native.Mathlib.Nat.{eq-or-lt-of-le}
 use lib.Seq.{getD-set-same, getD-set-other}
 use Rattle.selection.specs.Cell.{Allows, digit}
@@ -8,7 +8,6 @@ use Rattle.laws.proofs.Division.{same-or-other}
 use Rattle.selection.specs.Allowed.{allowsOf}
 use Rattle.selection.specs.Computed.{cellOf, madeOf, madeTable}
 use Rattle.selection.specs.Table.{Table, Passes}
-use Rattle.selection.specs.declared.Witness.{Witness}
 use Rattle.selection.proofs.MadeTables.{kept-passes}
 use Rattle.printing.specs.Text.{ascii, decimalUpto, decimalOf}
 use Rattle.listing.specs.Listing.{names, lineText, lineFrom, lineOf, linesUpto, listingOf}
@@ -37,40 +36,34 @@ one-line t m (suc n) l f =
 passed-prints : (t : List ℕ) → Passes t → listingOf t ≡ names
 passed-prints t p = table-text t (p .table) ∙ ap (λ (y : List ℕ). names ++ y) (no-lines t 2048 (λ k l. quiet (p .table) k l (p .allowed k l)))
 
-changed : List ℕ
-changed = set madeTable 215 2
-
-at-215 : getD changed 215 0 ≡ 2
-unfolding changed
-at-215 = getD-set-same madeTable 215 2 0 (omega (arith, kept-passes .table .size))
-
-elsewhere : (k : ℕ) → k ≢ 215 → getD changed k 0 ≡ getD madeTable k 0
-unfolding changed
-elsewhere k x = getD-set-other madeTable 215 k 2 0 x
-
-changed-size : length changed ≡ 2048
-unfolding changed
-changed-size = simp length-set (kept-passes .table .size)
-
-changed-table : Table changed
-changed-table = record { size = changed-size; digits = λ k. ⊎-elim (λ e. omega (arith, ap (λ (j : ℕ). getD changed j 0) e, at-215)) (λ x. omega (arith, elsewhere k x, kept-passes .table .digits k)) (same-or-other k 215) }
-
-witness : Witness
-witness = record { divisor = 1242993497154256896; remainder = pos 3314649325744685056 }
-
 abbrev exampleLine : List ℕ
 exampleLine = ascii "1 87 0 1242993497154256896 3314649325744685056\n"
 
 only-line : (t : List ℕ) → getD t 215 0 ≡ 2 → lineText (lineOf t 215) ≡ exampleLine
-unfolding witness lineOf digit decimalUpto decimalOf
-only-line t e = ap (λ (b : ℕ). lineText (lineFrom t 215 (cellOf 1 87 b))) e ∙ ap (λ (b : ℕ). lineText (Cell 1 87 (digit b) witness)) e
+unfolding lineOf digit decimalUpto decimalOf
+only-line t e =
+    ap (λ (b : ℕ). lineText (lineFrom t 215 (cellOf 1 87 b))) e
+    ∙ ap (λ (b : ℕ). lineText (Cell 1 87 (digit b) (record { divisor = 1242993497154256896; remainder = pos 3314649325744685056 }))) e
 
-quiet-elsewhere : (k : ℕ) → k < 2048 → k ≢ 215 → lineOf changed k ≡ Nothing
-quiet-elsewhere k l x = quiet changed-table k l (rw (elsewhere k x) (kept-passes .allowed k l))
+-- a table that passes, with 2 for its byte 215
+module _ (t : List ℕ) (p : Passes t) where
+  abbrev changed : List ℕ
+  changed = set t 215 2
 
-whole : listingOf changed ≡ names ++ exampleLine
-whole = table-text changed changed-table ∙ ap (λ (y : List ℕ). names ++ y) (one-line changed 215 2048 (omega arith) quiet-elsewhere ∙ only-line changed at-215)
+  at-215 : getD changed 215 0 ≡ 2
+  at-215 = getD-set-same t 215 2 0 (omega (arith, p .table .size))
+
+  elsewhere : (k : ℕ) → k ≢ 215 → getD changed k 0 ≡ getD t k 0
+  elsewhere k x = getD-set-other t 215 k 2 0 x
+
+  changed-table : Table changed
+  changed-table = record { size = simp length-set (p .table .size); digits = λ k. ⊎-elim (λ e. rw e (omega (arith, at-215))) (λ x. omega (arith, elsewhere k x, p .table .digits k)) (same-or-other k 215) }
+
+  whole : listingOf changed ≡ names ++ exampleLine
+  whole =
+      table-text changed changed-table
+      ∙ ap (λ (y : List ℕ). names ++ y) (one-line changed 215 2048 (omega arith) (λ k l x. quiet changed-table k l (rw (elsewhere k x) (p .allowed k l))) ∙ only-line changed at-215)
 
 pub example : Example
-unfolding changed allowsOf madeOf listFrom madeTable
-example = record { byte = refl; whole = whole; passed = passed-prints }
+unfolding allowsOf madeOf listFrom madeTable
+example = record { byte = refl; whole = whole madeTable kept-passes; passed = passed-prints }

@@ -1,8 +1,8 @@
 -- The computed listing is the one in the specification's words and there is no other, and the text in the buffer is it.
-use Rattle.laws.proofs.Basics.{_≡_, refl, sym, ap, _∙_, List, _++_, _≢_, ℕ, _≤_, _<_, arith, length, take, drop, length-take, ne-eqb}
-use native.Mathlib.Decide.{decLe}
-use native.Mathlib.Nat.{add-zero, lt-of-not-le}
+use Rattle.laws.proofs.Basics.{_≡_, refl, sym, ap, _∙_, List, _++_, ⊎-elim, _≢_, ℕ, _≤_, _<_, arith, length, take, drop, length-take, ne-eqb}
+use native.Mathlib.Nat.{add-zero}
 use lib.Seq.{take-all}
+use Rattle.laws.proofs.Division.{le-or-lt}
 use Rattle.selection.specs.Answer.{refusal}
 use Rattle.selection.specs.Table.{Table, ReportMeaning}
 use Rattle.selection.specs.Computed.{reportOf}
@@ -13,14 +13,15 @@ use Rattle.selection.proofs.Tables.{no-table}
 use Rattle.selection.proofs.Reports.{form-rules, report-checked}
 use Rattle.selection.proofs.Rules.{refusal-one}
 use Rattle.printing.specs.Text.{Appended, refusalText}
-use Rattle.printing.proofs.Texts.{appended-size, appended-take, appended-drop}
+use Rattle.io.specs.Counts.{Counts}
+use Rattle.printing.proofs.Texts.{appended-size, appended-take, appended-drop, counts}
 use Rattle.listing.specs.Listing.{Lists, ListsRead, names, linesUpto, tableText, textFor, listingOf}
 use Rattle.listing.proofs.Lines.{lines-right, lines-one}
 
 -- by the check's answer, the text is the listing in the specification's words
 module _ (t : List ℕ) where
   table-lists : Table t → Lists t (tableText t)
-  table-lists h = record { table = λ _. (linesUpto t 2048, lines-right h 2048 (omega arith), refl); refused = λ f g. no-table h g }
+  table-lists h = record { table = λ _. record { rest = linesUpto t 2048; lines = lines-right h 2048 (omega arith); whole = refl }; refused = λ f g. no-table h g }
 
   answer-lists : (n : ℕ) (o : Outcome) → ReportMeaning t n o → Lists t (textFor t o)
   answer-lists n O.Passed w = table-lists (w .0 .table)
@@ -32,7 +33,7 @@ module _ (t : List ℕ) where
   lists = answer-lists (reportOf t .count) (reportOf t .outcome) (report-checked t .means)
 
   table-one : {x : List ℕ} → Lists t x → Table t → x ≡ tableText t
-  table-one l h = let p = l .table h in p .2 ∙ ap (λ (y : List ℕ). names ++ y) (lines-one h (omega arith) (p .1))
+  table-one l h = let p = l .table h in p .whole ∙ ap (λ (y : List ℕ). names ++ y) (lines-one h (omega arith) (p .lines))
 
   answer-one : {x : List ℕ} → Lists t x → (n : ℕ) (o : Outcome) → ReportMeaning t n o → x ≡ textFor t o
   answer-one l n O.Passed w = table-one l (w .0 .table)
@@ -54,18 +55,17 @@ wrong-length t h = rw (ne-eqb (length t) 2048 h)
 -- more than 2,048 bytes of the input settle what is printed for all of it
 settled : (t : List ℕ) (n : ℕ) → 2048 < n → listingOf (take n t) ≡ listingOf t
 settled t n h =
-    elim (decLe (length t) n) [
-      | yes l ↦ ap listingOf (take-all n t l)
-      | no x ↦ wrong-length (take n t) (λ e. omega (arith, lt-of-not-le x, simp length-take at e)) ∙ sym (wrong-length t (λ e. omega (arith, lt-of-not-le x)))
-    ]
+    ⊎-elim (λ l. ap listingOf (take-all n t l))
+    (λ (l : n < length t). wrong-length (take n t) (λ e. omega (arith, simp length-take at e)) ∙ sym (wrong-length t (λ e. omega arith)))
+    (le-or-lt (length t) n)
 
 pub lists-read : {s x : List ℕ} {n : ℕ} → 2048 < length s → x ≡ listingOf (take n s) → ListsRead s n x
 lists-read {s} h e = record { lists = λ t g. rw (e, g, settled t (length s) h) (lists t) }
 
 -- the text for the check's answer, from the start of the buffer on: what the code of `listing` asks
-pub printed : (t : List ℕ) {s s' : List ℕ} {r : ℕ} {a : Report} {o : Outcome} → a ≡ reportOf t → a .outcome ≡ o → Appended s 0 (textFor t o) s' r → r ≤ length s → ((take r s' ≡ listingOf t) × Lists t (take r s')) × ((drop r s' ≡ drop r s) × (r ≤ length s'))
+pub printed : (t : List ℕ) {s s' : List ℕ} {r : ℕ} {a : Report} {o : Outcome} → a ≡ reportOf t → a .outcome ≡ o → Appended s 0 (textFor t o) s' r → r ≤ length s → ((take r s' ≡ listingOf t) × Lists t (take r s')) × ((drop r s' ≡ drop r s) × Counts r s')
 unfolding listingOf
 printed t e f a h =
     let size = appended-size a h in
-    let text = appended-take a h ∙ ap (textFor t) (sym f ∙ ap (λ (x : Report). x .outcome) e) in
-    ((text, rw text (lists t)), (rw add-zero at (appended-drop a h 0), omega arith))
+    let text = appended-take a ∙ ap (textFor t) (sym f ∙ ap (λ (x : Report). x .outcome) e) in
+    ((text, rw text (lists t)), (rw add-zero at (appended-drop a 0), counts _ (omega arith)))

@@ -3,6 +3,7 @@
 use mathlib.Core.Path.{_≡_}
 use mathlib.Core.List.{List, [], _++_}
 use Prim.Native.Nat.{ℕ, zero, suc, _/_, _%_}
+use lib.IntN.{ℤ}
 use lib.ListN.{length, getD, take}
 use Rattle.selection.specs.Cell.{Allows, LeastWitness, digit}
 use Rattle.selection.specs.Table.{Table, NoTable}
@@ -17,10 +18,17 @@ use Rattle.printing.specs.Text.{ascii, decimalOf, signedOf, refusalText}
 use Rattle.listing.specs.declared.Line.{Line}
 use Rattle.listing.specs.declared.Line.the-variants.{Nothing, Cell}
 
+-- the five values are those of cell k of the table t
+pub record CellValues (t : List ℕ) (k row column : ℕ) (q : ℤ) (w : Witness) : Type 0 where
+  pub row-is : row ≡ k / 128
+  pub column-is : column ≡ k % 128
+  pub digit-is : q ≡ digit (getD t k 0)
+  pub witness-is : LeastWitness row column q (w .divisor) (w .remainder)
+
 -- l is what the listing has of cell k of the table t: nothing where its digit is allowed, and otherwise the five values
 abbrev pub LineMeaning : List ℕ → ℕ → Line → Type 0
 LineMeaning t k Nothing = Allows (k / 128) (k % 128) (digit (getD t k 0))
-LineMeaning t k (Cell row column q w) = (row ≡ k / 128) × (column ≡ k % 128) × (q ≡ digit (getD t k 0)) × LeastWitness row column q (w .divisor) (w .remainder)
+LineMeaning t k (Cell row column q w) = CellValues t k row column q w
 
 pub record Listed (t : List ℕ) (k : ℕ) (l : Line) : Type 0 where
   pub means : LineMeaning t k l
@@ -42,9 +50,15 @@ pub data Lines (t : List ℕ) : ℕ → List ℕ → Type 0 where
 abbrev pub names : List ℕ
 names = ascii "row column digit divisor remainder\n"
 
+-- x is the line of names and the lines of the table t
+pub record TableLists (t x : List ℕ) : Type 0 where
+  pub rest : List ℕ
+  pub lines : Lines t 2048 rest
+  pub whole : x ≡ names ++ rest
+
 -- x is all that is printed for the bytes t of standard input: of a table the line of names and the lines of its cells, and of no table the two lines of the refusal
 pub record Lists (t x : List ℕ) : Type 0 where
-  pub table : Table t → (y : List ℕ) × Lines t 2048 y × (x ≡ names ++ y)
+  pub table : Table t → TableLists t x
   pub refused : (f : Refusal) → NoTable t (f .number) (f .place) → x ≡ refusalText f
 
 -- x is all that is printed where a read of standard input has put n bytes at the start of the buffer s: it is the listing of every input that gives these

@@ -2,6 +2,7 @@
 ghost use Prim.Native.Nat.{_+_, _*_, _≤_, _<_};
 ghost use mathlib.Core.Path.{_≡_};
 ghost use lib.ListN.{length, take, drop};
+ghost use Rattle.io.specs.Counts.{Counts};
 ghost use Rattle.selection.specs.Table.{Table};
 ghost use Rattle.printing.specs.Text.{Appended};
 ghost use Rattle.listing.specs.Listing.{Listed, Lists, ListsRead, lineOf, witnessText, lineText, linesUpto, tableText, listingOf};
@@ -101,7 +102,7 @@ fn append_table(out: &mut [u8], table: &[u8]) -> usize
 fn listing(bytes: &[u8], out: &mut [u8; ROOM]) -> usize
     ensures { λ r. ⌜ (take r (now (out .exit)) ≡ listingOf (now (bytes .entry))) × Lists (now (bytes .entry)) (take r (now (out .exit))) ⌝ }
     ensures { λ r. ⌜ drop r (now (out .exit)) ≡ drop r (now (out .entry)) ⌝ }
-    ensures { λ r. ⌜ r ≤ length (now (out .exit)) ⌝ }
+    ensures { λ r. ⌜ Counts r (now (out .exit)) ⌝ }
 {
     let report = selection::table::check_table(bytes);
     let outcome = report.outcome;
@@ -114,10 +115,10 @@ fn listing(bytes: &[u8], out: &mut [u8; ROOM]) -> usize
 
 // The same for what was read of standard input: `count` bytes, all of it or as much as there is room for.
 fn listing_of_input(bytes: &[u8; INPUT], count: usize, out: &mut [u8; ROOM]) -> usize
-    requires { ⌜ count ≤ length (now bytes) ⌝ }
+    requires { ⌜ Counts count (now bytes) ⌝ }
     ensures { λ r. ⌜ ListsRead (now (bytes .entry)) count (take r (now (out .exit))) ⌝ }
     ensures { λ r. ⌜ drop r (now (out .exit)) ≡ drop r (now (out .entry)) ⌝ }
-    ensures { λ r. ⌜ r ≤ length (now (out .exit)) ⌝ }
+    ensures { λ r. ⌜ Counts r (now (out .exit)) ⌝ }
 {
     let all: &[u8] = bytes;
     listing(&all[..count], out)

@@ -1,9 +1,8 @@
 -- The correction of the last digit: the sign of the last remainder says whether S is one too large. The code corrects by the words;
 -- S and the end remainder, corrected, are the same numbers, and they are quotient and remainder of N·4^(n−1) by D.
-use Rattle.laws.proofs.Basics.{_≡_, sym, ap, ap₂, subst, _∙_, false, cond, List, ℕ, zero, suc, _+_, _-_, _*_, _/_, _%_, _^_, _≤_, _<_, arith, ltb, ltb→lt, nltb→le, ℤ, pos, negsuc, natAbs, _+ℤ_, _-ℤ_, nonNeg}
+use Rattle.laws.proofs.Basics.{_≡_, refl, sym, ap, ap₂, subst, _∙_, false, cond, List, ℕ, zero, suc, _+_, _-_, _*_, _/_, _%_, _^_, _≤_, _<_, arith, ltb, ltb→lt, nltb→le, ℤ, pos, negsuc, natAbs, _+ℤ_, nonNeg}
 use native.Mathlib.Nat.{pow-le-pow-right}
-use Rattle.laws.proofs.Division.{quotient}
-use Rattle.laws.proofs.Diff.{diff, diffs}
+use Rattle.laws.proofs.Diff.{diff, diffs, diff-sub}
 use Rattle.laws.proofs.Tests.{by-cond}
 use Rattle.recurrence.specs.Recurrence.{State, after, digits, value, correctedQuotient, correctedRemainder, endRemainder, resultOf}
 use Rattle.recurrence.specs.Run.{longest}
@@ -26,25 +25,6 @@ pub record Corrected (S M D Q R : ℕ) : Type 0 where
   pub divides : Q * D + R ≡ M
   pub below : R < D
 
-less-one : (Q : ℕ) → diff (Q + 1) 1 ≡ pos Q
-less-one Q = simp diffs (omega arith)
-
-one-less : (Q : ℕ) → pos (Q + 1) -ℤ pos 1 ≡ pos Q
-unfolding diff
-one-less Q = less-one Q
-
--- S is Q, or one more; the remainder tells which
-correction : (s Q R M D : ℕ) → s ≤ 1 → R + (Q + s) * D ≡ M + s * D → R < D → Corrected (Q + s) M D Q R
-correction zero Q R M D l e h =
-    let d : diff M ((Q + 0) * D) ≡ pos R = simp diffs (omega arith) in
-    record { quotient = rw d (ap pos (omega arith)); remainder = rw d; divides = omega arith; below = h }
-correction (suc zero) Q R M D l e h =
-    let d : diff M ((Q + 1) * D) ≡ negsuc (D - R - 1) = simp diffs (omega arith) in
-    let f : nonNeg (diff M ((Q + 1) * D)) ≡ false = ap nonNeg d in
-    let p : diff M ((Q + 1) * D) +ℤ pos D ≡ pos R = simp diffs (omega arith) in
-    record { quotient = rw f (one-less Q); remainder = rw f p; divides = omega arith; below = h }
-correction (suc (suc s)) Q R M D l e h = absurd (omega arith)
-
 -- ---- by the sum of the last words
 
 abbrev pub wordOf : State → ℕ
@@ -54,57 +34,53 @@ wordOf p = (p .sum + p .carry) % 2 ^ 64
 abbrev pub bySign : ℕ → ℕ → ℕ → ℕ → RunResult
 bySign S D w n = record { quotient = S - w / 2 ^ 63; remainder = (w / 4 + w / 2 ^ 63 * (D + 3 * 2 ^ 62)) % 2 ^ 64; count = n }
 
--- it is the remainder, and 2^64 more where the sign is set
-signs : (p : State) → wordOf p + 2 ^ 63 ≡ biased p + wordOf p / 2 ^ 63 * 2 ^ 64
-signs p = omega arith
-
+-- S is Q, or one more; the remainder tells which
 by-word : (S D w M : ℕ) → 0 < D → D < 2 ^ 61 → w < 2 ^ 64 → w / 2 ^ 63 ≤ S → w + 4 * (S * D) ≡ M * 4 + w / 2 ^ 63 * 2 ^ 64
     → 3 * w ≤ w / 2 ^ 63 * 3 * 2 ^ 64 + 8 * D → w / 2 ^ 63 * 3 * 2 ^ 64 ≤ 3 * w + 8 * D
     → Corrected S M D (S - w / 2 ^ 63) ((w / 4 + w / 2 ^ 63 * (D + 3 * 2 ^ 62)) % 2 ^ 64)
 by-word S D w M z m l h e lo hi =
     let q : S - w / 2 ^ 63 + w / 2 ^ 63 ≡ S = omega arith in
     subst (λ (T : ℕ). Corrected T M D (S - w / 2 ^ 63) ((w / 4 + w / 2 ^ 63 * (D + 3 * 2 ^ 62)) % 2 ^ 64)) q
-    (go (w / 2 ^ 63) (S - w / 2 ^ 63) (omega arith) (omega (arith, ap (λ (k : ℕ). k * D) q)) lo hi)
+    (go (w / 2 ^ 63) (S - w / 2 ^ 63) _ refl refl (omega (arith, ap (λ (k : ℕ). k * D) q)) lo hi)
   where
-    go : (s Q : ℕ) → w / 2 ^ 63 ≡ s → w + 4 * ((Q + s) * D) ≡ M * 4 + s * 2 ^ 64 → 3 * w ≤ s * 3 * 2 ^ 64 + 8 * D → s * 3 * 2 ^ 64 ≤ 3 * w + 8 * D
-        → Corrected (Q + s) M D Q ((w / 4 + s * (D + 3 * 2 ^ 62)) % 2 ^ 64)
-    go zero Q q e lo hi = correction 0 Q _ M D (omega arith) (omega arith) (omega arith)
-    go (suc zero) Q q e lo hi =
-        let u : (w / 4 + 1 * (D + 3 * 2 ^ 62)) % 2 ^ 64 + 2 ^ 62 ≡ w / 4 + D = omega arith in
+    go : (s Q R : ℕ) → w / 2 ^ 63 ≡ s → R ≡ (w / 4 + s * (D + 3 * 2 ^ 62)) % 2 ^ 64 → w + 4 * ((Q + s) * D) ≡ M * 4 + s * 2 ^ 64
+        → 3 * w ≤ s * 3 * 2 ^ 64 + 8 * D → s * 3 * 2 ^ 64 ≤ 3 * w + 8 * D → Corrected (Q + s) M D Q R
+    go zero Q R q r e lo hi =
+        let d : diff M ((Q + 0) * D) ≡ pos R = simp diffs (omega arith) in
+        record { quotient = rw d (ap pos (omega arith)); remainder = rw d; divides = omega arith; below = omega arith }
+    go (suc zero) Q R q r e lo hi =
+        let u : R + 2 ^ 62 ≡ w / 4 + D = omega arith in
         let v : w / 4 + (Q * D + D) ≡ M + 2 ^ 62 = omega arith in
-        correction 1 Q _ M D (omega arith) (omega arith) (omega arith)
-    go (suc (suc s)) Q q e lo hi = absurd (omega arith)
+        let d : diff M ((Q + 1) * D) ≡ negsuc (D - R - 1) = simp diffs (omega arith) in
+        let f : nonNeg (diff M ((Q + 1) * D)) ≡ false = ap nonNeg d in
+        let p : diff M ((Q + 1) * D) +ℤ pos D ≡ pos R = simp diffs (omega arith) in
+        record { quotient = rw f (diff-sub (Q + 1) 1 ∙ simp diffs (omega arith)); remainder = rw f p; divides = omega arith; below = omega arith }
+    go (suc (suc s)) Q R q r e lo hi = absurd (omega arith)
 
 -- ---- the answer of a run
-
-unique : (q r M D n : ℕ) → q * D + r ≡ M → r < D → _≡_ {A = RunResult} (record { quotient = q; remainder = r; count = n }) (divided M D n)
-unique q r M D n e h = let k = quotient e h in rw (k .0, k .1)
 
 -- the sign takes one from S, or chooses: v is S, u one less
 by-choice : (S v u w : ℕ) → w < 2 ^ 64 → w / 2 ^ 63 ≤ S → S ≡ v → v ≡ (u + 1) % 2 ^ 64 → u < 2 ^ 64 → cond (ltb w (2 ^ 63)) v u ≡ S - w / 2 ^ 63
 by-choice S v u w b h e o m =
     by-cond (λ (q : ℕ). q ≡ S - w / 2 ^ 63) (ltb w (2 ^ 63)) v u (λ c. omega (arith, ltb→lt)) (λ c. omega (arith, nltb→le))
 
-module _ (t : List ℕ) (N D n S : ℕ) (k : Invariant t N D n S) where
-  -- where the last remainder is negative, S is not 0
-  sign-at-most : wordOf (after t N D n) / 2 ^ 63 ≤ S
-  sign-at-most = go S (k .meets)
-    where
-      go : (S : ℕ) → biased (after t N D n) + 4 * (S * D) ≡ N * 4 ^ n + 2 ^ 63 → wordOf (after t N D n) / 2 ^ 63 ≤ S
-      go zero e = omega arith
-      go (suc S) e = omega arith
+-- where the last remainder is negative, S is not 0
+sign-at-most : (S D M : ℕ) (p : State) → biased p + 4 * (S * D) ≡ M + 2 ^ 63 → wordOf p / 2 ^ 63 ≤ S
+sign-at-most zero D M p e = omega arith
+sign-at-most (suc S) D M p e = omega arith
 
+module _ (t : List ℕ) (N D n S : ℕ) (k : Invariant t N D n S) where
   pub end-remainder : 1 ≤ n → endRemainder t N D n ≡ diff (N * 4 ^ (n - 1)) (S * D)
   unfolding endRemainder
   end-remainder h = rw (k .makes) (simp diffs (omega arith))
 
-  pub corrected-run : 1 ≤ n
-      → Corrected S (N * 4 ^ (n - 1)) D (bySign S D (wordOf (after t N D n)) n .quotient) (bySign S D (wordOf (after t N D n)) n .remainder)
+  corrected-run : 1 ≤ n → let r = bySign S D (wordOf (after t N D n)) n in Corrected S (N * 4 ^ (n - 1)) D (r .quotient) (r .remainder)
   corrected-run h =
       let p = after t N D n in
-      let b = signs p in
+      -- the word is the remainder, and 2^64 more where the sign is set
+      let b : wordOf p + 2 ^ 63 ≡ biased p + wordOf p / 2 ^ 63 * 2 ^ 64 = omega arith in
       let v = divisor-after t N D n in
-      by-word S D (wordOf p) (N * 4 ^ (n - 1)) (omega (arith, k .in-range .least)) (omega (arith, k .in-range .most)) (omega arith) sign-at-most
+      by-word S D (wordOf p) (N * 4 ^ (n - 1)) (omega (arith, k .in-range .least)) (omega (arith, k .in-range .most)) (omega arith) (sign-at-most S D _ p (k .meets))
       (omega (arith, k .meets, quarter N n h)) (omega (arith, k .in-range .below)) (omega (arith, k .in-range .above))
 
   -- it is the answer that S and the end remainder form
@@ -122,9 +98,7 @@ module _ (t : List ℕ) (N D n S : ℕ) (k : Invariant t N D n S) where
       let p = after t N D n in
       let f : S < 2 ^ 64 = omega (arith, k .size, pow-le-pow-right {n = 4} (omega arith) {i = n} {j = 31} m) in
       let e : S ≡ p .value = word-one S (p .value) f (rw (k .makes) at (c .value)) in
-      rw (divisor-after, by-choice S (p .value) (p .decremented) (wordOf p) (omega arith) sign-at-most e (c .one-apart) (c .decremented .word)) (result-by-sign h)
+      rw (divisor-after, by-choice S (p .value) (p .decremented) (wordOf p) (omega arith) (sign-at-most S D _ p (k .meets)) e (c .one-apart) (c .decremented .word)) (result-by-sign h)
 
-  pub result-divided : 1 ≤ n → resultOf t N D n ≡ divided (N * 4 ^ (n - 1)) D n
-  result-divided h =
-      let c = corrected-run h in
-      sym (result-by-sign h) ∙ unique _ _ (N * 4 ^ (n - 1)) D n (c .divides) (c .below)
+  pub corrected-result : 1 ≤ n → Corrected S (N * 4 ^ (n - 1)) D (resultOf t N D n .quotient) (resultOf t N D n .remainder)
+  corrected-result h = rw (← result-by-sign h) (corrected-run h)

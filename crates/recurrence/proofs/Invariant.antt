@@ -17,18 +17,14 @@ enough zero (suc (suc d)) D u M h e f = omega arith
 enough zero (suc zero) D u M h e f = absurd (omega arith)
 enough zero zero D u M h e f = absurd (omega arith)
 
--- P′ = 4 (P − qD) and P = M − 4SD give P′ = 4M − 4(4S + q)D
-grow : (u u′ S S′ d D M : ℕ) → u′ + 4 * (d * D) + 3 * 2 ^ 63 ≡ 4 * u + 8 * D → u + 4 * (S * D) ≡ M + 2 ^ 63
-    → S′ + 2 ≡ 4 * S + d → u′ + 4 * (S′ * D) ≡ M * 4 + 2 ^ 63
-grow u u′ S S′ d D M e h k = omega (arith, ap (λ (n : ℕ). n * D) k)
-
--- both, of a step with an allowed digit
+-- so, and P′ = 4 (P − qD) and P = M − 4SD give P′ = 4M − 4(4S + q)D, of a step with an allowed digit
 step-meets : (d : ℕ) (p : State) {D : ℕ} (S M : ℕ) → p .divisor ≡ D → InRange p → AllowedAt d p → biased p + 4 * (S * D) ≡ M + 2 ^ 63
     → (2 ≤ 4 * S + d) × (biased (stepBy d p) + 4 * ((4 * S + d - 2) * D) ≡ M * 4 + 2 ^ 63)
 step-meets d p S M v g f e =
     let m : biased p + 4 * (S * p .divisor) ≡ M + 2 ^ 63 = rw v e in
     let k : 2 ≤ 4 * S + d = enough S d (p .divisor) (biased p) M (omega (arith, g .least)) m (f .high) in
-    (k, rw (← v) (grow _ _ S (4 * S + d - 2) d (p .divisor) M (step-law d p g f) m (omega arith)))
+    let s : 4 * S + d - 2 + 2 ≡ 4 * S + d = omega arith in
+    (k, rw (← v) (omega (arith, step-law d p g f, ap (λ (n : ℕ). n * p .divisor) s)))
 
 quad : (N i : ℕ) → N * 4 ^ suc i ≡ N * 4 ^ i * 4
 quad N i = rw (pow-suc, mul-assoc)
@@ -43,41 +39,23 @@ pub record Invariant (t : List ℕ) (N D i S : ℕ) : Type 0 where
   pub meets : biased (after t N D i) + 4 * (S * D) ≡ N * 4 ^ i + 2 ^ 63
   pub size : S < 4 ^ i
 
--- what the next step then does
-pub record NextStep (t : List ℕ) (N D i S : ℕ) : Type 0 where
-  pub enough : 2 ≤ 4 * S + after t N D (suc i) .digit
-  pub byte : after t N D (suc i) .digit ≤ 4
-  pub next : Invariant t N D (suc i) (4 * S + after t N D (suc i) .digit - 2)
-
 module _ (t : List ℕ) (N D : ℕ) (ok : Passes t) where
-  pub invariant-next : (i S : ℕ) → Invariant t N D i S → NextStep t N D i S
+  invariant-next : (i S : ℕ) → Invariant t N D i S → Invariant t N D (suc i) (4 * S + getD t (cellAt (after t N D i)) 0 - 2)
   unfolding after nextOf
   invariant-next i S h =
       let p = after t N D i in
       let d = getD t (cellAt p) 0 in
       let f = table-digit-allowed t p ok (h .in-range) in
       let m = step-meets d p S (N * 4 ^ i) (divisor-after t N D i) (h .in-range) f (h .meets) in
-      let k = m .0 in
       record {
-        enough = k;
-        byte = f .byte;
-        next = record {
-          in-range = step-in-range d p (h .in-range) f;
-          makes = ap value (list-snoc (digitOf t N D) i) ∙ value-append (digits t N D i) d ∙ rw (h .makes, digit-diff d) (simp diffs (omega arith));
-          meets = m .1 ∙ ap (λ (x : ℕ). x + 2 ^ 63) (sym (quad N i));
-          size = omega (arith, f .byte, h .size);
-        };
+        in-range = step-in-range d p (h .in-range) f;
+        makes = ap value (list-snoc (digitOf t N D) i) ∙ value-append (digits t N D i) d ∙ rw (h .makes, digit-diff d) (simp diffs (omega (arith, m .0)));
+        meets = m .1 ∙ ap (λ (x : ℕ). x + 2 ^ 63) (sym (quad N i));
+        size = omega (arith, f .byte, h .size);
       }
 
-  pub invariant-start : Operands N D → Invariant t N D 0 0
-  unfolding after value listFrom
-  invariant-start o = record {
-    in-range = record { least = o .least; most = o .most; above = omega arith; below = omega arith };
-    makes = refl;
-    meets = omega arith;
-    size = omega arith;
-  }
-
   pub invariant-after : Operands N D → (i : ℕ) → (S : ℕ) × Invariant t N D i S
-  invariant-after o zero = (0, invariant-start o)
-  invariant-after o (suc i) = (_, invariant-next i (invariant-after o i .0) (invariant-after o i .1) .next)
+  unfolding after value listFrom
+  invariant-after o zero =
+      (0, record { in-range = record { least = o .least; most = o .most; above = omega arith; below = omega arith }; makes = refl; meets = omega arith; size = omega arith })
+  invariant-after o (suc i) = (_, invariant-next i (invariant-after o i .0) (invariant-after o i .1))

@@ -1,8 +1,9 @@
 -- The estimate ahead: the column of the next words, from the top bits of these words and of the multiple.
-use Rattle.laws.proofs.Basics.{_≡_, refl, _∙_, List, ℕ, zero, suc, _+_, _-_, _*_, _/_, _%_, _^_, _≤_, _<_, arith, ltb, getD}
+use Rattle.laws.proofs.Basics.{_≡_, refl, _∙_, List, ℕ, _+_, _-_, _*_, _/_, _%_, _^_, _≤_, _<_, arith, ltb, getD}
 use native.Mathlib.Nat.{mod-add-mod, add-mod-mod}
 use lib.Bits.{bitAnd, bitXor, and-high}
-use Rattle.laws.proofs.Tests.{by-cond, up-to-four}
+use Rattle.laws.proofs.Counting.{bit-most}
+use Rattle.laws.proofs.Tests.{up-to-four}
 use Rattle.laws.proofs.Words.{same-mod, mod-sum}
 use Rattle.selection.specs.Cell.{column}
 use Rattle.recurrence.specs.CarrySave.{sum3, maj3, multiple, lowestCarry}
@@ -17,17 +18,6 @@ shifted n = omega arith
 
 halves : (σ μ k t : ℕ) → k ≤ 1 → σ / 2 ^ 53 + μ / 2 ^ 53 * 2 ≡ t → σ / 2 ^ 54 + (μ * 2 + k) / 2 ^ 54 ≡ t / 2
 halves σ μ k t h e = omega arith
-
--- the next column needs the tops of the words and of the multiple, and neither of the next words
-pub ahead : (a b x k : ℕ) → k ≤ 1
-    → column (sum3 a b x * 4 % 2 ^ 64) ((maj3 a b x * 2 + k) * 4 % 2 ^ 64) ≡ ((a / 2 ^ 53 + b / 2 ^ 53 + x / 2 ^ 53) / 2 + 128) % 256 / 2
-ahead a b x k h =
-    rw (
-      shifted (sum3 a b x),
-      shifted (maj3 a b x * 2 + k),
-      mod-sum (sum3 a b x / 2 ^ 54) ((maj3 a b x * 2 + k) / 2 ^ 54) 128 256,
-      halves (sum3 a b x) (maj3 a b x) k _ h (tops a b x 53),
-    )
 
 -- the nine bits of a word that count
 top : (n : ℕ) → bitAnd (n % 2 ^ 62) (2 ^ 64 - 2 ^ 53) ≡ n / 2 ^ 53 % 512 * 2 ^ 53
@@ -49,12 +39,15 @@ quarter-mod a b x = rw (add-mod-mod, mod-sum a b (x + 256) 512) (half (a + b + x
     half : (t : ℕ) {u : ℕ} → u ≡ t + 256 → u % 512 / 4 ≡ (t / 2 + 128) % 256 / 2
     half t e = omega arith
 
--- the code's column
-pub ahead-code : (a b x k l : ℕ) → k ≤ 1 → l / 2 ^ 55 ≡ topBitsOf x
+-- the code's column: it needs the tops of the words and of the multiple, and neither of the next words
+ahead : (a b x k l : ℕ) → k ≤ 1 → l / 2 ^ 55 ≡ topBitsOf x
     → ((bitAnd (a % 2 ^ 62) (2 ^ 64 - 2 ^ 53) + bitAnd (b % 2 ^ 62) (2 ^ 64 - 2 ^ 53)) % 2 ^ 64 * 4 % 2 ^ 64 + l) % 2 ^ 64 / 2 ^ 57
     ≡ column (sum3 a b x * 4 % 2 ^ 64) ((maj3 a b x * 2 + k) * 4 % 2 ^ 64)
-ahead-code a b x k l h e =
-    rw (top a, top b, moved-up (a / 2 ^ 53) (b / 2 ^ 53), added, e, ahead a b x k h) (quarter-mod (a / 2 ^ 53) (b / 2 ^ 53) (x / 2 ^ 53))
+ahead a b x k l h e =
+    let s = sum3 a b x in
+    let c = maj3 a b x * 2 + k in
+    rw (top a, top b, moved-up (a / 2 ^ 53) (b / 2 ^ 53), added, e, shifted s, shifted c, mod-sum (s / 2 ^ 54) (c / 2 ^ 54) 128 256, halves s (maj3 a b x) k _ h (tops a b x 53))
+    (quarter-mod (a / 2 ^ 53) (b / 2 ^ 53) (x / 2 ^ 53))
 
 -- the top bits of each come to the top by its shift
 pub top-bits-at : (ms : List ℕ) (d : ℕ) → d ≤ 4 → allTopBits ms * 2 ^ (9 * d) % 2 ^ 64 / 2 ^ 55 ≡ topBitsOf (getD ms d 0)
@@ -62,20 +55,12 @@ top-bits-at ms = joined (λ d. topBitsOf (getD ms d 0)) (λ d. omega arith)
   where
     joined : (f : ℕ → ℕ) → ((d : ℕ) → f d < 512) → (d : ℕ) → d ≤ 4
         → ((((f 0 * 512 + f 1) * 512 + f 2) * 512 + f 3) * 512 + f 4) * 2 ^ 19 * 2 ^ (9 * d) % 2 ^ 64 / 2 ^ 55 ≡ f d
-    joined f s zero h = omega (arith, s 0, s 1, s 2, s 3, s 4)
-    joined f s (suc zero) h = omega (arith, s 0, s 1, s 2, s 3, s 4)
-    joined f s (suc (suc zero)) h = omega (arith, s 0, s 1, s 2, s 3, s 4)
-    joined f s (suc (suc (suc zero))) h = omega (arith, s 0, s 1, s 2, s 3, s 4)
-    joined f s (suc (suc (suc (suc zero)))) h = omega (arith, s 0, s 1, s 2, s 3, s 4)
-    joined f s (suc (suc (suc (suc (suc d))))) h = absurd (omega arith)
+    joined f s =
+        let b : (f 0 < 512) × (f 1 < 512) × (f 2 < 512) × (f 3 < 512) × (f 4 < 512) = (s 0, s 1, s 2, s 3, s 4) in
+        up-to-four (λ d. ((((f 0 * 512 + f 1) * 512 + f 2) * 512 + f 3) * 512 + f 4) * 2 ^ 19 * 2 ^ (9 * d) % 2 ^ 64 / 2 ^ 55 ≡ f d) (omega arith) (omega arith) (omega arith) (omega arith) (omega arith)
 
 pub multiple-at : (D d : ℕ) → d ≤ 4 → getD (divisorMultiples D) d 0 ≡ multiple d D
-multiple-at D zero h = refl
-multiple-at D (suc zero) h = omega arith
-multiple-at D (suc (suc zero)) h = omega arith
-multiple-at D (suc (suc (suc zero))) h = omega arith
-multiple-at D (suc (suc (suc (suc zero)))) h = refl
-multiple-at D (suc (suc (suc (suc (suc d))))) h = absurd (omega arith)
+multiple-at D = up-to-four (λ d. getD (divisorMultiples D) d 0 ≡ multiple d D) refl (omega arith) (omega arith) (omega arith) refl
 
 -- bits that the additions and shifts drop on the way, the last shift would have dropped
 carry-word : (m k : ℕ) → (m % 2 ^ 64 * 2 % 2 ^ 64 + k) * 4 % 2 ^ 64 ≡ (m * 2 + k) * 4 % 2 ^ 64
@@ -84,9 +69,6 @@ carry-word m k = same-mod _ _ (2 ^ 64) (8 * (m / 2 ^ 64) + 4 * (m % 2 ^ 64 * 2 /
 -- one for the bytes 3 and 4
 pub lowest-at : (d : ℕ) → d ≤ 4 → (d + 5) / 8 ≡ lowestCarry d
 lowest-at = up-to-four (λ d. (d + 5) / 8 ≡ lowestCarry d) refl refl refl refl refl
-
-one-bit : (d : ℕ) → lowestCarry d ≤ 1
-one-bit d = by-cond (λ n. n ≤ 1) (ltb 2 d) 1 0 (λ t. omega arith) (λ t. omega arith)
 
 -- the words, the column and the pair that the code forms are those of the step
 pub step-code : (p : State) (d x l : ℕ) → d ≤ 4 → x ≡ multiple d (p .divisor) → l / 2 ^ 55 ≡ topBitsOf x
@@ -101,4 +83,4 @@ pub step-code : (p : State) (d x l : ℕ) → d ≤ 4 → x ≡ multiple d (p .d
     }) (withColumn (stepBy d p))
 step-code p d x l b e h =
     let c = by-digit (p .value) (p .decremented) d b in
-    rw (majority, carry-word, ahead-code (p .sum) (p .carry) x (lowestCarry d) l (one-bit d) h, e, c .value, c .decremented)
+    rw (majority, carry-word, ahead (p .sum) (p .carry) x (lowestCarry d) l (bit-most (ltb 2 d)) h, e, c .value, c .decremented)

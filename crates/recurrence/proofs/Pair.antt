@@ -16,10 +16,9 @@ use Rattle.recurrence.proofs.Digits.{value-append}
 
 -- a number up to 2^64 times something is its remainder
 word-of : (z T : ℤ) (x : ℕ) → z ≡ pos x +ℤ T *ℤ pos (2 ^ 64) → WordOf z (x % 2 ^ 64)
-word-of z T x e = record { word = omega arith; times = T +ℤ pos (x / 2 ^ 64); is = e ∙ rest T x }
-  where
-    rest : (T : ℤ) (x : ℕ) → pos x +ℤ T *ℤ pos (2 ^ 64) ≡ pos (x % 2 ^ 64) +ℤ (T +ℤ pos (x / 2 ^ 64)) *ℤ pos (2 ^ 64)
-    rest T x = by-diff (λ T. pos x +ℤ T *ℤ pos (2 ^ 64) ≡ pos (x % 2 ^ 64) +ℤ (T +ℤ pos (x / 2 ^ 64)) *ℤ pos (2 ^ 64)) (λ a b. simp diffs (omega arith)) T
+word-of z T x e =
+    let rest = by-diff (λ T. pos x +ℤ T *ℤ pos (2 ^ 64) ≡ pos (x % 2 ^ 64) +ℤ (T +ℤ pos (x / 2 ^ 64)) *ℤ pos (2 ^ 64)) (λ a b. simp diffs (omega arith)) T in
+    record { word = omega arith; times = T +ℤ pos (x / 2 ^ 64); is = e ∙ rest }
 
 -- a number below 2^64 is its word
 pub word-one : (n w : ℕ) → n < 2 ^ 64 → WordOf (pos n) w → n ≡ w
@@ -43,10 +42,6 @@ appends p k =
     by-cond (λ (x : ℕ). Appends p ((x * 4 + k % 4) % 2 ^ 64)) (ltb k 4) (p .decremented) (p .value)
     (λ t. record { old = p .decremented; bits = k % 4; chosen = inr refl; two-bits = omega arith; is = refl })
     (λ t. record { old = p .value; bits = k % 4; chosen = inl refl; two-bits = omega arith; is = refl })
-
--- so of every state, whatever its two numbers are
-step-renews : (d : ℕ) (p : State) → d ≤ 4 → Renews p (stepBy d p)
-step-renews d p h = let c = by-digit (p .value) (p .decremented) d h in record { value = rw (c .value) (appends p (d + 2)); decremented = rw (c .decremented) (appends p (d + 1)) }
 
 -- and it is four times the decremented number and k more
 renewed-is : (k v w : ℕ) → k < 8 → v ≡ (w + 1) % 2 ^ 64 → renewed k v w ≡ (w * 4 + k) % 2 ^ 64
@@ -78,24 +73,27 @@ pair-next d p S h c =
       one-apart = same-mod _ _ (2 ^ 64) 0 ((w * 4 + (d + 1)) / 2 ^ 64) (omega arith);
     })
 
--- ---- every state reached, through every table of digit bytes
+-- ---- through every table of digit bytes
 
+-- of every state, whatever its two numbers are
 pub renews-next : (t : List ℕ) → ((k : ℕ) → getD t k 0 ≤ 4) → (p : State) → Renews p (nextOf t p)
 unfolding nextOf
-renews-next t small p = step-renews (getD t (cellAt p) 0) p (small (cellAt p))
+renews-next t small p =
+    let d = getD t (cellAt p) 0 in
+    let c = by-digit (p .value) (p .decremented) d (small (cellAt p)) in
+    record { value = rw (c .value) (appends p (d + 2)); decremented = rw (c .decremented) (appends p (d + 1)) }
 
-module _ (t : List ℕ) (N D : ℕ) (small : (k : ℕ) → getD t k 0 ≤ 4) where
-  pub pair-after : (i : ℕ) → PairOf (value (digits t N D i)) (after t N D i)
-  unfolding after nextOf value listFrom
-  pair-after zero = record {
-    value = record { word = omega arith; times = pos 0; is = refl };
-    decremented = record { word = omega arith; times = pos 0 -ℤ pos 1; is = refl };
-    one-apart = refl;
-  }
-  pair-after (suc i) =
-      let p = after t N D i in
-      let d = getD t (cellAt p) 0 in
-      rw (ap value (list-snoc (digitOf t N D) i) ∙ value-append (digits t N D i) d) (pair-next d p (value (digits t N D i)) (small (cellAt p)) (pair-after i))
+pub pair-after : (t : List ℕ) (N D : ℕ) → ((k : ℕ) → getD t k 0 ≤ 4) → (i : ℕ) → PairOf (value (digits t N D i)) (after t N D i)
+unfolding after nextOf value listFrom
+pair-after t N D small zero = record {
+  value = record { word = omega arith; times = pos 0; is = refl };
+  decremented = record { word = omega arith; times = pos 0 -ℤ pos 1; is = refl };
+  one-apart = refl;
+}
+pair-after t N D small (suc i) =
+    let p = after t N D i in
+    let d = getD t (cellAt p) 0 in
+    rw (ap value (list-snoc (digitOf t N D) i) ∙ value-append (digits t N D i) d) (pair-next d p (value (digits t N D i)) (small (cellAt p)) (pair-after t N D small i))
 
 -- the corrected quotient is one of the two numbers, chosen by the sign
 pub chosen : (Q : ℕ) (S R : ℤ) (p : State) → Q < 2 ^ 64 → pos Q ≡ correctedQuotient S R → PairOf S p → Q ≡ cond (nonNeg R) (p .value) (p .decremented)

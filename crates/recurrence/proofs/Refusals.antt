@@ -1,11 +1,15 @@
 -- The refusals of the arguments, and what the two calls make of them.
-use Rattle.laws.proofs.Basics.{_≡_, List, _++_, ℕ, _+_, _-_, _≤_, arith, length}
-use Rattle.selection.proofs.Refusing.{answerBy, firstRefusal, rank, tableRules, WellFormed, cleared, clear-admits, lent, answered}
+use Rattle.laws.proofs.Basics.{_≡_, refl, sym, List, [], _++_, ℕ, _+_, _≤_, arith, length}
+use Rattle.selection.proofs.Refusing.{firstOf, answerBy, Rule, firstRefusal, rank, tableRules, WellFormed, cleared, clear-admits, lent, passed-last}
+use Rattle.selection.proofs.Orders.{first-lent}
+use Rattle.selection.proofs.MadeTables.{kept-passes}
+use Rattle.selection.specs.Computed.{madeTable}
+use Rattle.selection.specs.Table.{Passes}
+use Rattle.selection.specs.declared.Refusal.{Refusal}
 use Rattle.selection.specs.declared.Admission.{Admission}
 use Rattle.selection.specs.declared.Admission.the-variants as A
-use native.Mathlib.Nat.{pos-of-ne-zero}
 use Rattle.recurrence.specs.Recurrence.{Operands, digits, resultOf}
-use Rattle.recurrence.specs.Run.{longest, mostDigits, runRules, written, runZeros, runValues, runOf, bufferOf}
+use Rattle.recurrence.specs.Run.{mostDigits, runRules, RunSpans, written, runZeros, runValues, runOf, bufferOf}
 use Rattle.recurrence.specs.declared.RunAnswer.{RunAnswer}
 
 module _ (N D n len place : ℕ) where
@@ -18,19 +22,31 @@ module _ (N D n len place : ℕ) where
   run-lent t = lent (runRules N D n len place) t run-rules tt
 
   -- arguments without a refusal of their own are in their spans
-  pub spans : firstRefusal (runRules N D n len place) ≡ A.Admitted → (Operands N D) × (1 ≤ n) × (n ≤ longest) × (place + n ≤ len)
+  pub spans : firstRefusal (runRules N D n len place) ≡ A.Admitted → RunSpans N D n len place
   unfolding runRules
-  spans e =
-      let c = cleared run-rules e in
-      let some : 1 ≤ n = pos-of-ne-zero (c .0 .0) in
-      (record { dividend = omega (arith, c .1 .0 .1); least = c .1 .0 .0 .0; most = omega (arith, c .1 .0 .0 .1) }, some, omega (arith, c .0 .1), c .1 .1 .0)
+  spans e = let c = cleared run-rules e in omega arith
 
   -- and the other way round
   pub no-refusal : Operands N D → 1 ≤ n → n ≤ mostDigits → place + n ≤ len → firstRefusal (runRules N D n len place) ≡ A.Admitted
   unfolding runRules
-  no-refusal o h l r = clear-admits run-rules (((λ e. omega arith), l), (((o .least, omega (arith, o .most)), omega (arith, o .dividend)), (r, tt)))
+  no-refusal o h l r = clear-admits run-rules (omega arith)
 
--- the answer and the buffer, by the first refusal
-pub run-answered : (t : List ℕ) (N D n : ℕ) (b : List ℕ) (place : ℕ) {v : Admission} {x : RunAnswer} {c : List ℕ} → firstRefusal (runRules N D n (length b) place ++ tableRules t) ≡ v
-    → (x ≡ answerBy runZeros (runValues (resultOf t N D n)) v) × (c ≡ answerBy (λ f. b) (written b place (digits t N D n) n) v) → (x ≡ runOf t N D n b place) × (c ≡ bufferOf t N D n b place)
-run-answered t N D n b place g e = (answered runZeros (runValues (resultOf t N D n)) g (e .0), answered (λ f. b) (written b place (digits t N D n) n) g (e .1))
+-- what is refused is the same through every table that passes, and so is what is read off the answer by h if it is so where nothing is refused
+pub same-through : {X Y : Type 0} (h : X → Y) (zeros : Refusal → X) {x y : X} {t u : List ℕ} → Passes t → Passes u → (rs : List Rule) → (firstRefusal rs ≡ A.Admitted → h x ≡ h y)
+    → h (answerBy zeros x (firstRefusal (rs ++ tableRules t))) ≡ h (answerBy zeros y (firstRefusal (rs ++ tableRules u)))
+same-through h zeros {x} {y} p q rs e = rw (passed-last p rs, passed-last q rs) (go (firstRefusal rs) e)
+  where
+    go : (v : Admission) → (v ≡ A.Admitted → h x ≡ h y) → h (answerBy zeros x v) ≡ h (answerBy zeros y v)
+    go A.Admitted e = e refl
+    go (A.Refused f) e = refl
+
+-- the kept table is not refused
+pub kept-last : (v : Admission) → v ≡ firstOf v (firstRefusal (tableRules madeTable))
+kept-last A.Admitted = sym (passed-last kept-passes [])
+kept-last (A.Refused f) = refl
+
+-- the answer and the buffer, by the first refusal v, where a is that of the arguments
+pub run-answered : (t : List ℕ) (N D n : ℕ) (b : List ℕ) (place : ℕ) {a w v : Admission} {x : RunAnswer} {c : List ℕ} → a ≡ firstRefusal (runRules N D n (length b) place)
+    → w ≡ firstOf a (firstRefusal (tableRules t)) → w ≡ v → (x ≡ answerBy runZeros (runValues (resultOf t N D n)) v) × (c ≡ answerBy (λ f. b) (written b place (digits t N D n) n) v)
+    → (x ≡ runOf t N D n b place) × (c ≡ bufferOf t N D n b place)
+run-answered t N D n b place e f g h = rw (h .0, h .1, ← first-lent (runRules N D n (length b) place) t f e g) (refl, refl)

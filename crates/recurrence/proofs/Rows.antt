@@ -1,5 +1,5 @@
 -- The row of a divisor in a table that passes: what `run_row` asks of the bytes that it is lent, and how its callers have it.
-use Rattle.laws.proofs.Basics.{_≡_, refl, List, ℕ, _+_, _-_, _*_, _^_, _<_, arith, getD, length-take, length-drop}
+use Rattle.laws.proofs.Basics.{_≡_, refl, List, ℕ, _+_, _*_, _^_, _<_, arith, getD, length-take, length-drop}
 use lib.Seq.{getD-take, getD-drop}
 use Rattle.selection.specs.Cell.{row}
 use Rattle.selection.specs.Table.{Passes, rowBytes}
@@ -31,4 +31,4 @@ row-digits {D} h g =
 -- what a step asks, through the row, of a state q with its column
 pub step-ready : {D tops : ℕ} {bytes ms : List ℕ} {p : RunState} (q : State) → D < 2 ^ 61 → Row D bytes → p ≡ withColumn q → q .divisor ≡ D → ms ≡ divisorMultiples D → tops ≡ allTopBits ms
     → StepReady bytes ms tops p
-step-ready q h g s d m b = rw s (record { digits = row-digits h g; multiples = rw d m; top-bits = b; current = refl })
+step-ready q h g s d m b = rw s (record { digits = row-digits h g; multiples = record { each = rw d m; top-bits = b }; current = refl })

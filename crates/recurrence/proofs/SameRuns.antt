@@ -1,10 +1,10 @@
 -- A run through a table as it was burned and one through its repair are the same until a bad cell is read.
-use Rattle.laws.proofs.Basics.{_≡_, refl, sym, ap, _∙_, subst, Bool, true, false, cond, _||_, _⊎_, ⊎-elim, List, ℕ, zero, suc, _≤_, _<_, arith, getD}
-use native.Mathlib.Nat.{zero-add, eq-or-lt-of-le}
-use lib.Seq.{ext-getD}
-use Rattle.laws.proofs.Lists.{list-length, list-at}
+use Rattle.laws.proofs.Basics.{_≡_, refl, sym, ap, ap₂, _∙_, subst, Bool, true, false, cond, _||_, ⊎-elim, List, [], _∷_, _++_, ℕ, zero, suc, _≤_, _<_, arith, getD}
+use native.Mathlib.Nat.{eq-or-lt-of-le}
+use Rattle.laws.specs.Lists.{listFrom}
+use Rattle.laws.proofs.Lists.{list-length, list-snoc, list-value}
 use Rattle.selection.specs.Allowed.{isReplaced}
-use Rattle.selection.specs.Computed.{repairedByte, changeMark}
+use Rattle.selection.specs.Computed.{repairedByte}
 use Rattle.laws.specs.Search.{First}
 use Rattle.selection.specs.Repair.{ReplacedAt}
 use Rattle.selection.specs.Table.{Passes}
@@ -13,57 +13,8 @@ use Rattle.laws.proofs.Search.{first-below}
 use Rattle.selection.proofs.RepairCells.{replaced-decides, cell-repaired, allowed-byte}
 use Rattle.selection.proofs.Tables.{table-of}
 use Rattle.recurrence.specs.Recurrence.{State, cellAt, stepBy, nextOf, after, digitOf, digits, endRemainder, resultOf}
-use Rattle.recurrence.specs.Recheck.{BadStep, ReadsBadOf, ReadsBad, Marks, Copies, SameRun, RunsClaim, readsBad, runMark, repairedTable, changeMarks}
+use Rattle.recurrence.specs.Recheck.{BadStep, ReadsBadOf, ReadsBad, Marks, Copies, RunsClaim, readsBad, runMark, repairedTable}
 use Rattle.recurrence.proofs.Visiting.{cell-below}
-
--- ---- the states
-
-module _ (t u : List ℕ) (m : Copies t u) (N D : ℕ) where
-  -- a step from a state whose cell is not bad
-  step-same : (p : State) → (ReplacedAt t (cellAt p) → ⊥) → nextOf t p ≡ nextOf u p
-  unfolding nextOf
-  step-same p n = ap (λ (d : ℕ). stepBy d p) (sym (m .copied (cellAt p) (cell-below p) n))
-
-  -- no bad cell is read through t; or none through u
-  states-same : (i : ℕ) → ((j : ℕ) → j < i → BadStep t t N D j → ⊥) → after t N D i ≡ after u N D i
-  unfolding after
-  states-same zero h = refl
-  states-same (suc i) h = step-same (after t N D i) (h i (omega arith)) ∙ ap (nextOf u) (states-same i (λ j l. h j (omega arith)))
-
-  states-back : (i : ℕ) → ((j : ℕ) → j < i → BadStep t u N D j → ⊥) → after t N D i ≡ after u N D i
-  unfolding after
-  states-back zero h = refl
-  states-back (suc i) h = ap (nextOf t) (states-back i (λ j l. h j (omega arith))) ∙ step-same (after u N D i) (h i (omega arith))
-
-  digits-same : (n : ℕ) → ((i : ℕ) → i ≤ n → after t N D i ≡ after u N D i) → digits t N D n ≡ digits u N D n
-  digits-same n e =
-      ext-getD 0 (digits t N D n) (digits u N D n) (list-length (digitOf t N D) 0 n ∙ sym (list-length (digitOf u N D) 0 n))
-      (λ i l. let h : i < n = omega (arith, list-length (digitOf t N D) 0 n) in
-      list-at (digitOf t N D) 0 0 n i h ∙ ap (λ (p : State). p .digit) (ap (λ (k : ℕ). after t N D (suc k)) (zero-add i) ∙ e (suc i) (omega arith) ∙ ap (λ (k : ℕ). after u N D (suc k)) (sym (zero-add i))) ∙ sym (list-at (digitOf u N D) 0 0 n i h))
-
-  run-same : (n : ℕ) → (ReadsBad t N D n → ⊥) → SameRun t u N D n
-  unfolding resultOf endRemainder
-  run-same n h =
-      let s : (i : ℕ) → i ≤ n → after t N D i ≡ after u N D i = λ i l. states-same i (λ j k w. h (record { step = j; early = omega arith; bad = w })) in
-      let d = digits-same n s in
-      record { states = s; digits = d; remainder = rw d; result = rw d }
-
-  -- ---- the first bad step
-
-  first-there : (i : ℕ) → First (BadStep t t N D) i → after t N D i ≡ after u N D i
-  first-there i f = states-same i (f .before)
-
-  first-same : (i : ℕ) → First (BadStep t t N D) i → First (BadStep t u N D) i
-  first-same i f = record {
-    here = subst (λ (p : State). ReplacedAt t (cellAt p)) (first-there i f) (f .here);
-    before = λ j l w. f .before j l (subst (λ (p : State). ReplacedAt t (cellAt p)) (sym (states-same j (λ k g. f .before k (omega arith)))) w);
-  }
-
-  first-back : (i : ℕ) → First (BadStep t u N D) i → First (BadStep t t N D) i
-  first-back i f = record {
-    here = subst (λ (p : State). ReplacedAt t (cellAt p)) (sym (states-back i (f .before))) (f .here);
-    before = λ j l w. f .before j l (subst (λ (p : State). ReplacedAt t (cellAt p)) (states-back j (λ k g. f .before k (omega arith))) w);
-  }
 
 -- a step that reads a bad cell, and so a first one
 pub first-bad : (t u : List ℕ) (N D n : ℕ) → ReadsBadOf t u N D n → (i : ℕ) × (i < n) × First (BadStep t u N D) i
@@ -71,16 +22,47 @@ first-bad t u N D n r =
     ⊎-elim (λ x. absurd (x .1 (r .step) (r .early) (r .bad))) (λ x. (_, x .0, x .1))
     (first-below (λ i. isReplaced t (cellAt (after u N D i))) n (λ i h. replaced-decides t (cellAt (after u N D i)) (cell-below (after u N D i))))
 
+-- ---- two tables u and v that agree in each cell that is not bad in t
+
+module _ (t u v : List ℕ) (N D : ℕ) (m : (k : ℕ) → k < 2048 → (ReplacedAt t k → ⊥) → getD u k 0 ≡ getD v k 0) where
+  -- no bad cell is read through u
+  states-same : (i : ℕ) → ((j : ℕ) → j < i → BadStep t u N D j → ⊥) → after u N D i ≡ after v N D i
+  unfolding after nextOf
+  states-same zero h = refl
+  states-same (suc i) h =
+      let p = after u N D i in
+      ap (λ (d : ℕ). stepBy d p) (m (cellAt p) (cell-below p) (h i (omega arith))) ∙ ap (nextOf v) (states-same i (λ j l. h j (omega arith)))
+
+  -- the first bad step
+  first-same : (i : ℕ) → First (BadStep t u N D) i → First (BadStep t v N D) i
+  first-same i f = record {
+    here = subst (λ (p : State). ReplacedAt t (cellAt p)) (states-same i (f .before)) (f .here);
+    before = λ j l w. f .before j l (subst (λ (p : State). ReplacedAt t (cellAt p)) (sym (states-same j (λ k g. f .before k (omega arith)))) w);
+  }
+
+  reads-same : (n : ℕ) → ReadsBadOf t u N D n → ReadsBadOf t v N D n
+  reads-same n r = let f = first-bad t u N D n r in record { step = f .0; early = f .1; bad = first-same (f .0) (f .2) .here }
+
+digits-same : (t u : List ℕ) (N D n : ℕ) → ((i : ℕ) → i ≤ n → after t N D i ≡ after u N D i) → digits t N D n ≡ digits u N D n
+unfolding listFrom
+digits-same t u N D zero e = refl
+digits-same t u N D (suc n) e =
+    let more = ap₂ (λ (ds : List ℕ) (p : State). ds ++ (p .digit ∷ [])) (digits-same t u N D n (λ i l. e i (omega arith))) (e (suc n) (omega arith)) in
+    list-snoc (digitOf t N D) n ∙ more ∙ sym (list-snoc (digitOf u N D) n)
+
 pub runs-claim : (t u : List ℕ) (N D n : ℕ) → Copies t u → RunsClaim t u N D n
-runs-claim t u N D n m = record {
-  same = run-same t u m N D n;
-  reads = (
-    λ r. let f = first-bad t t N D n r in record { step = f .0; early = f .1; bad = first-same t u m N D (f .0) (f .2) .here },
-    λ r. let f = first-bad t u N D n r in record { step = f .0; early = f .1; bad = first-back t u m N D (f .0) (f .2) .here },
-  );
-  first = λ i. (first-same t u m N D i, first-back t u m N D i);
-  there = first-there t u m N D;
-}
+unfolding resultOf endRemainder
+runs-claim t u N D n m =
+    let there = states-same t t u N D (λ k h w. sym (m .copied k h w)) in
+    record {
+      same = λ h.
+          let s : (i : ℕ) → i ≤ n → after t N D i ≡ after u N D i = λ i l. there i (λ j k w. h (record { step = j; early = omega arith; bad = w })) in
+          let d = digits-same t u N D n s in
+          record { states = s; digits = d; remainder = rw d; result = rw d };
+      reads = (reads-same t t u N D (λ k h w. sym (m .copied k h w)) n, reads-same t u t N D (m .copied) n);
+      first = λ i. (first-same t t u N D (λ k h w. sym (m .copied k h w)) i, first-same t u t N D (m .copied) i);
+      there = λ i f. there i (f .before);
+    }
 
 -- ---- the test
 
@@ -120,17 +102,11 @@ mark-one false d u v = u .unmarked (d .no refl) ∙ sym (v .unmarked (d .no refl
 -- ---- the repair copies the good cells, and passes
 
 module _ (t : List ℕ) where
-  repaired-cell : (k : ℕ) → k < 2048 → getD (repairedTable t) k 0 ≡ repairedByte t k
-  repaired-cell k h = list-at (repairedByte t) 0 0 2048 k h ∙ ap (repairedByte t) (zero-add k)
-
-  pub marked-cell : (k : ℕ) → k < 2048 → getD (changeMarks t) k 0 ≡ changeMark t k
-  marked-cell k h = list-at (changeMark t) 0 0 2048 k h ∙ ap (changeMark t) (zero-add k)
-
   pub repair-copies : Copies t (repairedTable t)
-  repair-copies = record { copied = λ k h n. repaired-cell k h ∙ cell-repaired t k h .copied n }
+  repair-copies = record { copied = λ k h n. list-value (repairedByte t) 0 2048 k h ∙ cell-repaired t k h .copied n }
 
   pub repair-passes : Passes (repairedTable t)
   repair-passes = record {
-    table = table-of (repairedTable t) (list-length (repairedByte t) 0 2048) (λ k h w. omega (arith, repaired-cell k h, allowed-byte t k h (cell-repaired t k h) .0));
-    allowed = λ k h. rw (repaired-cell k h) (allowed-byte t k h (cell-repaired t k h) .1);
+    table = table-of (repairedTable t) (list-length (repairedByte t) 0 2048) (λ k h w. omega (arith, list-value (repairedByte t) 0 2048 k h, allowed-byte t k h (cell-repaired t k h) .0));
+    allowed = λ k h. rw (list-value (repairedByte t) 0 2048 k h) (allowed-byte t k h (cell-repaired t k h) .1);
   }

@@ -1,14 +1,17 @@
 -- The refusals of one step's arguments: 8D/3 and the remainder's distance from zero tell whether 3P is out of range.
 use Rattle.laws.proofs.Basics.{_≡_, refl, List, _++_, inl, inr, ⊎-elim, ℕ, _+_, _-_, _*_, _/_, _%_, _^_, _≤_, _<_, arith, ltb, ltb→lt, nltb→le, pos, negℤ, _*ℤ_}
-use lib.Signed.{clashℤ}
 use Rattle.laws.proofs.Diff.{diffs}
 use Rattle.laws.proofs.Tests.{by-cond}
-use Rattle.selection.proofs.Refusing.{refusal, Condition, belowℤ, eitherOf, Holds, firstRefusal, rank, tableRules, WellFormed, cleared, clear-admits, refused-at, lent}
-use Rattle.selection.specs.Word.{signed, Within}
+use Rattle.selection.proofs.Refusing.{refusal, firstOf, answerBy, Condition, belowℤ, eitherOf, Holds, firstRefusal, rank, tableRules, WellFormed, cleared, clear-admits, refused-at, lent}
+use Rattle.selection.proofs.Orders.{first-lent}
+use Rattle.selection.specs.Word.{signed}
+use Rattle.selection.specs.declared.Admission.{Admission}
 use Rattle.selection.specs.declared.Admission.the-variants as A
 use Rattle.selection.proofs.BiasedPoints.{signed-diff}
 use Rattle.recurrence.specs.FastRun.{distanceOf}
-use Rattle.recurrence.specs.Step.{stepRules}
+use Rattle.recurrence.specs.Recurrence.{stateFrom, nextOf}
+use Rattle.recurrence.specs.Step.{stepRules, stepZeros, stepValues, stepOf}
+use Rattle.recurrence.specs.declared.step.StepAnswer.{StepAnswer}
 
 module _ (s k D : ℕ) where
   -- the second condition
@@ -35,10 +38,6 @@ module _ (s k D : ℕ) where
       (λ c h. ⊎-elim (λ x. omega (arith, ltb→lt, simp diffs at (rw (signed-diff (s + k)) at x))) (λ x. omega (arith, ltb→lt, simp diffs at (rw (signed-diff (s + k)) at x))))
       (λ c h. ⊎-elim (λ x. omega (arith, nltb→le, simp diffs at (rw (signed-diff (s + k)) at x))) (λ x. omega (arith, nltb→le, simp diffs at (rw (signed-diff (s + k)) at x))))
 
-  -- a remainder in range
-  pub within : Within 8 D (pos 3 *ℤ signed (s + k)) → Holds out-of-range → ⊥
-  within w = ⊎-elim (λ x. clashℤ x (w .low)) (λ x. clashℤ x (w .high))
-
   -- what the two rules give
   module _ (least : 2 ^ 60 ≤ D) (most : D < 2 ^ 61) where
     pub by-range : Holds out-of-range → firstRefusal (stepRules s k D) ≡ A.Refused (refusal 14 0)
@@ -53,3 +52,8 @@ module _ (s k D : ℕ) where
   pub step-span : firstRefusal (stepRules s k D) ≡ A.Admitted → D < 2 ^ 61
   unfolding stepRules
   step-span e = omega (arith, cleared step-rules e .0 .1)
+
+  -- the answer, by the first refusal v, where a is that of the arguments
+  pub step-answered : (t : List ℕ) {a w v : Admission} {x : StepAnswer} → a ≡ firstRefusal (stepRules s k D) → w ≡ firstOf a (firstRefusal (tableRules t)) → w ≡ v
+      → x ≡ answerBy stepZeros (stepValues (nextOf t (stateFrom s k D))) v → x ≡ stepOf s k D t
+  step-answered t e f g h = rw (h, ← first-lent (stepRules s k D) t f e g) refl

@@ -1,10 +1,11 @@
 -- One step: with a digit that is allowed, P′ = 4 (P − qD), and P′ is in range again. A remainder P is handled as P + 2^63, a
 -- natural number below 2^64, which `omega` reads.
-use Rattle.laws.proofs.Basics.{_≡_, List, ℕ, zero, suc, _+_, _-_, _*_, _/_, _%_, _^_, _≤_, _<_, arith, getD, pos, _-ℤ_, _*ℤ_}
+use Rattle.laws.proofs.Basics.{_≡_, List, ℕ, _+_, _-_, _*_, _/_, _%_, _^_, _≤_, _<_, arith, getD, pos, _-ℤ_, _*ℤ_}
 use Rattle.laws.proofs.Diff.{diff, diffs}
+use Rattle.laws.proofs.Tests.{up-to-four}
 use Rattle.laws.proofs.Words.{same-mod}
 use Rattle.selection.specs.Word.{Within}
-use Rattle.selection.specs.Cell.{row, column, digit, Point}
+use Rattle.selection.specs.Cell.{row, column, digit}
 use Rattle.selection.specs.Table.{Passes}
 use Rattle.selection.proofs.BiasedPoints.{signed-diff, digit-diff}
 use Rattle.selection.proofs.Columns.{row-in, column-of}
@@ -21,12 +22,8 @@ residue-biased p = signed-diff (p .sum + p .carry)
 
 -- the term is −qD modulo 2^64
 pub term : (d D : ℕ) → d ≤ 4 → D < 2 ^ 61 → (j : ℕ) × (multiple d D + lowestCarry d + d * D ≡ 2 * D + j * 2 ^ 64)
-term zero D h l = (0, omega arith)
-term (suc zero) D h l = (0, omega arith)
-term (suc (suc zero)) D h l = (0, omega arith)
-term (suc (suc (suc zero))) D h l = (1, omega arith)
-term (suc (suc (suc (suc zero)))) D h l = (1, omega arith)
-term (suc (suc (suc (suc (suc d))))) D h l = absurd (omega arith)
+term d D h l =
+    up-to-four (λ d. (j : ℕ) × (multiple d D + lowestCarry d + d * D ≡ 2 * D + j * 2 ^ 64)) (0, omega arith) (0, omega arith) (0, omega arith) (1, omega arith) (1, omega arith) d h
 
 -- what holds of a state: its divisor is in its span, and its remainder in range
 pub record InRange (p : State) : Type 0 where
@@ -36,18 +33,7 @@ pub record InRange (p : State) : Type 0 where
   pub below : 3 * biased p ≤ 3 * 2 ^ 63 + 8 * p .divisor
 
 pub range-of : (p : State) → InRange p → Within 8 (p .divisor) (pos 3 *ℤ residue p)
-range-of p g =
-    rw (residue-biased p)
-    (record { low = simp diffs (omega (arith, g .above)); high = simp diffs (omega (arith, g .below)) })
-
--- its divisor and remainder are a point of its cell
-point : (p : State) → InRange p → Point (row (p .divisor)) (column (p .sum) (p .carry)) (p .divisor) (residue p)
-point p g =
-    record {
-      row = row-in (p .divisor) (g .least) (g .most) .1;
-      column = column-of (p .sum) (p .carry);
-      range = range-of p g;
-    }
+range-of p g = rw (residue-biased p) (record { low = simp diffs (omega (arith, g .above)); high = simp diffs (omega (arith, g .below)) })
 
 -- a digit byte that is allowed at the state
 pub record AllowedAt (d : ℕ) (p : State) : Type 0 where
@@ -55,11 +41,12 @@ pub record AllowedAt (d : ℕ) (p : State) : Type 0 where
   pub low : 3 * (d * p .divisor) + 3 * 2 ^ 63 ≤ 3 * biased p + 8 * p .divisor
   pub high : 3 * biased p + 4 * p .divisor ≤ 3 * (d * p .divisor) + 3 * 2 ^ 63
 
--- the digit of a table that passes
+-- the digit of a table that passes: divisor and remainder are a point of the state's cell
 pub table-digit-allowed : (t : List ℕ) (p : State) → Passes t → InRange p → AllowedAt (getD t (cellAt p) 0) p
 table-digit-allowed t p ok g =
     let d = getD t (cellAt p) 0 in
-    let w = passes-at ok (row (p .divisor)) (column (p .sum) (p .carry)) (omega arith) (omega arith) (p .divisor) (residue p) (point p g) in
+    let w = passes-at ok (row (p .divisor)) (column (p .sum) (p .carry)) (omega arith) (omega arith) (p .divisor) (residue p)
+    (record { row = row-in (p .divisor) (g .least) (g .most) .1; column = column-of (p .sum) (p .carry); range = range-of p g }) in
     record {
       byte = ok .table .digits (cellAt p);
       low = omega (arith, simp diffs at (rw (residue-biased p, digit-diff d) at (w .low)));

@@ -1,18 +1,19 @@
 -- The loops over digits, divisors and dividends: each adds to the counts what its turns add.
-use Rattle.laws.proofs.Basics.{_≡_, refl, sym, ap, _∙_, Bool, true, false, List, ℕ, zero, suc, _+_, _-_, _*_, _%_, _^_, _≤_, _<_, arith, length, getD, set, length-set, eqb, eqb-true, eqb-false, ⊎-elim, eq-eqb, ne-eqb}
-use native.Mathlib.Nat.{mul-le-mul-right, mul-lt-mul-of-pos-right, suc-mul, eq-or-lt-of-le}
+use Rattle.laws.proofs.Basics.{_≡_, refl, sym, ap, _∙_, Bool, true, false, true≢false, List, ℕ, zero, suc, _+_, _-_, _*_, _%_, _^_, _≤_, _<_, arith, length, getD, set, length-set, eqb, eqb-true, eqb-false, eq-eqb, ne-eqb}
+use native.Mathlib.Nat.{mul-le-mul-right, mul-lt-mul-of-pos-right, suc-mul}
 use lib.Pow.{pow-add, pow-mono}
 use lib.Seq.{getD-set-same, getD-set-other}
 use Rattle.laws.specs.Lists.{filled}
 use Rattle.laws.proofs.Lists.{fill-at, fill-rest, fill-length, fill-right, filled-one}
 use Rattle.laws.specs.Sums.{sumBelow}
-use Rattle.laws.proofs.Sums.{sum-more, sum-most, sum-nothing}
-use Rattle.laws.proofs.Counting.{bit-most}
+use Rattle.laws.proofs.Sums.{sum-more, sum-most}
+use Rattle.laws.specs.Counting.{countBelow}
+use Rattle.laws.proofs.Counting.{bit-most, count-none, count-more}
 use Rattle.selection.specs.Cell.{row}
 use Rattle.recurrence.specs.Recurrence.{State, cellAt, startOf, nextOf, after}
 use Rattle.recurrence.specs.FastRun.{withColumn, stateOf}
 use Rattle.recurrence.specs.Visits.{isAt, runVisits, visitsOf}
-use Rattle.recurrence.specs.VisitSteps.{Added, Room, Placed, visitsByDivisors, visitsByPairs}
+use Rattle.recurrence.specs.VisitSteps.{Added, Room, VisitsSpans, Placed, visitsByDivisors, visitsByPairs}
 use Rattle.recurrence.specs.declared.state.RunState.{RunState}
 use Rattle.recurrence.proofs.Digits.{divisor-after}
 use Rattle.recurrence.proofs.Loop.{stands-next}
@@ -33,32 +34,41 @@ at-other a c n = rw (ne-eqb a c n) refl
 
 -- of all cells, a is one
 pub sum-at : (a m : ℕ) → a < m → sumBelow (isAt a) m ≡ 1
-unfolding sumBelow
-sum-at a zero h = absurd (omega arith)
-sum-at a (suc m) h = ⊎-elim
-    (λ (e : a ≡ m). omega (arith, sum-nothing (isAt a) m (λ i l. at-other a i (λ q. omega arith)), at-here a m e))
-    (λ (l : a < m). omega (arith, sum-at a m l, at-other a m (λ q. omega arith)))
-    (eq-or-lt-of-le (omega arith))
+unfolding isAt countBelow
+sum-at a m h =
+    omega (arith, count-more (eqb a) (λ c. false) a m h (eq-eqb a a refl) refl (λ k l n. ne-eqb a k (λ e. n (sym e))), count-none (λ c. false) m (λ k l e. true≢false (sym e)))
 
 -- ---- what is added
 
-pub added-none : (F : ℕ → ℕ → ℕ) (a : List ℕ) → Added (λ c. sumBelow (λ j. F j c) 0) a a
-unfolding sumBelow
-added-none F a = record { size = refl; each = λ c h. omega arith; rest = λ c h. refl }
+-- the first j of m turns, each of which adds its F j
+pub record Turned (F : ℕ → ℕ → ℕ) (m : ℕ) (a b : List ℕ) (j : ℕ) : Type 0 where
+  pub within : j ≤ m
+  pub added : Added (λ c. sumBelow (λ j. F j c) j) a b
 
--- a turn more
-pub added-more : (F : ℕ → ℕ → ℕ) {a b d : List ℕ} (j : ℕ) → Added (λ c. sumBelow (λ j. F j c) j) a b → Added (F j) b d → Added (λ c. sumBelow (λ j. F j c) (j + 1)) a d
-added-more F {a} {b} {d} j x y = record {
-  size = y .size ∙ x .size;
-  each = λ c h. omega (arith, y .each c h, x .each c h, sum-more (λ j. F j c) j);
-  rest = λ c h. y .rest c h ∙ x .rest c h;
-}
+module _ {F : ℕ → ℕ → ℕ} {m : ℕ} where
+  pub turned-none : (a : List ℕ) → Turned F m a a 0
+  unfolding sumBelow
+  turned-none a = record { within = omega arith; added = record { size = refl; each = λ c h. omega arith; rest = λ c h. refl } }
 
--- of m turns, each of which adds at most s to a place
-pub room-next : (F : ℕ → ℕ → ℕ) (m s : ℕ) {a b : List ℕ} (j : ℕ) → ((j c : ℕ) → F j c ≤ s) → j < m → Room (m * s) a → Added (λ c. sumBelow (λ j. F j c) j) a b → Room s b
-room-next F m s j most h r x =
-    let l : suc j * s ≤ m * s = mul-le-mul-right s h in
-    record { fits = λ c g. omega (arith, r .fits c g, x .each c g, sum-most (λ j. F j c) s j (λ i l. most i c), l, suc-mul j s) }
+  module _ {a b : List ℕ} {j : ℕ} (x : Turned F m a b j) where
+    pub turned-more : {d : List ℕ} → j < m → Added (F j) b d → Turned F m a d (j + 1)
+    turned-more l y = record {
+      within = omega arith;
+      added = record {
+        size = y .size ∙ x .added .size;
+        each = λ c h. omega (arith, y .each c h, x .added .each c h, sum-more (λ j. F j c) j);
+        rest = λ c h. y .rest c h ∙ x .added .rest c h;
+      };
+    }
+
+    pub turned-all : m ≤ j → Added (λ c. sumBelow (λ j. F j c) m) a b
+    turned-all h = let e : j ≡ m = omega (arith, x .within) in rw e at (x .added)
+
+    -- there is room for one more, if each adds at most s to a place
+    pub turned-room : {s : ℕ} → ((j c : ℕ) → F j c ≤ s) → j < m → Room (m * s) a → Room s b
+    turned-room {s} most h r =
+        let l : suc j * s ≤ m * s = mul-le-mul-right s h in
+        record { size = omega (arith, r .size, x .added .size); fits = λ c g. omega (arith, r .fits c g, x .added .each c g, sum-most (λ j. F j c) s j (λ i l. most i c), l, suc-mul j s) }
 
 -- one at one place
 pub added-one : (l : List ℕ) (a : ℕ) → a < 2048 → 2048 ≤ length l → Added (isAt a) l (set l a (getD l a 0 + 1))
@@ -75,7 +85,7 @@ added-one l a h k = record {
 -- to zeros
 module _ (v : List ℕ) (h : 2048 ≤ length v) where
   pub room-cleared : {s : ℕ} → s < 2 ^ 32 → Room s (filled (λ (c : ℕ). 0) 2048 v)
-  room-cleared l = record { fits = λ c g. omega (arith, fill-at (λ (c : ℕ). 0) v 0 2048 c g) }
+  room-cleared l = record { size = omega (arith, fill-length (λ (c : ℕ). 0) v 2048 h); fits = λ c g. omega (arith, fill-at (λ (c : ℕ). 0) v 0 2048 c g) }
 
   pub added-cleared : {f : ℕ → ℕ} {w : List ℕ} → Added f (filled (λ (c : ℕ). 0) 2048 v) w → w ≡ filled f 2048 v
   added-cleared {f} {w} x = filled-one
@@ -90,40 +100,36 @@ module _ (v : List ℕ) (h : 2048 ≤ length v) where
 pub cell-below : (p : State) → cellAt p < 2048
 cell-below p = omega arith
 
-pub record Visited (t : List ℕ) (N D : ℕ) (v₀ v : List ℕ) (state : RunState) (i : ℕ) : Type 0 where
+pub record Visited (t : List ℕ) (N D n : ℕ) (v₀ v : List ℕ) (state : RunState) (i : ℕ) : Type 0 where
   pub stands : state ≡ withColumn (after t N D i)
-  pub added : Added (λ c. sumBelow (λ j. isAt (cellAt (after t N D j)) c) i) v₀ v
+  pub turned : Turned (λ j. isAt (cellAt (after t N D j))) n v₀ v i
 
-module _ (t : List ℕ) (N D : ℕ) where
-  pub visited-none : (v : List ℕ) (p : RunState) → p ≡ withColumn (startOf N D) → Visited t N D v v p 0
+module _ (t : List ℕ) (N D n : ℕ) where
+  pub visited-none : (v : List ℕ) (p : RunState) → p ≡ withColumn (startOf N D) → Visited t N D n v v p 0
   unfolding after
-  visited-none v p e = record { stands = e; added = added-none (λ j. isAt (cellAt (after t N D j))) v }
+  visited-none v p e = record { stands = e; turned = turned-none v }
 
-  pub run-most : (n c : ℕ) → runVisits t N D n c ≤ n
+  pub run-most : (c : ℕ) → runVisits t N D n c ≤ n
   unfolding runVisits
-  run-most n c = omega (arith, sum-most (λ i. isAt (cellAt (after t N D i)) c) 1 n (λ i h. at-most (cellAt (after t N D i)) c))
+  run-most c = omega (arith, sum-most (λ i. isAt (cellAt (after t N D i)) c) 1 n (λ i h. at-most (cellAt (after t N D i)) c))
 
-  module _ {v₀ v : List ℕ} {p : RunState} {i start : ℕ} (x : Visited t N D v₀ v p i) (s : start ≡ 128 * row D) where
+  module _ {v₀ v : List ℕ} {p : RunState} {i start : ℕ} (x : Visited t N D n v₀ v p i) (s : start ≡ 128 * row D) where
     -- the index of the state's cell
-    pub cell-is : start + p .column ≡ cellAt (after t N D i)
+    cell-is : start + p .column ≡ cellAt (after t N D i)
     cell-is = rw (x .stands, s, divisor-after t N D i) refl
 
     pub cell-small : start + p .column < 2048
     cell-small = rw cell-is (cell-below (after t N D i))
 
-    pub visited-more : {q : RunState} → 2048 ≤ length v₀ → q ≡ withColumn (nextOf t (stateOf p)) → Visited t N D v₀ (set v (start + p .column) (getD v (start + p .column) 0 + 1)) q (i + 1)
-    visited-more {q} h e = record {
+    pub visited-more : {q : RunState} → i < n → 2048 ≤ length v₀ → q ≡ withColumn (nextOf t (stateOf p))
+        → Visited t N D n v₀ (set v (start + p .column) (getD v (start + p .column) 0 + 1)) q (i + 1)
+    visited-more l h e = record {
       stands = stands-next t N D i (x .stands) e;
-      added = rw cell-is (added-more (λ j. isAt (cellAt (after t N D j))) i (x .added) (added-one v (cellAt (after t N D i)) (cell-below (after t N D i)) (omega (arith, x .added .size))));
+      turned = rw cell-is (turned-more (x .turned) l (added-one v (cellAt (after t N D i)) (cell-below (after t N D i)) (omega (arith, x .turned .added .size))));
     }
 
-    -- there is room for one more
-    pub visited-room : {n : ℕ} → i < n → Room n v₀ → Room 1 v
-    visited-room {n} h r = let e : n * 1 ≡ n = omega arith in room-next (λ j. isAt (cellAt (after t N D j))) n 1 i (λ j. at-most (cellAt (after t N D j))) h (rw e r) (x .added)
-
-  pub run-done : {v₀ v : List ℕ} {p : RunState} {i n : ℕ} → Visited t N D v₀ v p i → i ≡ n → Added (runVisits t N D n) v₀ v
-  unfolding runVisits
-  run-done x e = rw (← e) (x .added)
+    pub visited-room : i < n → Room n v₀ → Room 1 v
+    visited-room h r = let e : n * 1 ≡ n = omega arith in turned-room (x .turned) (λ j. at-most (cellAt (after t N D j))) h (rw e r)
 
 -- ---- all runs
 
@@ -147,19 +153,7 @@ module _ (t : List ℕ) (m u n : ℕ) where
   unfolding visitsByPairs
   pairs-most c = sum-most (λ x. visitsByDivisors t m u n ((m + x) * u) c) (m * n) m (λ x h. divisors-most ((m + x) * u) c)
 
-  pub divisors-done : (N : ℕ) {v₀ v : List ℕ} {y : ℕ} → Added (λ c. sumBelow (λ y. runVisits t N ((m + y) * u) n c) y) v₀ v → y ≡ m → Added (visitsByDivisors t m u n N) v₀ v
-  unfolding visitsByDivisors
-  divisors-done N {v₀} {v} {y} x e = record { size = x .size; each = λ c h. x .each c h ∙ ap (λ (j : ℕ). getD v₀ c 0 + sumBelow (λ y. runVisits t N ((m + y) * u) n c) j) e; rest = x .rest }
-
-  pub pairs-done : {v₀ v : List ℕ} {x : ℕ} → Added (λ c. sumBelow (λ x. visitsByDivisors t m u n ((m + x) * u) c) x) v₀ v → x ≡ m → Added (visitsByPairs t m u n) v₀ v
-  unfolding visitsByPairs
-  pairs-done {v₀} {v} {x} y e = record { size = y .size; each = λ c h. y .each c h ∙ ap (λ (j : ℕ). getD v₀ c 0 + sumBelow (λ x. visitsByDivisors t m u n ((m + x) * u) c) j) e; rest = y .rest }
-
 -- ---- for k bits
-
-pub pairs-are : (t : List ℕ) (k n : ℕ) → visitsByPairs t (2 ^ (k - 1)) (2 ^ (61 - k)) n ≡ visitsOf t k n
-unfolding visitsByPairs visitsByDivisors visitsOf
-pairs-are t k n = refl
 
 pub product-most : (m n : ℕ) → m ≤ 32 → n ≤ 28 → m * (m * n) ≤ 28672
 product-most m n h l =
@@ -178,15 +172,16 @@ one-up : (j : ℕ) → j ≤ 60 → 1 * 2 ^ j % 2 ^ 64 ≡ 2 ^ j
 one-up j h = let l : 2 ^ j ≤ 2 ^ 60 = pow-mono h in omega arith
 
 -- what the code of `visit_all` asks: for k bits, of the list v and its zeros l
-module _ (k n : ℕ) (v : List ℕ) {l : List ℕ} (h : 1 ≤ k) (g : k ≤ 6) (r : 2048 ≤ length v) (e : l ≡ filled (λ (c : ℕ). 0) 2048 v) where
+module _ {k n : ℕ} (v : List ℕ) {l : List ℕ} (r : VisitsSpans k n (length v)) (e : l ≡ filled (λ (c : ℕ). 0) 2048 v) where
   first : 1 * 2 ^ (k - 1) % 2 ^ 64 ≡ 2 ^ (k - 1)
   first = one-up (k - 1) (omega arith)
 
   second : 1 * 2 ^ (61 - k) % 2 ^ 64 ≡ 2 ^ (61 - k)
   second = one-up (61 - k) (omega arith)
 
-  pub bits-ready : n ≤ 28 → let m = 1 * 2 ^ (k - 1) % 2 ^ 64 in Placed m (1 * 2 ^ (61 - k) % 2 ^ 64) × (2048 ≤ length l) × Room (m * (m * n)) l
-  bits-ready d = rw (first, second, e) (placed-bits k h g, omega (arith, fill-length (λ (c : ℕ). 0) v 2048 r), room-cleared v r (omega (arith, product-most (2 ^ (k - 1)) n (few-bits k g) d)))
+  pub bits-ready : let m = 1 * 2 ^ (k - 1) % 2 ^ 64 in Placed m (1 * 2 ^ (61 - k) % 2 ^ 64) × Room (m * (m * n)) l
+  bits-ready = rw (first, second, e) (placed-bits k (r .some) (r .bits), room-cleared v (r .room) (omega (arith, product-most (2 ^ (k - 1)) n (few-bits k (r .bits)) (r .digits))))
 
   pub bits-done : (t : List ℕ) {w : List ℕ} → Added (visitsByPairs t (1 * 2 ^ (k - 1) % 2 ^ 64) (1 * 2 ^ (61 - k) % 2 ^ 64) n) l w → w ≡ filled (visitsOf t k n) 2048 v
-  bits-done t x = added-cleared v r (rw (first, second, e, pairs-are t k n) at x)
+  unfolding visitsByPairs visitsByDivisors visitsOf
+  bits-done t x = added-cleared v (r .room) (rw (first, second, e) at x)

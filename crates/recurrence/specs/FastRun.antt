@@ -36,11 +36,15 @@ pub record DigitBytes (bytes : List ℕ) : Type 0 where
   pub size : length bytes ≡ 128
   pub small : (c : ℕ) → c < 128 → getD bytes c 0 ≤ 4
 
+-- ms are the multiples of the divisor D, and tops are their top bits
+pub record Multiples (D : ℕ) (ms : List ℕ) (tops : ℕ) : Type 0 where
+  pub each : ms ≡ divisorMultiples D
+  pub top-bits : tops ≡ allTopBits ms
+
 -- what a step asks of the row's bytes, the multiples, their top bits and the state
 pub record StepReady (bytes ms : List ℕ) (tops : ℕ) (p : RunState) : Type 0 where
   pub digits : DigitBytes bytes
-  pub multiples : ms ≡ divisorMultiples (p .divisor)
-  pub top-bits : tops ≡ allTopBits ms
+  pub multiples : Multiples (p .divisor) ms tops
   pub current : p .column ≡ column (p .sum) (p .carry)
 
 -- one of the pair v, u renewed, u the decremented one: with k = 4 + q the value, with k = 3 + q the decremented value. For k below 4 it is u with the bits k, else v with the bits k − 4

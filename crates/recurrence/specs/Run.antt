@@ -1,12 +1,12 @@
 -- The run as a caller sees it: the specification, sections 6 and 18. The refusals in their order, the answer, and the buffer whole.
 use mathlib.Core.List.{List, [], _∷_, _++_}
-use Prim.Native.Nat.{ℕ, _+_, _-_, _^_}
+use Prim.Native.Nat.{ℕ, _+_, _-_, _^_, _≤_}
 use lib.ListN.{length, take, drop}
 use Rattle.selection.specs.Answer.{refusal, answerBy}
 use Rattle.selection.specs.Table.{tableRules}
 use Rattle.selection.specs.Refusals.{Condition, Rule, tooShort, below, same, eitherOf, number, firstRefusal}
 use Rattle.selection.specs.declared.Refusal.{Refusal}
-use Rattle.recurrence.specs.Recurrence.{digits, resultOf}
+use Rattle.recurrence.specs.Recurrence.{Operands, digits, resultOf}
 use Rattle.recurrence.specs.declared.RunResult.{RunResult}
 use Rattle.recurrence.specs.declared.RunAnswer.{RunAnswer}
 
@@ -33,6 +33,13 @@ runRules N D n len place =
     ∷ number 3 (eitherOf (divisorOutside D) (below (2 ^ 61 - 1) N))
     ∷ number 7 (tooShort len (place + n))
     ∷ []
+
+-- what `run_part` and `run_admitted` ask: up to `longest` digits, more than a caller may ask for, and room for them
+pub record RunSpans (N D n len place : ℕ) : Type 0 where
+  pub operands : Operands N D
+  pub some : 1 ≤ n
+  pub most : n ≤ longest
+  pub room : place + n ≤ len
 
 -- n digit bytes from the place on, and the other bytes as they were
 abbrev pub written : List ℕ → ℕ → List ℕ → ℕ → List ℕ

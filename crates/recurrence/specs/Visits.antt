@@ -10,7 +10,7 @@ use Rattle.laws.specs.Lists.{filled, KeptFrom, FilledWith}
 use Rattle.laws.specs.Sums.{sumBelow}
 use Rattle.selection.specs.Answer.{refusal, refusalOf, answerBy}
 use Rattle.selection.specs.Computed.{madeTable}
-use Rattle.selection.specs.Refusals.{Rule, tooShort, below, same, eitherOf, number, Wrongs, FirstRefusal, RefusedBy, firstRefusal}
+use Rattle.selection.specs.Refusals.{Rule, tooShort, below, same, eitherOf, number, Wrongs, IsFirstRefusal, RefusedBy, firstRefusal}
 use Rattle.selection.specs.Table.{Passes, tableRules}
 use Rattle.selection.specs.declared.Refusal.{Refusal}
 use Rattle.recurrence.specs.Recurrence.{cellAt, after}
@@ -73,7 +73,7 @@ visitsLeft t k n v = answerBy (λ f. v) (filled (visitsOf t k n) 2048 v) (firstR
 -- f is the answer, where the list held v and then holds w: the first 2,048 numbers are the visits of the cells, and the rest is kept
 pub record Visits (t : List ℕ) (k n : ℕ) (v w : List ℕ) (f : Refusal) : Type 0 where
   pub refuses : RefusedBy (Wrongs (visitsRules k n (length v) ++ tableRules t)) f
-  pub keeps : (m p : ℕ) → FirstRefusal (Wrongs (visitsRules k n (length v) ++ tableRules t)) m p → w ≡ v
+  pub keeps : (m p : ℕ) → IsFirstRefusal (Wrongs (visitsRules k n (length v) ++ tableRules t)) m p → w ≡ v
   pub counts : ((m p : ℕ) → Wrongs (visitsRules k n (length v) ++ tableRules t) m p → ⊥) → FilledWith (visitsOf t k n) 2048 v w
 
 -- ---- the demand

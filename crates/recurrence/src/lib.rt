@@ -14,7 +14,7 @@ use selection::Refusal;
 use selection::refused;
 ghost use mathlib.Core.Path.{_≡_};
 ghost use mathlib.Core.List.{List};
-ghost use Prim.Native.Nat.{ℕ, _+_, _≤_};
+ghost use Prim.Native.Nat.{ℕ, _≤_};
 ghost use lib.ListN.{length};
 ghost use Rattle.selection.specs.Refusals.{firstRefusal};
 ghost use Rattle.selection.specs.Cell as Cell;
@@ -22,7 +22,7 @@ ghost use Rattle.selection.specs.Table.{Passes, rowBytes};
 ghost use Rattle.selection.specs.Computed.{madeTable};
 ghost use Rattle.recurrence.specs.Recurrence.{Operands, digits, resultOf};
 ghost use Rattle.recurrence.specs.Row.{Row};
-ghost use Rattle.recurrence.specs.Run.{longest, runRules, written, runZeros, runValues, runOf, bufferOf};
+ghost use Rattle.recurrence.specs.Run.{longest, runRules, RunSpans, written, runZeros, runValues, runOf, bufferOf};
 
 // The spans: a divisor is from 2^60 to 2^61 - 1, a dividend from 0 to 2^61 - 1.
 const DIVISOR_LEAST: u64 = 0x1000_0000_0000_0000;
@@ -78,7 +78,7 @@ fn run_part(
     buffer: &mut [u8],
     place: usize,
 ) -> RunResult
-    requires { ⌜ (Row divisor (now row)) × (Operands dividend divisor) × (1 ≤ n) × (n ≤ longest) × (place + n ≤ length (now buffer)) ⌝ }
+    requires { ⌜ (Row divisor (now row)) × (RunSpans dividend divisor n (length (now buffer)) place) ⌝ }
     ensures { λ r. ⌜ ((t : List ℕ) → Passes t → now (row .entry) ≡ rowBytes t (Cell.row divisor) → (now (buffer .exit) ≡ written (now (buffer .entry)) place (digits t dividend divisor n) n) × (r ≡ resultOf t dividend divisor n)) ⌝ }
 {
     run_row(row, dividend, divisor, &mut buffer[place..place + n])
@@ -93,7 +93,7 @@ fn run_admitted(
     buffer: &mut [u8],
     place: usize,
 ) -> RunResult
-    requires { ⌜ (Passes (now table)) × (Operands dividend divisor) × (1 ≤ n) × (n ≤ longest) × (place + n ≤ length (now buffer)) ⌝ }
+    requires { ⌜ (Passes (now table)) × (RunSpans dividend divisor n (length (now buffer)) place) ⌝ }
     ensures { λ r. ⌜ (now (buffer .exit) ≡ written (now (buffer .entry)) place (digits (now (table .entry)) dividend divisor n) n) × (r ≡ resultOf (now (table .entry)) dividend divisor n) ⌝ }
 {
     let row = selection::table::row_of(table, divisor);

@@ -11,7 +11,7 @@ ghost use Rattle.selection.specs.Cell as Cell;
 ghost use Rattle.selection.specs.Table.{rowBytes};
 ghost use Rattle.recurrence.specs.CarrySave.{lowestCarry};
 ghost use Rattle.recurrence.specs.Recurrence.{appended, stepBy, nextOf, stateFrom};
-ghost use Rattle.recurrence.specs.FastRun.{withColumn, stateOf, divisorMultiples, topBitsOf, allTopBits, DigitBytes, StepReady, renewed, resultFromWord};
+ghost use Rattle.recurrence.specs.FastRun.{withColumn, stateOf, divisorMultiples, topBitsOf, allTopBits, DigitBytes, Multiples, StepReady, renewed, resultFromWord};
 
 // The next column needs the bits 61 to 53 of a word: what is left of it by 2^62, without the bits below 2^53.
 const TOP_END: u64 = 0x4000_0000_0000_0000;
@@ -119,7 +119,7 @@ impl RunState {
 
     // One step by a digit byte. The next column comes from the top bits of the words and of the multiple, ahead of the next words.
     pub(crate) fn step_by(self, digit: u8, multiples: &[u64; 5], tops: u64) -> RunState
-        requires { ⌜ (digit ≤ 4) × (now multiples ≡ divisorMultiples (self .divisor)) × (tops ≡ allTopBits (now multiples)) ⌝ }
+        requires { ⌜ (digit ≤ 4) × (Multiples (self .divisor) (now multiples) tops) ⌝ }
         ensures { λ r. ⌜ r ≡ withColumn (stepBy digit (stateOf self)) ⌝ }
     {
         let sum = self.sum;

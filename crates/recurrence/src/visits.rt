@@ -5,15 +5,14 @@ use selection::Refusal;
 use selection::refused;
 ghost use mathlib.Core.Path.{_≡_};
 ghost use mathlib.Core.List.{List};
-ghost use Prim.Native.Nat.{ℕ, _+_, _*_, _-_, _^_, _≤_, _<_};
+ghost use Prim.Native.Nat.{ℕ, _*_, _^_, _≤_, _<_};
 ghost use lib.ListN.{length};
 ghost use Rattle.laws.specs.Lists.{filled};
 ghost use Rattle.selection.specs.Refusals.{firstRefusal};
 ghost use Rattle.selection.specs.Cell as Cell;
 ghost use Rattle.selection.specs.Table.{Passes, rowBytes};
-ghost use Rattle.recurrence.specs.Row.{Row};
 ghost use Rattle.recurrence.specs.Visits.{visitsRules, runVisits, visitsOf, visitsAnswer, visitsLeft, Visits};
-ghost use Rattle.recurrence.specs.VisitSteps.{Added, Room, Placed, visitsByDivisors, visitsByPairs};
+ghost use Rattle.recurrence.specs.VisitSteps.{Added, Room, Lent, RowAt, VisitsSpans, Placed, visitsByDivisors, visitsByPairs};
 use crate::MOST_DIGITS;
 use crate::state::RunState;
 use crate::state::all_top_bits;
@@ -24,7 +23,7 @@ const MOST_BITS: u64 = 6;
 
 // A run of n digits through the row that begins at `start` in a table: one more for the cell of each digit.
 fn visit_row(row: &[u8], start: usize, dividend: u64, divisor: u64, n: usize, visits: &mut [u32])
-    requires { ⌜ (Row divisor (now row)) × (start ≡ 128 * Cell.row divisor) × (divisor < 2 ^ 61) × (2048 ≤ length (now visits)) × (Room n (now visits)) ⌝ }
+    requires { ⌜ (RowAt divisor start (now row)) × (Room n (now visits)) ⌝ }
     ensures { λ r. ⌜ ((t : List ℕ) → now (row .entry) ≡ rowBytes t (Cell.row divisor) → Added (runVisits t dividend divisor n) (now (visits .entry)) (now (visits .exit))) ⌝ }
 {
     let multiples = divisor_multiples(divisor);
@@ -42,7 +41,7 @@ fn visit_row(row: &[u8], start: usize, dividend: u64, divisor: u64, n: usize, vi
 
 // The same through a whole table that passes.
 fn visit_run(table: &[u8], dividend: u64, divisor: u64, n: usize, visits: &mut [u32])
-    requires { ⌜ (Passes (now table)) × (divisor < 2 ^ 61) × (2048 ≤ length (now visits)) × (Room n (now visits)) ⌝ }
+    requires { ⌜ (Lent (now table) n (now visits)) × (divisor < 2 ^ 61) ⌝ }
     ensures { λ r. ⌜ Added (runVisits (now (table .entry)) dividend divisor n) (now (visits .entry)) (now (visits .exit)) ⌝ }
 {
     let row = selection::table::row_of(table, divisor);
@@ -52,7 +51,7 @@ fn visit_run(table: &[u8], dividend: u64, divisor: u64, n: usize, visits: &mut [
 
 // The runs of one dividend by all divisors: m and more units, less than 2m of them.
 fn visit_divisors(table: &[u8], dividend: u64, m: u64, unit: u64, n: usize, visits: &mut [u32])
-    requires { ⌜ (Passes (now table)) × (Placed m unit) × (2048 ≤ length (now visits)) × (Room (m * n) (now visits)) ⌝ }
+    requires { ⌜ (Lent (now table) (m * n) (now visits)) × (Placed m unit) ⌝ }
     ensures { λ r. ⌜ Added (visitsByDivisors (now (table .entry)) m unit n dividend) (now (visits .entry)) (now (visits .exit)) ⌝ }
 {
     let mut y: u64 = 0;
@@ -64,7 +63,7 @@ fn visit_divisors(table: &[u8], dividend: u64, m: u64, unit: u64, n: usize, visi
 
 // The runs of all pairs.
 fn visit_pairs(table: &[u8], m: u64, unit: u64, n: usize, visits: &mut [u32])
-    requires { ⌜ (Passes (now table)) × (Placed m unit) × (2048 ≤ length (now visits)) × (Room (m * (m * n)) (now visits)) ⌝ }
+    requires { ⌜ (Lent (now table) (m * (m * n)) (now visits)) × (Placed m unit) ⌝ }
     ensures { λ r. ⌜ Added (visitsByPairs (now (table .entry)) m unit n) (now (visits .entry)) (now (visits .exit)) ⌝ }
 {
     let mut x: u64 = 0;
@@ -90,7 +89,7 @@ fn clear(visits: &mut [u32])
 
 // The visits of all runs through a table that passes.
 fn visit_all(table: &[u8], bits: u64, digits: usize, visits: &mut [u32])
-    requires { ⌜ (Passes (now table)) × (1 ≤ bits) × (bits ≤ 6) × (digits ≤ 28) × (2048 ≤ length (now visits)) ⌝ }
+    requires { ⌜ (Passes (now table)) × (VisitsSpans bits digits (length (now visits))) ⌝ }
     ensures { λ r. ⌜ now (visits .exit) ≡ filled (visitsOf (now (table .entry)) bits digits) 2048 (now (visits .entry)) ⌝ }
 {
     clear(visits);

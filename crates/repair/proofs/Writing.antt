@@ -1,10 +1,9 @@
 -- What is written is the call's repair and its text; of an input that is read in part, as of all of it.
-use Rattle.laws.proofs.Basics.{_≡_, refl, sym, ap, subst, _∙_, List, [], _++_, _≢_, ℕ, _+_, _<_, add-one, arith, length, getD, take, length-take, replicate, length-replicate}
-use native.Mathlib.Decide.{decLe}
-use native.Mathlib.Nat.{lt-of-not-le}
+use Rattle.laws.proofs.Basics.{_≡_, refl, sym, ap, subst, _∙_, List, [], _++_, ⊎-elim, _≢_, ℕ, _+_, _<_, add-one, arith, length, getD, take, length-take, replicate, length-replicate}
 use lib.Seq.{take-all}
 use Rattle.laws.specs.Lists.{listFrom, filled}
 use Rattle.laws.proofs.Lists.{list-length, fill-all}
+use Rattle.laws.proofs.Division.{le-or-lt}
 use Rattle.laws.specs.Counting.{countBelow}
 use Rattle.selection.proofs.Refusing.{refusal, answerBy, firstRefusal}
 use Rattle.selection.specs.declared.Refusal.{Refusal}
@@ -29,45 +28,50 @@ cells-more t u k = rw add-one
 -- the call, by the table alone
 module _ (t rs cs : List ℕ) (h : length t ≡ 2048) (r : length rs ≡ 2048) (c : length cs ≡ 2048) where
   admitted : firstRefusal (repairRules (length t) (length rs) (length cs)) ≡ Admitted
-  admitted = repair-admits _ _ _ (record { repaired-room = omega arith; changed-room = omega arith; size = h })
+  admitted = repair-admits (length t) (length rs) (length cs) (record { repaired-room = omega arith; changed-room = omega arith; size = h })
 
   table-is : repairedOf t rs cs ≡ listFrom (repairedByte t) 0 2048
   table-is = ap (answerBy (λ f. rs) (filled (repairedByte t) 2048 rs)) admitted ∙ fill-all (repairedByte t) rs 2048 (omega arith)
 
-  pub table-size : length (repairedOf t rs cs) ≡ 2048
-  table-size = ap length table-is ∙ list-length (repairedByte t) 0 2048
-
   count-is : repairOf t rs cs .count ≡ countBelow (isReplaced t) 2048
   count-is = ap (λ (v : Admission). answerBy repairZeros (record { refusal = refusal 0 0; count = countBelow (isReplaced t) 2048 }) v .count) admitted
 
--- what the code of `repair` asks: by the answer of a call with buffers of 2,048 bytes
-module _ (t rs cs : List ℕ) (r : length rs ≡ 2048) (c : length cs ≡ 2048) {a : RepairAnswer} (e : a ≡ repairOf t rs cs) where
-  other-length : length t ≢ 2048 → a .refusal ≡ refusal 8 0
-  other-length m = ap (λ (x : RepairAnswer). x .refusal) (e ∙ length-refused t rs cs (omega arith) (omega arith) m)
+-- a is the answer of a call with buffers of 2,048 bytes
+pub record Called (t rs cs : List ℕ) (a : RepairAnswer) : Type 0 where
+  pub table-room : length rs ≡ 2048
+  pub marks-room : length cs ≡ 2048
+  pub answer : a ≡ repairOf t rs cs
 
-  pub size-is : a .refusal .number ≡ 0 → length t ≡ 2048
+-- what the code of `repair` asks
+module _ {t rs cs : List ℕ} {a : RepairAnswer} (k : Called t rs cs a) where
+  other-length : length t ≢ 2048 → a .refusal ≡ refusal 8 0
+  other-length m = ap (λ (x : RepairAnswer). x .refusal) (k .answer ∙ length-refused t rs cs (omega arith) (omega arith) m)
+
+  size-is : a .refusal .number ≡ 0 → length t ≡ 2048
   size-is n = equal (length t) 2048 (λ m. let z = ap (λ (f : Refusal). f .number) (other-length m) in omega arith)
 
+  -- a table that was repaired has 2,048 bytes, and so has its repair
+  pub sizes : {x : List ℕ} → a .refusal .number ≡ 0 → x ≡ repairedOf t rs cs → (length t ≡ 2048) × (length x ≡ 2048)
+  sizes n e = let h = size-is n in (h, ap length (e ∙ table-is t rs cs h (k .table-room) (k .marks-room)) ∙ list-length (repairedByte t) 0 2048)
+
   pub writes-table : {x y : List ℕ} → a .refusal .number ≡ 0 → x ≡ repairedOf t rs cs → y ≡ changesText t x (a .count) → Writes t x y
-  writes-table {x} n ex ey = record {
-    repaired = λ h qs ds q d. (ex ∙ table-is t rs cs h r c ∙ sym (table-is t qs ds h q d), ey ∙ ap (changesText t x) (ap (λ (x : RepairAnswer). x .count) e ∙ count-is t rs cs h r c ∙ sym (count-is t qs ds h q d)));
+  writes-table n ex ey = record {
+    repaired = λ h qs ds q d. (rw (ex, table-is t rs cs h (k .table-room) (k .marks-room), table-is t qs ds h q d), rw (ey, k .answer, count-is t rs cs h (k .table-room) (k .marks-room), count-is t qs ds h q d));
     refused = λ m. absurd (m (size-is n));
   }
 
   pub writes-refusal : {y : List ℕ} → a .refusal .number ≢ 0 → y ≡ refusalText (a .refusal) → Writes t [] y
   writes-refusal n ey = record {
-    repaired = λ h qs ds q d. absurd (n (ap (λ (x : RepairAnswer). x .refusal .number) e ∙ ap (λ (f : Refusal). f .number) (repair-told t rs cs h (omega arith) (omega arith))));
+    repaired = λ h qs ds q d. absurd (n (rw (k .answer) (ap (λ (f : Refusal). f .number) (repair-told t rs cs h (omega arith) (omega arith)))));
     refused = λ m. (refl, ey ∙ ap refusalText (other-length m));
   }
 
 -- more than 2,048 bytes of the input settle what is written for all of it
 pub writes-read : {s x y : List ℕ} {n : ℕ} → 2048 < length s → Writes (take n s) x y → WritesRead s n x y
-writes-read {s} {x} {y} {n} h w = record {
-  writes = λ t e.
-      elim (decLe (length t) (length s)) [
-        | yes l ↦ subst (λ (z : List ℕ). Writes z x y) (e ∙ take-all (length s) t l) w
-        | no m ↦ record { repaired = λ g. absurd (omega (arith, lt-of-not-le m)); refused = λ g. w .refused (λ q. omega (arith, lt-of-not-le m, simp length-take at (sym (ap length e) ∙ q))) }
-      ];
+writes-read {s} {x} {y} h w = record {
+  writes = λ t e. ⊎-elim (λ l. subst (λ (z : List ℕ). Writes z x y) (e ∙ take-all (length s) t l) w)
+      (λ l. record { repaired = λ g. absurd (omega arith); refused = λ g. w .refused (λ q. omega (arith, l, simp length-take at (sym (ap length e) ∙ q))) })
+      (le-or-lt (length t) (length s));
 }
 
 -- the table that is written passes

@@ -2,6 +2,7 @@
 ghost use Prim.Native.Nat.{_+_, _*_, _≤_};
 ghost use mathlib.Core.Path.{_≡_};
 ghost use lib.ListN.{length, take};
+ghost use Rattle.io.specs.Counts.{Counts};
 ghost use Rattle.printing.specs.Text.{Appended};
 ghost use Rattle.repair.specs.Changes.{cellText, cellsUpto, changesText, Writes, WritesRead};
 use libc::STDERR_FILENO;
@@ -70,7 +71,7 @@ fn append_changes(out: &mut [u8], table: &[u8], repaired: &[u8], count: u64) -> 
 // All that is written for the bytes of an input.
 fn repair(bytes: &[u8], table: &mut [u8; TABLE], text: &mut [u8; ROOM]) -> Written
     ensures { λ r. ⌜ Writes (now (bytes .entry)) (take (r .table) (now (table .exit))) (take (r .text) (now (text .exit))) ⌝ }
-    ensures { λ r. ⌜ (r .table ≤ length (now (table .exit))) × (r .text ≤ length (now (text .exit))) ⌝ }
+    ensures { λ r. ⌜ Counts (r .table) (now (table .exit)) × Counts (r .text) (now (text .exit)) ⌝ }
 {
     let mut changed = [0u8; TABLE];
     let answer = repair_table(bytes, table, &mut changed);
@@ -93,9 +94,9 @@ fn repair_input(
     table: &mut [u8; TABLE],
     text: &mut [u8; ROOM],
 ) -> Written
-    requires { ⌜ count ≤ length (now bytes) ⌝ }
+    requires { ⌜ Counts count (now bytes) ⌝ }
     ensures { λ r. ⌜ WritesRead (now (bytes .entry)) count (take (r .table) (now (table .exit))) (take (r .text) (now (text .exit))) ⌝ }
-    ensures { λ r. ⌜ (r .table ≤ length (now (table .exit))) × (r .text ≤ length (now (text .exit))) ⌝ }
+    ensures { λ r. ⌜ Counts (r .table) (now (table .exit)) × Counts (r .text) (now (text .exit)) ⌝ }
 {
     let all: &[u8] = bytes;
     repair(&all[..count], table, text)

@@ -1,43 +1,35 @@
 -- The test of a cell says which digits are allowed, and which cells of a table are bad.
-use Rattle.laws.proofs.Basics.{_≡_, refl, ap, Bool, true, false, not, cond, List, ℕ, _+_, _*_, _/_, _%_, _≤_, _<_, ltb, getD}
+use Rattle.laws.proofs.Basics.{_≡_, refl, ap, Bool, true, false, not, cond, List, _⊎_, inl, inr, ⊎-elim, ℕ, _+_, _*_, _/_, _%_, _≤_, _<_, ltb, ℤ, getD}
 use Rattle.laws.proofs.Tests.{Decides, decides-yes, decides-no}
-use Rattle.selection.specs.Cell.{Allows, IsCell, CellChecked, digit}
+use Rattle.selection.specs.Cell.{Allows, Against, IsCell, CellChecked, digit}
 use Rattle.selection.specs.Table.{Table, BadAt}
-use Rattle.selection.specs.Multiples.{Finding, RowOf, multiplesOf, greatestByte, allowsBy, foundAt, testOf, cellVerdictOf}
-use Rattle.selection.specs.Multiples.Finding.{NoWitness, LeastAt}
+use Rattle.selection.specs.Multiples.{RowOf, multiplesOf, greatestByte, allowsBy, foundAt, cellVerdictOf}
+use Rattle.selection.specs.Multiples.Finding.{NoWitness}
 use Rattle.selection.specs.Allowed.{allowsOf, isBad, isBadIn}
 use Rattle.selection.specs.declared.multiples.RowMultiples.{RowMultiples}
-use Rattle.selection.proofs.BiasedPoints.{verdict-checked, not-allowed}
+use Rattle.selection.proofs.BiasedPoints.{test-checked, not-allowed}
 use Rattle.selection.proofs.Tables.{cell-at, cell-row, cell-column}
 
-abbrev clear : Finding → Bool
-clear NoWitness = true
-clear (LeastAt d w) = false
+-- x tells of the digit of b whether it is allowed or there is a witness against it
+abbrev pub Told : Bool → ℕ → ℕ → ℕ → Type 0
+Told x r c b = ((x ≡ true) × Allows r c (digit b)) ⊎ ((x ≡ false) × (D : ℕ) × (P : ℤ) × Against r c (digit b) D P)
 
--- a digit is allowed where the test finds nothing
-allows-test : (r c b : ℕ) → allowsOf r c b ≡ clear (testOf (multiplesOf r) c b)
+pub tells : {r c b : ℕ} → IsCell r c b → Told (allowsOf r c b) r c b
 unfolding allowsOf
-allows-test r c b = go (allowsBy (multiplesOf r) c b) (ltb (greatestByte (multiplesOf r) c) b)
+tells {r} {c} {b} k = go (allowsBy (multiplesOf r) c b) (ltb (greatestByte (multiplesOf r) c) b) (test-checked k)
   where
-    go : (x y : Bool) → x ≡ clear (cond x NoWitness (foundAt (multiplesOf r .smallest) c b y))
-    go true y = refl
-    go false true = refl
-    go false false = refl
+    go : (x y : Bool) → CellChecked r c b (cellVerdictOf (cond x NoWitness (foundAt (multiplesOf r .smallest) c b y))) → Told x r c b
+    go true y j = inl (refl, j .means .1)
+    go false true j = inr (refl, _, _, j .means .1 .against)
+    go false false j = inr (refl, _, _, j .means .1 .against)
 
 pub allows-decides : {r c b : ℕ} → IsCell r c b → Decides (Allows r c (digit b)) (allowsOf r c b)
-allows-decides {r} {c} {b} k = rw (allows-test r c b) (go (testOf (multiplesOf r) c b) (verdict-checked k refl .1))
-  where
-    go : (h : Finding) → CellChecked r c b (cellVerdictOf h) → Decides (Allows r c (digit b)) (clear h)
-    go NoWitness j = decides-yes (j .means .1)
-    go (LeastAt d w) j = decides-no (not-allowed (j .means .1 .against))
+allows-decides k = ⊎-elim (λ y. rw (y .0) (decides-yes (y .1))) (λ n. rw (n .0) (decides-no (not-allowed (n .3)))) (tells k)
 
 -- which cells are bad
 pub cell-decides : (t : List ℕ) (k : ℕ) → IsCell (k / 128) (k % 128) (getD t k 0) → Decides (BadAt t k) (isBad t k)
-cell-decides t k i = rw (allows-test (k / 128) (k % 128) (getD t k 0)) (go (testOf (multiplesOf (k / 128)) (k % 128) (getD t k 0)) (verdict-checked i refl .1))
-  where
-    go : (x : Finding) → CellChecked (k / 128) (k % 128) (getD t k 0) (cellVerdictOf x) → Decides (BadAt t k) (not (clear x))
-    go NoWitness j = decides-no (λ b. not-allowed (b .against) (j .means .1))
-    go (LeastAt d w) j = decides-yes (record { divisor = d; remainder = _; against = j .means .1 .against })
+cell-decides t k i =
+    ⊎-elim (λ y. rw (y .0) (decides-no (λ b. not-allowed (b .against) (y .1)))) (λ n. rw (n .0) (decides-yes (record { divisor = n .1; remainder = n .2; against = n .3 }))) (tells i)
 
 pub bad-decides : {t : List ℕ} → Table t → (k : ℕ) → k < 2048 → Decides (BadAt t k) (isBad t k)
 bad-decides {t} a k h = cell-decides t k (cell-at a k h)

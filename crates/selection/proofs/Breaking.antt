@@ -23,20 +23,15 @@ pub record Low (b D W : ℕ) : Type 0 where
 pub record High (b D W : ℕ) : Type 0 where
   pub more : 3 * (2 ^ 63 + D * b) + 2 * D < 3 * (W + D * 2)
 
+-- a point of a cell that K says to break the digit: from below, from above, or either
+pub record PointWith (r c : ℕ) (K : ℕ → ℕ → Type 0) (D W : ℕ) : Type 0 where
+  pub point : BiasedPoint r c D W
+  pub side : K D W
+
+abbrev pub Breaks : ℕ → ℕ → ℕ → ℕ → ℕ → Type 0
+Breaks r c b = PointWith r c (λ D W. Low b D W ⊎ High b D W)
+
 -- what a hit says of the breaking points B of a cell
 abbrev pub IsLeast : (ℕ → ℕ → Type 0) → Finding → Type 0
 IsLeast B NoWitness = (D W : ℕ) → B D W → ⊥
 IsLeast B (LeastAt d w) = B d w × ((D W : ℕ) → B D W → d ≤ D) × ((W : ℕ) → B d W → w ≤ W)
-
--- a point that breaks the digit, from below or from above
-pub record LowPoint (r c b D W : ℕ) : Type 0 where
-  pub point : BiasedPoint r c D W
-  pub low : Low b D W
-
-pub record HighPoint (r c b D W : ℕ) : Type 0 where
-  pub point : BiasedPoint r c D W
-  pub high : High b D W
-
-pub record Breaks (r c b D W : ℕ) : Type 0 where
-  pub point : BiasedPoint r c D W
-  pub side : Low b D W ⊎ High b D W

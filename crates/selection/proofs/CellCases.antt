@@ -1,93 +1,67 @@
 -- Bench cases 1 to 7: the cells. antt computes the five digits of a cell and the limits of a row.
-use Rattle.laws.proofs.Basics.{_≡_, refl, sym, subst, ap, Bool, true, false, cond, List, [], _∷_, _↔_, inl, inr, ⊎-elim, ℕ, _+_, _*_, _^_, arith, ℤ, pos, negsuc, T, leb, eqb, leb→le, eqb→eq, eqb-refl, lit≤}
-use Rattle.laws.proofs.Tests.{upto, upto-at, alike, alike-eq}
-use Rattle.selection.specs.Cell.{Allows, OneOf, AllowedDigits, LeastWitness, IsCell, digit}
+use Rattle.laws.proofs.Basics.{_≡_, refl, ap, Bool, true, false, _||_, List, [], _∷_, _↔_, inl, inr, ⊎-elim, ℕ, _+_, _*_, _^_, _≤_, arith, ℤ, pos, negsuc, T, leb, eqb, leb→le, eqb-true, eqb-false, lit≤}
+use Rattle.laws.proofs.Tests.{upto, upto-at, alike, alike-eq, Decides, decides-yes, decides-no}
+use Rattle.laws.proofs.Diff.{diff-eq}
+use Rattle.selection.specs.Cell.{OneOf, AllowedDigits, LeastWitness, digit}
 use Rattle.selection.specs.Maker.{Limits}
 use Rattle.selection.specs.Allowed.{allowsOf}
 use Rattle.selection.specs.Computed.{limitsOf}
-use Rattle.selection.proofs.BiasedPoints.{cell-checked}
+use Rattle.selection.proofs.BiasedPoints.{digit-diff, cell-checked}
 use Rattle.selection.proofs.Allowed.{allows-decides}
 use Rattle.selection.proofs.Making.{limits-right}
 
--- two integers are the same
-same : ℤ → ℤ → Bool
-same (pos m) (pos n) = eqb m n
-same (pos m) (negsuc n) = false
-same (negsuc m) (pos n) = false
-same (negsuc m) (negsuc n) = eqb m n
+-- the digits of a list of bytes, and whether it holds a byte
+abbrev digits : List ℕ → List ℤ
+digits [] = []
+digits (a ∷ bs) = digit a ∷ digits bs
 
-same-eq : (x y : ℤ) → T (same x y) → x ≡ y
-unfolding same
-same-eq (pos m) (pos n) t = ap pos (eqb→eq m n t)
-same-eq (pos m) (negsuc n) t = absurd t
-same-eq (negsuc m) (pos n) t = absurd t
-same-eq (negsuc m) (negsuc n) t = ap negsuc (eqb→eq m n t)
+abbrev listed : ℕ → List ℕ → Bool
+listed b [] = false
+listed b (a ∷ bs) = eqb b a || listed b bs
 
-same-refl : (x : ℤ) → T (same x x)
-unfolding same
-same-refl (pos m) = eqb-refl m
-same-refl (negsuc m) = eqb-refl m
-
--- an integer is one of a list
-listed : ℤ → List ℤ → Bool
-listed q [] = false
-listed q (x ∷ xs) = cond (same q x) true (listed q xs)
-
-to-listed : (q : ℤ) (xs : List ℤ) → T (listed q xs) → OneOf q xs
-unfolding listed
-to-listed q [] t = t
-to-listed q (x ∷ xs) t = go (same q x) (same-eq q x) (to-listed q xs) t
+listed-decides : (b : ℕ) (bs : List ℕ) → Decides (OneOf (digit b) (digits bs)) (listed b bs)
+listed-decides b [] = decides-no (λ z. z)
+listed-decides b (a ∷ bs) = go (eqb b a) refl (listed-decides b bs)
   where
-    go : (b : Bool) → (T b → q ≡ x) → (T (listed q xs) → OneOf q xs) → T (cond b true (listed q xs)) → OneOf q (x ∷ xs)
-    go true e f t = inl (e tt)
-    go false e f t = inr (f t)
-
-of-listed : (q : ℤ) (xs : List ℤ) → OneOf q xs → T (listed q xs)
-unfolding listed
-of-listed q [] l = l
-of-listed q (x ∷ xs) l = go (same q x) (λ e. subst (λ (y : ℤ). T (same q y)) e (same-refl q)) (of-listed q xs) l
-  where
-    go : (b : Bool) → (q ≡ x → T b) → (OneOf q xs → T (listed q xs)) → OneOf q (x ∷ xs) → T (cond b true (listed q xs))
-    go true e f l = tt
-    go false e f l = ⊎-elim (λ a. absurd (e a)) f l
+    go : (x : Bool) → eqb b a ≡ x → Decides (OneOf (digit b) (digits bs)) (listed b bs) → Decides (OneOf (digit b) (digits (a ∷ bs))) (x || listed b bs)
+    go true e d = decides-yes (inl (ap digit (eqb-true b a e)))
+    go false e d =
+        record { yes = λ t. inr (d .yes t); no = λ f. ⊎-elim (λ h. eqb-false b a e (omega (arith, diff-eq b 2 a 2 .0 (rw (digit-diff, digit-diff) at h)))) (d .no f) }
 
 -- antt computes the five tests of a cell
-cell : (r c : ℕ) (qs : List ℤ) → T (leb r 15) → T (leb c 127) → T (upto (λ b. alike (allowsOf r c b) (listed (digit b) qs)) 5) → AllowedDigits r c qs
-cell r c qs hr hc t =
-    record {
-      exactly = λ b h.
-          let k : IsCell r c b = record { row = leb→le r 15 hr; column = leb→le c 127 hc; byte = h } in
-          let e = alike-eq (allowsOf r c b) (listed (digit b) qs) (upto-at (λ (n : ℕ). alike (allowsOf r c n) (listed (digit n) qs)) 5 t b (omega arith)) in
-          go b k (allowsOf r c b) refl e;
-    }
+cell : (r c : ℕ) (bs : List ℕ) → T (leb r 15) → T (leb c 127) → T (upto (λ b. alike (allowsOf r c b) (listed b bs)) 5) → AllowedDigits r c (digits bs)
+cell r c bs hr hc t = record { exactly = λ b h. go (allowsOf r c b) (allows-decides (record { row = leb→le r 15 hr; column = leb→le c 127 hc; byte = h })) (same b h) }
   where
-    go : (b : ℕ) → IsCell r c b → (x : Bool) → allowsOf r c b ≡ x → x ≡ listed (digit b) qs → Allows r c (digit b) ↔ OneOf (digit b) qs
-    go b k true e f = ((λ a. to-listed (digit b) qs (subst T f tt)), λ l. allows-decides k .yes e)
-    go b k false e f = ((λ a. absurd (allows-decides k .no e a)), λ l. absurd (subst T (sym f) (of-listed (digit b) qs l)))
+    same : (b : ℕ) → b ≤ 4 → Decides (OneOf (digit b) (digits bs)) (allowsOf r c b)
+    same b h = rw (alike-eq (allowsOf r c b) (listed b bs) (upto-at (λ (n : ℕ). alike (allowsOf r c n) (listed n bs)) 5 t b (omega arith))) (listed-decides b bs)
+
+    go : {P Q : Type 0} (x : Bool) → Decides P x → Decides Q x → P ↔ Q
+    go true p q = ((λ a. q .yes refl), λ a. p .yes refl)
+    go false p q = ((λ a. absurd (p .no refl a)), λ a. absurd (q .no refl a))
 
 pub case-1 : AllowedDigits 0 75 (pos 1 ∷ []) × LeastWitness 0 75 (pos 2) (33 * 2 ^ 55 + 1) (pos (11 * 2 ^ 57))
-unfolding allowsOf digit listed same
-case-1 = (cell 0 75 _ tt tt tt, cell-checked 0 75 4 .means .1)
+unfolding allowsOf digit
+case-1 = (cell 0 75 (3 ∷ []) tt tt tt, cell-checked 0 75 4 .means .1)
 
 pub case-2 : AllowedDigits 0 76 (pos 2 ∷ [])
-unfolding allowsOf digit listed same
-case-2 = cell 0 76 _ tt tt tt
+unfolding allowsOf digit
+case-2 = cell 0 76 (4 ∷ []) tt tt tt
 
 pub case-3 : AllowedDigits 1 76 (pos 1 ∷ pos 2 ∷ [])
-unfolding allowsOf digit listed same
-case-3 = cell 1 76 _ tt tt tt
+unfolding allowsOf digit
+case-3 = cell 1 76 (3 ∷ 4 ∷ []) tt tt tt
 
 pub case-4 : AllowedDigits 0 67 (pos 0 ∷ pos 1 ∷ [])
-unfolding allowsOf digit listed same
-case-4 = cell 0 67 _ tt tt tt
+unfolding allowsOf digit
+case-4 = cell 0 67 (2 ∷ 3 ∷ []) tt tt tt
 
 pub case-5 : AllowedDigits 0 50 (negsuc 1 ∷ []) × AllowedDigits 0 51 (negsuc 1 ∷ negsuc 0 ∷ [])
-unfolding allowsOf digit listed same
-case-5 = (cell 0 50 _ tt tt tt, cell 0 51 _ tt tt tt)
+unfolding allowsOf digit
+case-5 = (cell 0 50 (0 ∷ []) tt tt tt, cell 0 51 (0 ∷ 1 ∷ []) tt tt tt)
 
 pub case-6 : AllowedDigits 1 87 (pos 2 ∷ []) × AllowedDigits 1 88 (negsuc 1 ∷ negsuc 0 ∷ pos 0 ∷ pos 1 ∷ pos 2 ∷ [])
-unfolding allowsOf digit listed same
-case-6 = (cell 1 87 _ tt tt tt, cell 1 88 _ tt tt tt)
+unfolding allowsOf digit
+case-6 = (cell 1 87 (4 ∷ []) tt tt tt, cell 1 88 (0 ∷ 1 ∷ 2 ∷ 3 ∷ 4 ∷ []) tt tt tt)
 
 pub case-7 : Limits 0 (40 ∷ 51 ∷ 59 ∷ 68 ∷ 76 ∷ 87 ∷ [])
 unfolding limitsOf

@@ -1,5 +1,5 @@
 -- The test of a cell, given its row's multiples, gives the verdict and witness of the single cell.
-use Rattle.laws.proofs.Basics.{_≡_, refl, sym, subst, ap, _∙_, _↔_, Bool, true, false, cond, not, _||_, ℕ, _+_, _^_, _≤_, _<_, arith, T, ltb, lt-ltb, le-ltb}
+use Rattle.laws.proofs.Basics.{_≡_, refl, sym, subst, ap, _∙_, _↔_, Bool, true, false, cond, not, _||_, ℕ, _+_, _^_, _≤_, _<_, arith, ltb, lt-ltb, le-ltb}
 use Rattle.selection.specs.Cell.{IsCell}
 use Rattle.selection.specs.Multiples.{RowOf, past, allowsBy, leastByte, greatestByte, hasPoint, lowDivisor, highDivisor, lowAt, highAt, foundAt, testOf, witnessOf, cellVerdictOf}
 use Rattle.selection.specs.Multiples.Finding.{NoWitness, LeastAt}
@@ -13,31 +13,27 @@ use Rattle.selection.proofs.BiasedPoints.{cell-known}
 
 -- ---- what the code of `allows` asks: the sum of the two sides is 0, or it is not
 
-either : (x y p : Bool) → let n : ℕ = cond x 1 0 + cond y 1 0 in ((n ≡ 0) → true ≡ cond (x || y) p true) × (((n ≡ 0) → ⊥) → p ≡ cond (x || y) p true)
-either true true p = ((λ e. absurd (omega (arith, e))), (λ n. refl))
-either true false p = ((λ e. absurd (omega (arith, e))), (λ n. refl))
-either false true p = ((λ e. absurd (omega (arith, e))), (λ n. refl))
-either false false p = ((λ e. refl), (λ n. absurd (n refl)))
+by-sum : (x y p : Bool) → let n : ℕ = cond x 1 0 + cond y 1 0 in ((n ≡ 0) → true ≡ cond (x || y) p true) × (((n ≡ 0) → ⊥) → p ≡ cond (x || y) p true)
+by-sum true y p = ((λ e. absurd (omega (arith, e))), (λ n. refl))
+by-sum false true p = ((λ e. absurd (omega (arith, e))), (λ n. refl))
+by-sum false false p = ((λ e. refl), (λ n. absurd (n refl)))
 
 pub by-sides : (m : RowMultiples) (c b : ℕ) {x y : ℕ} → x ≡ past (greatestByte m c) b → y ≡ past b (leastByte m c) → ((x + y ≡ 0) → true ≡ allowsBy m c b) × (((x + y ≡ 0) → ⊥) → not (hasPoint m c) ≡ allowsBy m c b)
-by-sides m c b low high = rw (low, high) (either (ltb (greatestByte m c) b) (ltb b (leastByte m c)) (not (hasPoint m c)))
+by-sides m c b low high = rw (low, high) (by-sum (ltb (greatestByte m c) b) (ltb b (leastByte m c)) (not (hasPoint m c)))
 
--- ---- what the code of `test_cell` asks
+-- ---- the test of a cell, and what the code of `test_cell` asks
 
--- what is found, by the two tests
 module _ (m : RowMultiples) (c b : ℕ) where
-  not-found : allowsBy m c b ≡ true → testOf m c b ≡ NoWitness
-  not-found e = rw e refl
-
   -- the digit is allowed exactly where the test says so
   pub allows-tested : (allowsBy m c b ≡ true) ↔ (cellVerdictOf (testOf m c b) ≡ Allowed)
-  allows-tested = ((λ e. ap cellVerdictOf (not-found e)), go (allowsBy m c b) (ltb (greatestByte m c) b))
+  allows-tested = ((λ e. rw e refl), go (allowsBy m c b) (ltb (greatestByte m c) b))
     where
       go : (x y : Bool) → cellVerdictOf (cond x NoWitness (foundAt (m .smallest) c b y)) ≡ Allowed → x ≡ true
       go true y v = refl
-      go false true v = absurd (let z : _≡_ {A = ℕ} 0 1 = cc in omega arith)
-      go false false v = absurd (let z : _≡_ {A = ℕ} 0 1 = cc in omega arith)
+      go false true v = cc
+      go false false v = cc
 
+  -- what is found where the digit is not allowed, by the first of its two sides
   found : allowsBy m c b ≡ false → (x : Bool) → ltb (greatestByte m c) b ≡ x → testOf m c b ≡ foundAt (m .smallest) c b x
   found e x f = rw (e, f) refl
 
@@ -54,7 +50,7 @@ module _ {m : RowMultiples} {c b : ℕ} (o : RowOf m) (hc : c ≤ 127) (hb : b �
   allows-single = ((λ e. sym row-tested ∙ allows-tested m c b .0 e), (λ v. allows-tested m c b .1 (row-tested ∙ v)))
 
   pub allowed-is : {x : Bool} → x ≡ allowsBy m c b → (x ≡ allowsBy m c b) × ((x ≡ true) ↔ (cellOf (m .row) c b ≡ Allowed))
-  allowed-is e = (e, ((λ t. allows-single .0 (sym e ∙ t)), (λ v. e ∙ allows-single .1 v)))
+  allowed-is e = (e, rw e allows-single)
 
   -- a divisor that is found is the row's
   found-is : {d w : ℕ} → testOf m c b ≡ LeastAt d w → (d ≤ 2 ^ 61) × (Disallowed (witnessOf d w) ≡ cellOf (m .row) c b)
@@ -63,7 +59,7 @@ module _ {m : RowMultiples} {c b : ℕ} (o : RowOf m) (hc : c ≤ 127) (hb : b �
       (omega (arith, s .0 .point .below, o .small), sym (ap cellVerdictOf e) ∙ row-tested)
 
   pub is-allowed : allowsBy m c b ≡ true → Allowed ≡ cellOf (m .row) c b
-  is-allowed e = sym (ap cellVerdictOf (not-found m c b e)) ∙ row-tested
+  is-allowed e = sym (allows-single .0 e)
 
   pub low-found : allowsBy m c b ≡ false → greatestByte m c < b → let d = lowDivisor (m .smallest) c b in (d ≤ 2 ^ 61) × (Disallowed (witnessOf d (lowAt d c)) ≡ cellOf (m .row) c b)
   low-found e h = found-is (found m c b e true (lt-ltb _ _ h))
@@ -73,9 +69,9 @@ module _ {m : RowMultiples} {c b : ℕ} (o : RowOf m) (hc : c ≤ 127) (hb : b �
 
   -- and its column is not far from 0
   pub found-columns : allowsBy m c b ≡ false → (20 ≤ c) × (c ≤ 106)
-  found-columns e = go (ltb (greatestByte m c) b || ltb b (leastByte m c)) (hasPoint m c) refl e
+  found-columns e = point-columns o (go (ltb (greatestByte m c) b || ltb b (leastByte m c)) (hasPoint m c) e)
     where
-      go : (x y : Bool) → hasPoint m c ≡ y → cond x (not y) true ≡ false → (20 ≤ c) × (c ≤ 106)
-      go true true p f = point-columns o p
-      go true false p f = absurd (subst T f tt)
-      go false y p f = absurd (subst T f tt)
+      go : (x y : Bool) → cond x (not y) true ≡ false → y ≡ true
+      go x true f = refl
+      go true false f = sym f
+      go false false f = sym f

@@ -1,10 +1,9 @@
 -- What a call refuses, rule by rule: nothing, or by the rule before which all others are past. Once for every list of rules.
-use Rattle.laws.proofs.Basics.{_≡_, refl, ap₂, List, [], _∷_, inl, inr, ⊎-elim, ℕ, zero, suc}
-use Rattle.selection.proofs.OneRule.{Gives, Past, past, past-not, decided}
+use Rattle.laws.proofs.Basics.{_≡_, refl, List, [], _∷_, inl, inr, ⊎-elim, ℕ, zero, suc}
+use Rattle.selection.proofs.OneRule.{Past, past, past-not, refuses-at, past-admits}
 use Rattle.selection.proofs.Rules.{Sound, WellFormed, clear, admits}
-use Rattle.selection.specs.Answer.{refusal, firstOf}
-use Rattle.selection.specs.Refusals.{Rule, numberOf, Wrong, given, Wrongs, firstRefusal}
-use Rattle.selection.specs.declared.Admission.{Admission}
+use Rattle.selection.specs.Answer.{refusal}
+use Rattle.selection.specs.Refusals.{Rule, numberOf, Wrong, Wrongs, firstRefusal}
 use Rattle.selection.specs.declared.Admission.the-variants.{Admitted, Refused}
 
 -- no rule refuses
@@ -34,16 +33,8 @@ clear-none (r ∷ rs) c n p w = ⊎-elim (λ x. past-not r (c .0) p (x .1)) (cle
 
 at : (rs : List Rule) → Sound rs → (i p : ℕ) → WrongAt rs i p → firstRefusal rs ≡ Refused (refusal (numberIn rs i) p)
 at [] s i p w = absurd w
-at (r ∷ rs) s zero p w = go (given r) (decided r (s .0) .gives)
-  where
-    go : (v : Admission) → Gives r v → firstOf v (firstRefusal rs) ≡ Refused (refusal (numberOf r) p)
-    go Admitted h = absurd (h p w)
-    go (Refused f) h = ap₂ (λ (k q : ℕ). Refused (refusal k q)) (h .0) (decided r (s .0) .one (f .place) p (h .1) w)
-at (r ∷ rs) s (suc i) p w = go (at rs (s .1 (past-not r (w .0))) i p (w .1)) (given r) (decided r (s .0) .gives)
-  where
-    go : firstRefusal rs ≡ Refused (refusal (numberIn rs i) p) → (v : Admission) → Gives r v → firstOf v (firstRefusal rs) ≡ Refused (refusal (numberIn rs i) p)
-    go e Admitted h = e
-    go e (Refused f) h = absurd (past-not r (w .0) (f .place) (h .1))
+at (r ∷ rs) s zero p w = rw (refuses-at r (s .0) p w) refl
+at (r ∷ rs) s (suc i) p w = rw (past-admits r (s .0) (w .0)) (at rs (s .1 (past-not r (w .0))) i p (w .1))
 
 module _ {rs : List Rule} (l : WellFormed rs) where
   -- where no condition holds no rule refuses

@@ -1,9 +1,6 @@
 -- For a user with a burned table: what passed under the coarser estimate's span passes under this one, and the check says so. The converse is false, by the made table.
-use Rattle.laws.proofs.Basics.{_≡_, refl, sym, ap, ap₂, _∙_, List, ℕ, _+_, _*_, _-_, _/_, _%_, _^_, _≤_, min, arith, lit<, lit≤, ℤ, pos}
-use native.Mathlib.Nat.{le-trans}
+use Rattle.laws.proofs.Basics.{_≡_, refl, sym, _∙_, List, ℕ, _+_, _*_, _-_, _/_, _%_, _^_, _≤_, min, arith, lit<, lit≤, ℤ, pos}
 use Rattle.laws.specs.Lists.{listFrom}
-use Rattle.laws.proofs.Diff.{diff}
-use Rattle.laws.proofs.Words.{same-mod}
 use Rattle.selection.specs.Word.{signed}
 use Rattle.selection.specs.Cell.{earlierSpan, PointUnder, digit}
 use Rattle.selection.specs.Table.{Passes, PassesUnder}
@@ -13,14 +10,14 @@ use Rattle.selection.specs.Computed.{madeOf, madeTable, reportOf}
 use Rattle.selection.proofs.Refusing.{refusal, firstRefusal, tableRules}
 use Rattle.selection.specs.declared.Admission.the-variants.{Admitted}
 use Rattle.selection.specs.Burned.{earlierColumn, earlierTruncationError, TruncatesBy, BurnedTables}
-use Rattle.selection.proofs.BiasedPoints.{signed-diff}
+use Rattle.selection.proofs.BiasedPoints.{signed-same}
 use Rattle.selection.proofs.EarlierKept.{earlier-kept-passes}
 use Rattle.selection.proofs.Reports.{report-passed, passes-admitted, admission-rules}
 
 module _ {m n : ℕ} (h : n ≤ m) where
   -- a smaller greatest e leaves fewer points, and allows what was allowed
   fewer-points : {r c D : ℕ} {P : ℤ} → PointUnder n r c D P → PointUnder m r c D P
-  fewer-points p = record { row = p .row; column = record { e = p .column .e; small = le-trans (p .column .small) h; is = p .column .is }; range = p .range }
+  fewer-points p = record { row = p .row; column = record { e = p .column .e; small = omega (arith, p .column .small); is = p .column .is }; range = p .range }
 
   pub passes-narrower : {t : List ℕ} → PassesUnder m t → PassesUnder n t
   passes-narrower p = record { table = p .table; allowed = λ k l D P x. p .allowed k l D P (fewer-points x) }
@@ -49,20 +46,15 @@ made-fails-earlier p = p .allowed 196 (lit< tt) _ _ corner .high .le
 earlier-truncation-error : (s k : ℕ) → signed (s + k) ≡ signed ((earlierColumn s k + 64) * 2 ^ 57 + earlierTruncationError s k)
 earlier-truncation-error s k =
     let n = s / 2 ^ 57 + k / 2 ^ 57 in
-    let c = earlierColumn s k in
-    let e = earlierTruncationError s k in
-    let m : n + 64 ≡ 128 * ((n + 64) / 128) + c = omega arith in
-    signed-diff (s + k) ∙ ap (λ (n : ℕ). diff n (2 ^ 63)) (same-mod (s + k + 2 ^ 63) ((c + 64) * 2 ^ 57 + e + 2 ^ 63) (2 ^ 64) 1 ((n + 64) / 128) (omega arith)) ∙ sym (signed-diff ((c + 64) * 2 ^ 57 + e))
+    let m : n + 64 ≡ 128 * ((n + 64) / 128) + earlierColumn s k = omega arith in
+    signed-same (s + k) ((earlierColumn s k + 64) * 2 ^ 57 + earlierTruncationError s k) 1 ((n + 64) / 128) (omega arith)
 
 earlier-occurs : (c e : ℕ) → c ≤ 127 → e ≤ earlierSpan → TruncatesBy c e
 earlier-occurs c e hc he =
     let x = min e (2 ^ 57 - 1) in
-    let t = (c + 64) % 128 in
-    let s = t * 2 ^ 57 + x in
+    let s = (c + 64) % 128 * 2 ^ 57 + x in
     let k = e - x in
-    let a : s / 2 ^ 57 ≡ t = omega arith in
-    let b : k / 2 ^ 57 ≡ 0 = omega arith in
-    record { sum = s; carry = k; words = (omega arith, omega arith); column = ap₂ (λ (m n : ℕ). (m + n + 64) % 128) a b ∙ omega arith; truncation-error = omega arith }
+    record { sum = s; carry = k; words = (omega arith, omega arith); column = omega arith; truncation-error = omega arith }
 
 pub burned-tables : BurnedTables
 burned-tables = record {

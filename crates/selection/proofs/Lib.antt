@@ -1,9 +1,6 @@
 pub mod Rows
-pub mod Search
 pub mod Breaking
-pub mod TooLow
-pub mod TooHigh
-pub mod Searching
+pub mod Search
 pub mod Tested
 pub mod BiasedPoints
 pub mod CellTests

@@ -1,30 +1,23 @@
 -- The computed made table, and the buffer that the maker fills.
-use Rattle.laws.proofs.Basics.{_≡_, refl, sym, ap, subst, _∙_, List, _++_, ℕ, _+_, _/_, _%_, _≤_, _<_, arith, length, drop, lt-ltb, le-ltb}
-use native.Mathlib.Nat.{zero-add}
+use Rattle.laws.proofs.Basics.{_≡_, refl, ap, _∙_, List, ℕ, _/_, _%_, _≤_, _<_, arith, length, lt-ltb, le-ltb}
 use Rattle.laws.proofs.Lists.{list-length, list-at}
-use Rattle.selection.specs.Maker.{Made, MadeTable, Limits, limitsRules, limitsZeros, makeRules, Limited, Makes}
+use Rattle.selection.specs.Maker.{Made, MadeTable, limitsZeros, Limited, Makes}
 use Rattle.selection.specs.Answer.{refusal, answerBy}
-use Rattle.selection.specs.Refusals.{Wrongs, RefusedBy}
 use Rattle.selection.specs.declared.Refusal.{Refusal}
-use Rattle.selection.specs.declared.Admission.{Admission}
 use Rattle.selection.specs.declared.maker.RowLimits.{RowLimits}
-use Rattle.selection.proofs.Rules.{WellFormed, first-is, admits, refused-by, refuses}
+use Rattle.selection.proofs.Rules.{first-is, admits, refused-by, refuses}
 use Rattle.selection.proofs.Clear.{none-clear}
 use Rattle.laws.specs.Lists.{filled}
 use Rattle.selection.specs.Computed.{madeAt, limitsOf, rowLimitsOf, madeTable, madeBuffer, makeOf}
 use Rattle.selection.specs.Table.{Passes}
 use Rattle.selection.proofs.Making.{made-right, limits-right}
-use Rattle.selection.proofs.KeptLaws.{made-passes}
+use Rattle.selection.proofs.KeptLaws.{made-of, made-passes}
 use Rattle.selection.proofs.UniqueMade.{byte-one, made-one, limits-rules, make-rules}
 
 -- the computed table is the made table
 pub made-table-is : MadeTable madeTable
 unfolding madeTable
-made-table-is =
-    record {
-      size = list-length madeAt 0 2048;
-      made = λ k h. subst (Made (k / 128) (k % 128)) (sym (list-at madeAt 0 0 2048 k h ∙ ap madeAt (zero-add k))) (made-right (k / 128) (k % 128) (omega arith) (omega arith));
-    }
+made-table-is = made-of (list-length madeAt 0 2048) (λ k h. list-at madeAt 0 0 2048 k h ∙ ap madeAt (omega arith))
 
 -- the one made table, byte by byte
 pub made-bytes : {t : List ℕ} → MadeTable t → t ≡ madeTable
@@ -48,9 +41,9 @@ make-answer s t f e g =
       e,
       g,
       record {
-        refuses = subst (RefusedBy (Wrongs (makeRules (length s)))) (sym e) (refused-by c);
-        keeps = λ n p x. g ∙ ap (answerBy (λ f. s) (madeTable ++ drop 2048 s)) (first-is c n p x);
-        makes = λ a. (madeTable, made-table-is, g ∙ ap (answerBy (λ f. s) (madeTable ++ drop 2048 s)) (admits c a));
+        refuses = rw e (refused-by c);
+        keeps = λ n p x. g ∙ ap (answerBy (λ f. s) _) (first-is c n p x);
+        makes = λ a. (madeTable, made-table-is, g ∙ ap (answerBy (λ f. s) _) (admits c a));
       },
     )
 
@@ -63,16 +56,7 @@ make-refused s h = make-answer s s (refusal 7 0) (rw (lt-ltb (length s) 2048 h) 
 
 -- what the code of `row_limits` asks
 pub limits-told : (r : ℕ) {a : RowLimits} → a ≡ rowLimitsOf r → (a ≡ rowLimitsOf r) × Limited r a
-limits-told r e = (
-  e,
-  subst (Limited r) (sym e) (record {
-    refuses = refuses c (λ x. x .refusal) limitsZeros done refl (λ f. refl) refl;
-    limits = λ a. subst (λ (v : Admission). Limits r (answerBy limitsZeros done v .limits)) (sym (admits c a)) (limits-right r (none-clear c a .0));
-  }),
-)
-  where
-    c : WellFormed (limitsRules r)
-    c = limits-rules r
-
-    done : RowLimits
-    done = record { refusal = refusal 0 0; limits = limitsOf r }
+limits-told r e =
+    let c = limits-rules r in
+    let done : RowLimits = record { refusal = refusal 0 0; limits = limitsOf r } in
+    (e, rw e (record { refuses = refuses c (λ x. x .refusal) limitsZeros done refl (λ f. refl) refl; limits = λ a. rw (admits c a) (limits-right r (none-clear c a .0)) }))

@@ -1,10 +1,9 @@
 -- What a call makes of its arguments' refusal and the table's.
 use Rattle.laws.proofs.Basics.{_≡_, refl, sym, ap, _∙_, List, _++_, ℕ, arith, T}
-use Rattle.selection.specs.Answer.{firstOf, answerBy}
+use Rattle.selection.specs.Answer.{firstOf}
 use Rattle.selection.specs.Table.{tableRules, Passes}
 use Rattle.selection.specs.Computed.{madeTable}
 use Rattle.selection.specs.Refusals.{Rule, firstRefusal}
-use Rattle.selection.specs.declared.Refusal.{Refusal}
 use Rattle.selection.specs.declared.Admission.{Admission}
 use Rattle.selection.specs.declared.Admission.the-variants.{Admitted, Refused}
 use Rattle.selection.proofs.Rules.{WellFormed, ranked, rules-append, sound-append}
@@ -17,11 +16,9 @@ lent rs t c o = record { sound = sound-append rs (tableRules t) (c .sound) (tabl
 
 -- no table that passes is refused
 pub passed-last : {t : List ℕ} → Passes t → (rs : List Rule) → firstRefusal (rs ++ tableRules t) ≡ firstRefusal rs
-passed-last {t} p rs = rules-append rs (tableRules t) ∙ ap (firstOf (firstRefusal rs)) (sym (admission-rules t) ∙ passes-admitted p) ∙ last (firstRefusal rs)
-  where
-    last : (v : Admission) → firstOf v Admitted ≡ v
-    last Admitted = refl
-    last (Refused f) = refl
+passed-last {t} p rs =
+    rules-append rs (tableRules t) ∙ ap (firstOf (firstRefusal rs)) (sym (admission-rules t) ∙ passes-admitted p)
+    ∙ elim (firstRefusal rs) as (λ v. firstOf v Admitted ≡ v) [ Admitted ↦ refl | Refused f ↦ refl ]
 
 -- of a call that has admitted its arguments, of refusal v, and the table t
 pub admitted-both : (t : List ℕ) {v a : Admission} → a ≡ firstOf v (firstRefusal (tableRules t)) → a ≡ Admitted → (v ≡ Admitted) × Passes t
@@ -30,10 +27,6 @@ admitted-both t {v} e g = let k = both v (firstRefusal (tableRules t)) (sym e �
     both : (v w : Admission) → firstOf v w ≡ Admitted → (v ≡ Admitted) × (w ≡ Admitted)
     both Admitted w e = (refl, e)
     both (Refused f) w e = absurd (let z : _≡_ {A = ℕ} 0 1 = cc in omega arith)
-
--- an answer by the first refusal
-pub answered : {X : Type 0} (zeros : Refusal → X) (done : X) {v u : Admission} {x : X} → v ≡ u → x ≡ answerBy zeros done u → x ≡ answerBy zeros done v
-answered zeros done e h = h ∙ sym (ap (answerBy zeros done) e)
 
 -- the first refusal of a call with a lent table, and of one over the kept table
 pub first-lent : (rs : List Rule) (t : List ℕ) {a w u : Admission} → w ≡ firstOf a (firstRefusal (tableRules t)) → a ≡ firstRefusal rs → w ≡ u → firstRefusal (rs ++ tableRules t) ≡ u

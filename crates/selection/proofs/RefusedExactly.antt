@@ -3,10 +3,10 @@ use Rattle.laws.proofs.Basics.{refl, sym, _↔_, List, ℕ, _+_, _*_, _/_, _%_,
 use Rattle.laws.proofs.Diff.{diffs, by-diff}
 use Rattle.laws.proofs.Counting.{tally-as, tally-nothing}
 use Rattle.selection.specs.Word.{Within}
-use Rattle.selection.specs.Answer.{refusal, cellNumbers, outcomeNumbers, reportNumbers}
+use Rattle.selection.specs.Answer.{cellNumbers, outcomeNumbers, reportNumbers}
 use Rattle.selection.specs.Cell.{Against, LeastWitness, IsCell, CellChecked, digit}
-use Rattle.selection.specs.Table.{Table, BadAt, FirstBad, Passes, Checked, ReportMeaning}
-use Rattle.selection.specs.Demand.{Leaves, SomeLeaves, FirstLeaves, RefusedExactly, CellTold}
+use Rattle.selection.specs.Table.{Table, BadAt, Passes, Checked, ReportMeaning}
+use Rattle.selection.specs.Demand.{Leaves, SomeLeaves, RefusedExactly, CellTold}
 use Rattle.selection.specs.declared.table.Outcome.{Outcome}
 use Rattle.selection.specs.declared.table.Outcome.the-variants.{Passed, Bad, Refused}
 use Rattle.selection.specs.declared.table.Report.{Report}
@@ -26,34 +26,16 @@ four D =
 
 module _ {t : List ℕ} {k : ℕ} where
   -- a witness is a point that leaves
-  of-against : {D : ℕ} {P : ℤ} → Against (k / 128) (k % 128) (digit (getD t k 0)) D P → Leaves t k D P
-  of-against {D} {P} a = record { point = a .point; out = λ w. a .broken (four D (P -ℤ pos D *ℤ digit (getD t k 0)) .1 w) }
+  of-against : {D : ℕ} {P : ℤ} → Against (k / 128) (k % 128) (digit (getD t k 0)) D P ↔ Leaves t k D P
+  of-against {D} {P} =
+      let z = four D (P -ℤ pos D *ℤ digit (getD t k 0)) in
+      ((λ a. record { point = a .point; out = λ w. a .broken (z .1 w) }), λ l. record { point = l .point; broken = λ w. l .out (z .0 w) })
 
-  to-against : {D : ℕ} {P : ℤ} → Leaves t k D P → Against (k / 128) (k % 128) (digit (getD t k 0)) D P
-  to-against {D} {P} l = record { point = l .point; broken = λ w. l .out (four D (P -ℤ pos D *ℤ digit (getD t k 0)) .0 w) }
-
-  of-bad : BadAt t k → SomeLeaves t k
-  of-bad b = record { divisor = b .divisor; remainder = b .remainder; leaves = of-against (b .against) }
-
-  to-bad : SomeLeaves t k → BadAt t k
-  to-bad s = record { divisor = s .divisor; remainder = s .remainder; against = to-against (s .leaves) }
+  of-bad : BadAt t k ↔ SomeLeaves t k
+  of-bad = ((λ b. record { divisor = _; remainder = _; leaves = of-against .0 (b .against) }), λ s. record { divisor = _; remainder = _; against = of-against .1 (s .leaves) })
 
 kept : {t : List ℕ} → Passes t → (k : ℕ) → k < 2048 → SomeLeaves t k → ⊥
-kept p k h s = let a = to-against (s .leaves) in a .broken (p .allowed k h _ _ (a .point))
-
-first-leaves : {t : List ℕ} {r c D : ℕ} {P : ℤ} (n : ℕ) → FirstBad t r c D P
-    → FirstLeaves t (record { refusal = refusal 10 (128 * r + c); count = n; row = r; column = c; divisor = D; remainder = P })
-first-leaves {t} {r} {c} {D} {P} n f =
-    let k = 128 * r + c in
-    let w : LeastWitness (k / 128) (k % 128) (digit (getD t k 0)) D P = rw (cell-row r c (f .column), cell-column r c (f .column)) (f .witness) in
-    record {
-      row = sym (cell-row r c (f .column));
-      column = sym (cell-column r c (f .column));
-      cell = record { here = of-bad (f .first .here); before = λ j h s. f .first .before j h (to-bad s) };
-      leaves = of-against (w .against);
-      divisor-least = λ D P l. w .divisor-least D P (to-against l);
-      remainder-least = λ P l. w .remainder-least P (to-against l);
-    }
+kept p k h s = not-allowed (of-bad .1 s .against) (p .allowed k h)
 
 pub refused-exactly : {t : List ℕ} {a : Report} → Table t → Checked t a → RefusedExactly t (reportNumbers a)
 refused-exactly {t} {a} h x = go (a .count) (a .outcome) (x .means)
@@ -65,12 +47,23 @@ refused-exactly {t} {a} h x = go (a .count) (a .outcome) (x .means)
       first = λ e. absurd (omega arith);
       otherwise = λ e. refl;
     }
-    go n (Bad b) w = record {
-      when = ((λ e. let f = w .2 in let hr = f .row in let hc = f .column in (128 * b .row + b .column, omega arith, of-bad (f .first .here))), λ l. refl);
-      count = tally-as (λ k. of-bad) (λ k. to-bad) (w .1);
-      first = λ e. first-leaves n (w .2);
-      otherwise = λ e. absurd (e refl);
-    }
+    go n (Bad b) w =
+        let k = 128 * b .row + b .column in
+        let f = w .2 in
+        let l : LeastWitness (k / 128) (k % 128) (digit (getD t k 0)) (b .witness .divisor) (b .witness .remainder) = rw (cell-row (b .row) (b .column) (f .column), cell-column (b .row) (b .column) (f .column)) (f .witness) in
+        record {
+          when = ((λ e. (k, omega (arith, f .row, f .column), of-bad .0 (f .first .here))), λ l. refl);
+          count = tally-as (λ k h. of-bad .0) (λ k h. of-bad .1) (w .1);
+          first = λ e. record {
+            row = sym (cell-row (b .row) (b .column) (f .column));
+            column = sym (cell-column (b .row) (b .column) (f .column));
+            cell = record { here = of-bad .0 (f .first .here); before = λ j h s. f .first .before j h (of-bad .1 s) };
+            leaves = of-against .0 (l .against);
+            divisor-least = λ D P m. l .divisor-least D P (of-against .1 m);
+            remainder-least = λ P m. l .remainder-least P (of-against .1 m);
+          };
+          otherwise = λ e. absurd (e refl);
+        }
     go n (Refused f) w = no-table h (w .0)
 
 pub cell-told : {r c b : ℕ} → IsCell r c b → (v : CellVerdict) → CellChecked r c b v → CellTold r c b (cellNumbers v)

@@ -1,10 +1,10 @@
 -- The names that the proofs of a call's refusals share. Nothing is defined here. (The types that the code declares are imported where they are used: a crate hands them on from where they are declared alone.)
 pub use Rattle.selection.specs.Answer.{refusal, refusalOf, firstOf, answerBy}
-pub use Rattle.selection.specs.Refusals.{Condition, below, belowℤ, atMost, eitherOf, Holds, Rule, Wrongs, firstRefusal, FirstRefusal, RefusedBy, Refuses}
+pub use Rattle.selection.specs.Refusals.{Condition, below, belowℤ, atMost, eitherOf, Holds, Rule, Wrongs, firstRefusal, IsFirstRefusal, RefusedBy, Refuses}
 unfoldable pub use Rattle.selection.specs.Refusals.{rank}
 unfoldable pub use Rattle.selection.specs.Table.{tableRules}
 pub use Rattle.selection.proofs.ConditionTests.{holds-decides}
 pub use Rattle.selection.proofs.OneRule.{found, not-found}
-pub use Rattle.selection.proofs.Rules.{WellFormed, Meets, rules-meet, first-is, admits, refused-by, refused-is, refuses, refuses-lent}
+pub use Rattle.selection.proofs.Rules.{WellFormed, first-is, clear, admits, refused-by, either-way, refused-one, refuses-one, refuses, refuses-lent}
 pub use Rattle.selection.proofs.Clear.{none-clear, cleared, clear-admits, refused-at}
-pub use Rattle.selection.proofs.Orders.{lent, passed-last, answered}
+pub use Rattle.selection.proofs.Orders.{lent, passed-last}

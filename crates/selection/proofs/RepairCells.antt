@@ -1,16 +1,16 @@
 -- The repair, cell by cell: the computed one is the specification's; and what is claimed of every repair.
-use Rattle.laws.proofs.Basics.{_≡_, refl, sym, _∙_, Bool, true, false, cond, _||_, List, _⊎_, inl, inr, ⊎-elim, ℕ, _/_, _%_, _≤_, _<_, arith, ltb, eqb, ltb-true, ltb-false, eqb-true, eqb-false, length, getD, take, length-take}
+use Rattle.laws.proofs.Basics.{_≡_, refl, sym, _∙_, Bool, true, false, cond, List, _⊎_, inl, inr, ⊎-elim, ℕ, _/_, _%_, _≤_, _<_, arith, length, getD, take, length-take}
 use Rattle.laws.specs.Counting.{Tally}
-use Rattle.laws.proofs.Tests.{Decides, decides-yes, decides-no}
+use Rattle.laws.proofs.Tests.{Decides, less-decides}
 use Rattle.laws.proofs.Counting.{count-tally, tally-most, tally-nothing, tally-some}
-use native.Mathlib.Nat.{not-le-of-lt}
 use lib.Seq.{getD-take, ext-getD}
 use Rattle.selection.specs.Cell.{Allows, digit}
 use Rattle.selection.specs.Table.{Passes}
-use Rattle.selection.specs.Maker.{Made}
-use Rattle.selection.specs.Allowed.{isBad, isReplaced}
+use Rattle.selection.specs.Allowed.{aboveFour, isBad, isReplaced}
 use Rattle.selection.specs.Computed.{madeAt, repairedByte, changeMark}
 use Rattle.selection.specs.Repair.{ReplacedAt, DifferAt, RepairedAt, Repaired, RepairClaim}
+use Rattle.selection.specs.Refusals.{differ, holds}
+use Rattle.selection.proofs.ConditionTests.{decides-or, holds-or-not, holds-decides}
 use Rattle.selection.proofs.BiasedPoints.{not-allowed, allows-unless}
 use Rattle.selection.proofs.Allowed.{cell-decides}
 use Rattle.laws.proofs.Comparisons.{not-below, equal}
@@ -23,14 +23,10 @@ use Rattle.selection.proofs.UniqueMade.{byte-one}
 module _ (t : List ℕ) (k : ℕ) (h : k < 2048) where
   -- the test tells whether the byte is to be changed
   pub replaced-decides : Decides (ReplacedAt t k) (isReplaced t k)
-  replaced-decides = go (ltb 4 (getD t k 0)) refl
-    where
-      go : (x : Bool) → ltb 4 (getD t k 0) ≡ x → Decides (ReplacedAt t k) (x || isBad t k)
-      go true e = decides-yes (inl (ltb-true 4 (getD t k 0) e))
-      go false e =
-          let l : getD t k 0 ≤ 4 = ltb-false 4 (getD t k 0) e in
-          let d = cell-decides t k (record { row = omega arith; column = omega arith; byte = l }) in
-          record { yes = λ f. inr (d .yes f); no = λ f. ⊎-elim (λ m. not-le-of-lt m l) (d .no f) }
+  replaced-decides = decides-or (aboveFour t k) (isBad t k) (less-decides 4 (getD t k 0)) (λ n. cell-decides t k (record { row = omega arith; column = omega arith; byte = not-below n }))
+
+  replaced : ReplacedAt t k ⊎ (ReplacedAt t k → ⊥)
+  replaced = holds-or-not (isReplaced t k) replaced-decides
 
   -- it is not where it holds an allowed digit, and only there
   pub not-replaced : {b : ℕ} → b ≤ 4 → Allows (k / 128) (k % 128) (digit b) → getD t k 0 ≡ b → ReplacedAt t k → ⊥
@@ -46,54 +42,37 @@ module _ (t : List ℕ) (k : ℕ) (h : k < 2048) where
   unfolding repairedByte changeMark
   cell-repaired = go (isReplaced t k) replaced-decides
     where
-      m : Made (k / 128) (k % 128) (madeAt k)
-      m = made-right (k / 128) (k % 128) (omega arith) (omega arith)
-
       go : (x : Bool) → Decides (ReplacedAt t k) x → RepairedAt t k (cond x (madeAt k) (getD t k 0)) (cond x 1 0)
-      go true d = record { made = λ w. m; copied = λ n. absurd (n (d .yes refl)); marked = λ n. refl; unmarked = λ e. absurd (not-replaced (m .byte) (m .allowed) e (d .yes refl)) }
+      go true d =
+          let m = made-right (k / 128) (k % 128) (omega arith) (omega arith) in
+          record { made = λ w. m; copied = λ n. absurd (n (d .yes refl)); marked = λ n. refl; unmarked = λ e. absurd (not-replaced (m .byte) (m .allowed) e (d .yes refl)) }
       go false d = record { made = λ w. absurd (d .no refl w); copied = λ n. refl; marked = λ n. absurd (n refl); unmarked = λ e. refl }
 
   module _ {b m : ℕ} (r : RepairedAt t k b m) where
     -- what stands there is an allowed digit
     pub allowed-byte : (b ≤ 4) × Allows (k / 128) (k % 128) (digit b)
-    allowed-byte = go (isReplaced t k) replaced-decides
-      where
-        go : (x : Bool) → Decides (ReplacedAt t k) x → (b ≤ 4) × Allows (k / 128) (k % 128) (digit b)
-        go true d = let y = r .made (d .yes refl) in (y .byte, y .allowed)
-        go false d = rw (r .copied (d .no refl)) (copied-byte (d .no refl))
+    allowed-byte = ⊎-elim (λ w. let y = r .made w in (y .byte, y .allowed)) (λ n. rw (r .copied n) (copied-byte n)) replaced
 
     -- only a byte that must be is changed
     pub changed-replaced : (getD t k 0 ≡ b → ⊥) → ReplacedAt t k
-    changed-replaced n = go (isReplaced t k) replaced-decides
-      where
-        go : (x : Bool) → Decides (ReplacedAt t k) x → ReplacedAt t k
-        go true d = d .yes refl
-        go false d = absurd (n (sym (r .copied (d .no refl))))
+    changed-replaced n = ⊎-elim (λ w. w) (λ c. absurd (n (sym (r .copied c)))) replaced
 
     pub replaced-changed : ReplacedAt t k → getD t k 0 ≡ b → ⊥
     replaced-changed w e = not-replaced (allowed-byte .0) (allowed-byte .1) e w
 
+    pub changed-decides : Decides (getD t k 0 ≡ b → ⊥) (isReplaced t k)
+    changed-decides = record { yes = λ e. replaced-changed (replaced-decides .yes e); no = λ e n. replaced-decides .no e (changed-replaced n) }
+
   -- and there is one repair of a cell
   pub repaired-one : {b c m n : ℕ} → RepairedAt t k b m → RepairedAt t k c n → (b ≡ c) × (m ≡ n)
-  repaired-one {b} {c} {m} {n} x y = go (isReplaced t k) replaced-decides
-    where
-      go : (z : Bool) → Decides (ReplacedAt t k) z → (b ≡ c) × (m ≡ n)
-      go true d = let w = d .yes refl in (byte-one (x .made w) (y .made w), x .marked (replaced-changed x w) ∙ sym (y .marked (replaced-changed y w)))
-      go false d = let w = d .no refl in (x .copied w ∙ sym (y .copied w), x .unmarked (sym (x .copied w)) ∙ sym (y .unmarked (sym (y .copied w))))
+  repaired-one x y = ⊎-elim
+      (λ w. (byte-one (x .made w) (y .made w), x .marked (replaced-changed x w) ∙ sym (y .marked (replaced-changed y w))))
+      (λ w. (x .copied w ∙ sym (y .copied w), x .unmarked (sym (x .copied w)) ∙ sym (y .unmarked (sym (y .copied w)))))
+      replaced
 
 -- the tally of the cells in which two tables differ
 pub differ-tally : (t u : List ℕ) → (n : ℕ) × Tally (DifferAt t u) 2048 n
-differ-tally t u = (_, count-tally (λ k. differ k) 2048 (λ k h. decides k))
-  where
-    differ : ℕ → Bool
-    differ k = cond (eqb (getD t k 0) (getD u k 0)) false true
-
-    decides : (k : ℕ) → Decides (DifferAt t u k) (differ k)
-    decides k = go (eqb (getD t k 0) (getD u k 0)) refl
-      where
-        go : (x : Bool) → eqb (getD t k 0) (getD u k 0) ≡ x → Decides (DifferAt t u k) (cond x false true)
-        go true e = decides-no (λ n. n (eqb-true (getD t k 0) (getD u k 0) e))
-        go false e = decides-yes (eqb-false (getD t k 0) (getD u k 0) e)
+differ-tally t u = (_, count-tally (λ k. holds (differ (getD t k 0) (getD u k 0))) 2048 (λ k h. holds-decides (differ (getD t k 0) (getD u k 0))))
 
 -- ---- the table
 
@@ -118,10 +97,8 @@ module _ {t rs cs a b : List ℕ} {n : ℕ} (room : 2048 ≤ length rs) (size : 
   passes-unchanged p = let l = repaired-least t p 0 (tally-nothing 2048 (λ k h d. d refl)) in omega arith
 
   unchanged-same : n ≡ 0 → take 2048 a ≡ t
-  unchanged-same z = ext-getD 0 (take 2048 a) t (first-size ∙ sym size) (λ k l. let h : k < 2048 = omega (arith, first-size) in first-at k h ∙ sym (equal (getD t k 0) (getD a k 0) (λ d. here k h d)))
-    where
-      here : (k : ℕ) → k < 2048 → DifferAt t a k → ⊥
-      here k h d = omega (arith, tally-some (r .count) k h d)
+  unchanged-same z = ext-getD 0 (take 2048 a) t (first-size ∙ sym size) (λ k l.
+      let h : k < 2048 = omega (arith, first-size) in first-at k h ∙ sym (equal (getD t k 0) (getD a k 0) (λ d. omega (arith, tally-some (r .count) k h d))))
 
   pub repaired-claim : RepairClaim t a n
   repaired-claim = record {

@@ -1,11 +1,11 @@
 -- The code's two loops over a row: where each stands before column c, and what one turn does.
-use Rattle.laws.proofs.Basics.{_≡_, refl, ap, subst, _∙_, Bool, true, false, not, cond, _||_, List, ℕ, _+_, _*_, _-_, _/_, _%_, _≤_, _<_, arith, ltb, eqb, length, getD, set, length-set, length-append, length-drop, sym}
+use Rattle.laws.proofs.Basics.{_≡_, refl, ap, subst, _∙_, Bool, true, false, not, cond, _||_, List, ℕ, _+_, _*_, _-_, _≤_, _<_, arith, ltb, eqb, length, getD, set, length-set, length-append, length-drop, sym}
 use Rattle.laws.specs.Lists.{filled}
 use Rattle.laws.proofs.Lists.{list-length, fill-more, fill-length, fill-at}
 use Rattle.laws.specs.Counting.{countBelow}
 use Rattle.laws.proofs.Sums.{sum-more}
 use Rattle.selection.specs.Allowed.{isReplaced}
-use Rattle.selection.specs.Maker.{Made, Limits, stepAt}
+use Rattle.selection.specs.Maker.{Limits, stepAt}
 use Rattle.selection.specs.Multiples.{RowOf, allowsBy}
 use Rattle.selection.specs.Computed.{madeAt, repairedByte, changeMark}
 use Rattle.selection.specs.RepairRows.{FillsRow}
@@ -23,14 +23,10 @@ mark-is t {m} c o h e = e ∙ ap (λ (x : Bool). cond {A = ℕ} (ltb 4 (getD t (
 
 pub byte-is : (t : List ℕ) {r : ℕ} {l : List ℕ} (c : ℕ) {n b : ℕ} → r ≤ 15 → c ≤ 127 → Limits r l → n ≡ changeMark t (128 * r + c) → b ≡ cond (eqb n 0) (getD t (128 * r + c) 0) (stepAt l c) → b ≡ repairedByte t (128 * r + c)
 unfolding changeMark repairedByte
-byte-is t {r} {l} c {n} {b} hr hc g e f =
-    go (isReplaced t (128 * r + c)) (f ∙ rw e refl)
+byte-is t {r} {l} c {n} {b} hr hc g e f = go (isReplaced t (128 * r + c)) (f ∙ rw e refl)
   where
-    made : Made ((128 * r + c) / 128) ((128 * r + c) % 128) (stepAt l c)
-    made = rw (cell-row r c hc, cell-column r c hc) (g .steps c hc)
-
     go : (x : Bool) → b ≡ cond (eqb (cond {A = ℕ} x 1 0) 0) (getD t (128 * r + c) 0) (stepAt l c) → b ≡ cond x (madeAt (128 * r + c)) (getD t (128 * r + c) 0)
-    go true k = k ∙ made-at (omega arith) made
+    go true k = k ∙ made-at (omega arith) (rw (cell-row r c hc, cell-column r c hc) (g .steps c hc))
     go false k = k
 
 -- ---- the loops
@@ -41,21 +37,19 @@ pub record RowFilled (f : ℕ → ℕ) (r : ℕ) (a₀ a : List ℕ) (c : ℕ) :
   pub size : length a ≡ length a₀
   pub values : (o : List ℕ) → a₀ ≡ filled f (128 * r) o → a ≡ filled f (128 * r + c) o
 
-fill-size : (f : ℕ → ℕ) (i : ℕ) (o : List ℕ) → length (filled f i o) ≡ i + (length o - i)
-fill-size f i o = rw (length-append, length-drop, list-length f 0 i)
-
 module _ (f : ℕ → ℕ) (r : ℕ) (a₀ : List ℕ) where
   pub row-begins : RowFilled f r a₀ a₀ 0
   row-begins = let n : 128 * r + 0 ≡ 128 * r = omega arith in record { within = omega arith; size = refl; values = λ o e. rw n e }
 
   -- one value more of a list with room for it
   pub row-more : {a : List ℕ} {c x : ℕ} → RowFilled f r a₀ a c → r ≤ 15 → c < 128 → 2048 ≤ length a₀ → x ≡ f (128 * r + c) → RowFilled f r a₀ (set a (128 * r + c) x) (c + 1)
-  row-more {a} {c} {x} s hr hc room v = record { within = omega arith; size = simp length-set (s .size); values = values }
-    where
-      values : (o : List ℕ) → a₀ ≡ filled f (128 * r) o → set a (128 * r + c) x ≡ filled f (128 * r + (c + 1)) o
-      values o e =
-          let n : 128 * r + (c + 1) ≡ 128 * r + c + 1 = omega arith in
-          rw (s .values o e, v, n) (fill-more f o (128 * r + c) (omega (arith, fill-size f (128 * r) o, ap length e)))
+  row-more {a} {c} {x} s hr hc room v =
+      let n : 128 * r + (c + 1) ≡ 128 * r + c + 1 = omega arith in
+      record {
+        within = omega arith;
+        size = simp length-set (s .size);
+        values = λ o e. rw (s .values o e, v, n) (fill-more f o (128 * r + c) (omega (arith, simp (length-append, length-drop, list-length f 0 (128 * r)) at (ap length e))));
+      }
 
   pub row-ends : {a : List ℕ} {c : ℕ} → RowFilled f r a₀ a c → 128 ≤ c → FillsRow f r a₀ a
   row-ends {a} {c} s h o x = let e : c ≡ 128 = omega (arith, s .within) in s .values o x ∙ ap (λ (i : ℕ). filled f (128 * r + i) o) e

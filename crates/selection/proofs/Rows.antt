@@ -1,23 +1,11 @@
 -- A row's multiples are columns.
-use Rattle.laws.proofs.Basics.{_≡_, refl, sym, subst, Bool, true, false, cond, ℕ, _+_, _*_, _-_, _^_, _≤_, arith, T, ltb, eqb, ltb-true, ltb-false}
+use Rattle.laws.proofs.Basics.{_≡_, refl, sym, subst, Bool, true, false, cond, ℕ, _+_, _*_, _-_, _^_, _≤_, arith, needs, T, ltb, eqb, ltb-true, ltb-false}
 use Rattle.selection.specs.Multiples.{Bounds, RowOf, multiplesOf, hasPoint}
 use Rattle.selection.specs.declared.multiples.RowMultiples.{RowMultiples}
 
 -- each column is the last on the lower side of its multiple
 pub bounds : (r : ℕ) → r ≤ 15 → Bounds (multiplesOf r) ((16 + r) * 2 ^ 56) ((17 + r) * 2 ^ 56 - 1)
-bounds r h =
-    record {
-      minus8 = λ c. ((λ e. omega arith), (λ e. omega arith));
-      minus5 = λ c. ((λ e. omega arith), (λ e. omega arith));
-      minus4 = λ c. ((λ e. omega arith), (λ e. omega arith));
-      minus2 = λ c. ((λ e. omega arith), (λ e. omega arith));
-      minus1 = λ c. ((λ e. omega arith), (λ e. omega arith));
-      plus1 = λ c. ((λ e. omega arith), (λ e. omega arith));
-      plus2 = λ c. ((λ e. omega arith), (λ e. omega arith));
-      plus4 = λ c. ((λ e. omega arith), (λ e. omega arith));
-      plus5 = λ c. ((λ e. omega arith), (λ e. omega arith));
-      plus8 = λ c. ((λ e. omega arith), (λ e. omega arith));
-    }
+bounds r h = search needs
 
 -- the multiples lie from column 19 to column 106: past the last and up to the first there is no point
 pub record Columns (m : RowMultiples) : Type 0 where
@@ -32,23 +20,8 @@ pub record Columns (m : RowMultiples) : Type 0 where
   pub plus5 : m .plus5 ≤ 106
   pub plus8 : m .plus8 ≤ 106
 
-in-columns : (r : ℕ) → r ≤ 15 → Columns (multiplesOf r)
-in-columns r h =
-    record {
-      minus8 = (omega arith, omega arith);
-      minus5 = omega arith;
-      minus4 = omega arith;
-      minus2 = omega arith;
-      minus1 = omega arith;
-      plus1 = omega arith;
-      plus2 = omega arith;
-      plus4 = omega arith;
-      plus5 = omega arith;
-      plus8 = omega arith;
-    }
-
 pub columns : {m : RowMultiples} → RowOf m → Columns m
-columns {m} o = subst Columns (sym (o .is)) (in-columns (m .row) (o .small))
+columns {m} o = subst Columns (sym (o .is)) (search needs)
 
 -- a cell that has a point is between the outer two
 pub point-columns : {m : RowMultiples} {c : ℕ} → RowOf m → hasPoint m c ≡ true → (20 ≤ c) × (c ≤ 106)

@@ -1,34 +1,90 @@
 -- The search of a cell from below and from above, each from its own least divisor: a second computation of what the test of a cell finds. Only laws cite it: `search-right` says what it
 -- finds, `tested` that the test finds the same in every cell.
-use Rattle.laws.proofs.Basics.{cond, ℕ, _+_, _*_, _-_, _^_, ltb, leb}
+use Rattle.laws.proofs.Basics.{_≡_, refl, cond, _⊎_, inl, inr, ⊎-elim, ℕ, _+_, _*_, _-_, _^_, _≤_, _<_, min, arith, ltb, ltb→lt, nltb→le}
+use Rattle.laws.proofs.Tests.{by-cond, up-to-four}
 use Rattle.selection.specs.Cell.{span}
-use Rattle.selection.specs.Multiples.{Finding, lowDivisor, highDivisor, reach, lowAt, highAt}
+use Rattle.selection.specs.Multiples.{Finding, above, under, leastPast, leastDivisor, lowDivisor, highDivisor, reach, lowAt, highAt}
 use Rattle.selection.specs.Multiples.Finding.{NoWitness, LeastAt}
+use Rattle.selection.proofs.Breaking.{Low, High, PointWith, Breaks, IsLeast}
 
--- the least remainder of a point at d, where it is too low for b
-abbrev pub tooLowAt : ℕ → ℕ → ℕ → ℕ → Finding
-tooLowAt r c b d =
-    let w = lowAt d c in
-    cond (ltb d ((17 + r) * 2 ^ 56)) (cond (ltb (w - (2 ^ 63 - reach d)) (b * d)) (LeastAt d w) NoWitness) NoWitness
+-- the remainder w at the divisor d, if d is the row's and x is below y
+abbrev pub foundIf : ℕ → ℕ → ℕ → ℕ → ℕ → Finding
+foundIf r d w x y = cond (ltb d ((17 + r) * 2 ^ 56)) (cond (ltb x y) (LeastAt d w) NoWitness) NoWitness
 
--- the least remainder at d that is too high for b, where it is a point's
-abbrev pub tooHighAt : ℕ → ℕ → ℕ → ℕ → Finding
-tooHighAt r c b d =
-    let w = highAt d c b in
-    cond (ltb d ((17 + r) * 2 ^ 56)) (cond (leb w (c * 2 ^ 57 + span)) (cond (leb w (2 ^ 63 + reach d)) (LeastAt d w) NoWitness) NoWitness) NoWitness
-
+-- the least remainder of a point at the least d, where it is too low for b
 abbrev pub tooLow : ℕ → ℕ → ℕ → Finding
-tooLow r c b = tooLowAt r c b (lowDivisor ((16 + r) * 2 ^ 56) c b)
+tooLow r c b =
+    let d = lowDivisor ((16 + r) * 2 ^ 56) c b in
+    let w = lowAt d c in
+    foundIf r d w (w - (2 ^ 63 - reach d)) (b * d)
 
+-- the least remainder at the least d that is too high for b, where it is a point's
 abbrev pub tooHigh : ℕ → ℕ → ℕ → Finding
-tooHigh r c b = tooHighAt r c b (highDivisor ((16 + r) * 2 ^ 56) c b)
+tooHigh r c b =
+    let d = highDivisor ((16 + r) * 2 ^ 56) c b in
+    let w = highAt d c b in
+    foundIf r d w w (min (c * 2 ^ 57 + span) (2 ^ 63 + reach d) + 1)
 
--- the one with the lesser divisor
-abbrev pub lesserOf : Finding → Finding → Finding
-lesserOf NoWitness g = g
-lesserOf (LeastAt d w) NoWitness = LeastAt d w
-lesserOf (LeastAt d w) (LeastAt d' w') = cond (ltb d' d) (LeastAt d' w') (LeastAt d w)
+-- what one of the two finds: no cell has both
+abbrev pub orElse : Finding → Finding → Finding
+orElse NoWitness g = g
+orElse (LeastAt d w) g = LeastAt d w
 
--- outside columns 20 to 106 no cell has a point
 abbrev pub searchOf : ℕ → ℕ → ℕ → Finding
-searchOf r c b = cond (ltb c 20) NoWitness (cond (ltb 106 c) NoWitness (lesserOf (tooLow r c b) (tooHigh r c b)))
+searchOf r c b = orElse (tooLow r c b) (tooHigh r c b)
+
+-- what `leastDivisor` asks of a divisor of the row r: it is the least of which that holds
+record Reached (r u v k D : ℕ) : Type 0 where
+  from : (16 + r) * 2 ^ 56 ≤ D
+  near : u ≤ 8 * D
+  past : leastPast k v ≤ D
+
+least-reached : (r u v k : ℕ) → let d = leastDivisor ((16 + r) * 2 ^ 56) u v k in Reached r u v k d × ((D : ℕ) → Reached r u v k D → d ≤ D)
+least-reached r u v k = omega arith
+
+-- the divisors of the points with K are in R. Where d is the least in R, x is below y if there is a point, and then w is the least remainder at d
+record Sought (r c : ℕ) (K : ℕ → ℕ → Type 0) (R : ℕ → Type 0) (d w x y : ℕ) : Type 0 where
+  reached : (D W : ℕ) → PointWith r c K D W → R D
+  some : (D W : ℕ) → PointWith r c K D W → d ≤ D → x < y
+  found : d < (17 + r) * 2 ^ 56 → x < y → PointWith r c K d w × ((W : ℕ) → PointWith r c K d W → w ≤ W)
+
+sought-least : {r c : ℕ} {K : ℕ → ℕ → Type 0} {R : ℕ → Type 0} {d w x y : ℕ} → Sought r c K R d w x y → ((D : ℕ) → R D → d ≤ D) → IsLeast (PointWith r c K) (foundIf r d w x y)
+sought-least {r} {c} {K} {R} {d} {w} {x} {y} s l =
+    by-cond (IsLeast (PointWith r c K)) (ltb d ((17 + r) * 2 ^ 56)) _ _
+    (λ t. by-cond (IsLeast (PointWith r c K)) (ltb x y) _ _
+    (λ u. let h = s .found (ltb→lt _ _ t) (ltb→lt _ _ u) in (h .0, least, h .1))
+    (λ u D W p. omega (arith, nltb→le, s .some D W p (least D W p))))
+    (λ t D W p. omega (arith, nltb→le, least D W p))
+  where
+    least : (D W : ℕ) → PointWith r c K D W → d ≤ D
+    least D W p = l D (s .reached D W p)
+
+module _ (r c : ℕ) (hr : r ≤ 15) where
+  low-sought : (b : ℕ) → b ≤ 4 → (d w : ℕ) → Reached r (under c) (above c) (4 - b) d → w ≡ lowAt d c → Sought r c (Low b) (Reached r (under c) (above c) (4 - b)) d w (w - (2 ^ 63 - reach d)) (b * d)
+  low-sought = up-to-four _ (omega arith) (omega arith) (omega arith) (omega arith) (omega arith)
+
+  high-sought : (b : ℕ) → b ≤ 4 → (d w : ℕ) → Reached r (above c) (under c) b d → w ≡ highAt d c b → Sought r c (High b) (Reached r (above c) (under c) b) d w w (min (c * 2 ^ 57 + span) (2 ^ 63 + reach d) + 1)
+  high-sought = up-to-four _ (omega arith) (omega arith) (omega arith) (omega arith) (omega arith)
+
+  -- a cell has no point that is too low and one that is too high
+  apart : (b : ℕ) → b ≤ 4 → {D W D' W' : ℕ} → PointWith r c (Low b) D W → PointWith r c (High b) D' W' → ⊥
+  apart = up-to-four _ (omega arith) (omega arith) (omega arith) (omega arith) (omega arith)
+
+-- the search is right
+pub search-right : (r c b : ℕ) → r ≤ 15 → b ≤ 4 → IsLeast (Breaks r c b) (searchOf r c b)
+search-right r c b hr hb =
+    let l = least-reached r (under c) (above c) (4 - b) in
+    let h = least-reached r (above c) (under c) b in
+    join (tooLow r c b) (tooHigh r c b) (sought-least (low-sought r c hr b hb _ _ (l .0) refl) (l .1)) (sought-least (high-sought r c hr b hb _ _ (h .0) refl) (h .1))
+  where
+    by-side : {D W : ℕ} {X : Type 0} → (PointWith r c (Low b) D W → X) → (PointWith r c (High b) D W → X) → Breaks r c b D W → X
+    by-side f g k = ⊎-elim (λ l. f (record { point = k .point; side = l })) (λ h. g (record { point = k .point; side = h })) (k .side)
+
+    -- the points of one side are all, where the other has none
+    all : {K : ℕ → ℕ → Type 0} (g : Finding) → ((D W : ℕ) → K D W → Low b D W ⊎ High b D W) → ((D W : ℕ) → Breaks r c b D W → PointWith r c K D W) → IsLeast (PointWith r c K) g → IsLeast (Breaks r c b) g
+    all NoWitness f e s = λ D W k. s D W (e D W k)
+    all (LeastAt d w) f e s = (record { point = s .0 .point; side = f d w (s .0 .side) }, (λ D W k. s .1 D W (e D W k)), (λ W k. s .2 W (e d W k)))
+
+    join : (g h : Finding) → IsLeast (PointWith r c (Low b)) g → IsLeast (PointWith r c (High b)) h → IsLeast (Breaks r c b) (orElse g h)
+    join NoWitness h p q = all h (λ D W. inr) (λ D W. by-side (λ l. absurd (p D W l)) (λ x. x)) q
+    join (LeastAt d w) h p q = all (LeastAt d w) (λ D W. inl) (λ D W. by-side (λ x. x) (λ x. absurd (apart r c hr b hb (p .0) x))) p

@@ -2,8 +2,7 @@
 use Rattle.laws.proofs.Basics.{_≡_, subst, List, ⊎-elim, ℕ, _+_, _*_, _/_, _%_, _≤_, _<_, arith, ℤ, length, getD, List·getD-eq-default}
 use Rattle.laws.specs.Search.{First}
 use Rattle.laws.proofs.Comparisons.{not-below}
-use native.Mathlib.Nat.{not-le-of-lt}
-use native.Mathlib.Decide.{decLt}
+use Rattle.laws.proofs.Division.{le-or-lt}
 use Rattle.selection.specs.Cell.{LeastWitness, IsCell, digit}
 use Rattle.selection.specs.Table.{Table, BadAt, FirstBad, NoTable}
 
@@ -12,11 +11,7 @@ pub table-of : (t : List ℕ) → length t ≡ 2048 → ((k : ℕ) → k < 2048 
 table-of t e h =
     record {
       size = e;
-      digits = λ k.
-          elim (decLt k 2048) [
-            | yes l ↦ not-below (h k l)
-            | no n ↦ rw (List·getD-eq-default t 0 {n = k} (not-below (λ l. n (omega arith)))) (omega arith)
-          ];
+      digits = λ k. ⊎-elim (λ n. rw (List·getD-eq-default t 0 {n = k} (omega arith)) (omega arith)) (λ l. not-below (h k l)) (le-or-lt 2048 k);
     }
 
 -- index f as a cell
@@ -32,7 +27,7 @@ first-bad-of {t} {f} {D} {P} h b w =
 
 -- no table is refused as none
 pub no-table : {t : List ℕ} {n p : ℕ} {X : Type 0} → Table t → NoTable t n p → X
-no-table a w = absurd (⊎-elim (λ l. l .1 .1 (a .size)) (⊎-elim (λ r. not-le-of-lt (r .1 .1 .here) (a .digits _)) (λ z. z)) (w .holds))
+no-table {p = p} a w = absurd (⊎-elim (λ l. l .1 .1 (a .size)) (⊎-elim (λ r. omega (arith, r .1 .1 .here, a .digits p)) (λ z. z)) (w .holds))
 
 -- a cell's index is below 2,048 and gives back its row and its column
 pub cell-row : (r c : ℕ) → c ≤ 127 → (128 * r + c) / 128 ≡ r

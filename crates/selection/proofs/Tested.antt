@@ -1,13 +1,12 @@
 -- The test of a cell by its row's multiples finds what the search finds: one test that antt computes over all cells and bytes, and one law that carries it to each.
 -- So it is right, and given a row's multiples it gives the verdict of the single cell.
-use Rattle.laws.proofs.Basics.{_≡_, refl, sym, subst, ap, _∙_, Bool, true, false, ℕ, arith, T, eqb, eqb→eq}
+use Rattle.laws.proofs.Basics.{_≡_, refl, sym, subst, ap₂, Bool, true, false, ℕ, arith, T, eqb, eqb→eq}
 use Rattle.laws.proofs.Tests.{upto, upto-at, both, both-left, both-right}
 use Rattle.selection.specs.Cell.{IsCell}
 use Rattle.selection.specs.Multiples.{Finding, multiplesOf, testOf}
 use Rattle.selection.specs.Multiples.Finding.{NoWitness, LeastAt}
-use Rattle.selection.proofs.Search.{searchOf}
+use Rattle.selection.proofs.Search.{searchOf, search-right}
 use Rattle.selection.proofs.Breaking.{Breaks, IsLeast}
-use Rattle.selection.proofs.Searching.{search-right}
 
 abbrev same : Finding → Finding → Bool
 same NoWitness NoWitness = true
@@ -20,7 +19,7 @@ same-eq NoWitness NoWitness t = refl
 same-eq NoWitness (LeastAt d w) t = absurd t
 same-eq (LeastAt d w) NoWitness t = absurd t
 same-eq (LeastAt d w) (LeastAt d' w') t =
-    ap (λ (n : ℕ). LeastAt n w) (eqb→eq d d' (both-left (eqb d d') (eqb w w') t)) ∙ ap (LeastAt d') (eqb→eq w w' (both-right (eqb d d') (eqb w w') t))
+    ap₂ LeastAt (eqb→eq d d' (both-left (eqb d d') (eqb w w') t)) (eqb→eq w w' (both-right (eqb d d') (eqb w w') t))
 
 agree : ℕ → ℕ → ℕ → Bool
 agree r c b = same (testOf (multiplesOf r) c b) (searchOf r c b)
@@ -29,13 +28,10 @@ all-agree : T (upto (λ r. upto (λ c. upto (agree r c) 5) 128) 16)
 unfolding agree
 all-agree = tt
 
-agree-eq : (r c b : ℕ) → T (agree r c b) → testOf (multiplesOf r) c b ≡ searchOf r c b
-unfolding agree
-agree-eq r c b t = same-eq (testOf (multiplesOf r) c b) (searchOf r c b) t
-
 pub tested : {r c b : ℕ} → IsCell r c b → testOf (multiplesOf r) c b ≡ searchOf r c b
+unfolding agree
 tested {r} {c} {b} k =
-    agree-eq r c b (upto-at (agree r c) 5 (upto-at (λ (n : ℕ). upto (agree r n) 5) 128 (upto-at (λ (m : ℕ). upto (λ n. upto (agree m n) 5) 128) 16 all-agree r (omega arith)) c (omega arith)) b (omega arith))
+    same-eq _ _ (upto-at (agree r c) 5 (upto-at (λ (n : ℕ). upto (agree r n) 5) 128 (upto-at (λ (m : ℕ). upto (λ n. upto (agree m n) 5) 128) 16 all-agree r (omega arith)) c (omega arith)) b (omega arith))
 
 -- the test is right
 pub test-right : {r c b : ℕ} → IsCell r c b → IsLeast (Breaks r c b) (testOf (multiplesOf r) c b)

@@ -1,5 +1,5 @@
 -- The single-cell call has one answer: the reported witness is one, and so is the refusal.
-use Rattle.laws.proofs.Basics.{_≡_, refl, sym, subst, ap, ap₂, _∙_, ℕ, _^_, _≤_, arith, ℤ, _≤ℤ_}
+use Rattle.laws.proofs.Basics.{_≡_, refl, sym, ap, _∙_, ℕ, _^_, _≤_, arith, ℤ, _≤ℤ_}
 use native.Mathlib.Nat.{le-antisymm}
 use Rattle.laws.proofs.Diff.{diff, diffs, diff-eq}
 use Rattle.selection.specs.Cell.{LeastWitness, CellChecked}
@@ -10,25 +10,14 @@ use Rattle.selection.proofs.BiasedPoints.{of-point, cell-rules, known-n
 use Rattle.selection.proofs.Rules.{refusal-one}
 
 module _ {r c : ℕ} {q : ℤ} (hr : r ≤ 15) (hc : c ≤ 127) where
-  one-divisor : {D D' : ℕ} {P P' : ℤ} → LeastWitness r c q D P → LeastWitness r c q D' P' → D ≡ D'
-  one-divisor {D} {D'} {P} {P'} a b = le-antisymm (a .divisor-least D' P' (b .against)) (b .divisor-least D P (a .against))
-
-  one-remainder : {D : ℕ} {P P' : ℤ} → LeastWitness r c q D P → LeastWitness r c q D P' → P ≡ P'
-  one-remainder {D} {P} {P'} a b =
-      let x = of-point (omega arith) hr hc (a .against .point) in
-      let y = of-point (omega arith) hr hc (b .against .point) in
-      let l : (diff (x .W) (2 ^ 63)) ≤ℤ (diff (y .W) (2 ^ 63)) = rw (← x .is, ← y .is) (a .remainder-least P' (b .against)) in
-      let m : (diff (y .W) (2 ^ 63)) ≤ℤ (diff (x .W) (2 ^ 63)) = rw (← x .is, ← y .is) (b .remainder-least P (a .against)) in
-      x .is ∙ diff-eq _ _ _ _ .1 (omega (arith, simp diffs at l, simp diffs at m)) ∙ sym (y .is)
-
   pub one-witness : (v w : Witness) → LeastWitness r c q (v .divisor) (v .remainder) → LeastWitness r c q (w .divisor) (w .remainder) → v ≡ w
   one-witness v w a b =
-      let e = one-divisor a b in
-      let b' = subst (λ (D : ℕ). LeastWitness r c q D (w .remainder)) (sym e) b in
-      ap₂ (λ (d : ℕ) (p : ℤ). mk d p) e (one-remainder a b')
-    where
-      mk : ℕ → ℤ → Witness
-      mk d p = record { divisor = d; remainder = p }
+      let e : v .divisor ≡ w .divisor = le-antisymm (a .divisor-least _ _ (b .against)) (b .divisor-least _ _ (a .against)) in
+      let x = of-point (omega arith) hr hc (a .against .point) in
+      let y = of-point (omega arith) hr hc (b .against .point) in
+      let l : (diff (x .W) (2 ^ 63)) ≤ℤ (diff (y .W) (2 ^ 63)) = rw (← x .is, ← y .is) (a .remainder-least (w .remainder) (rw e (b .against))) in
+      let m : (diff (y .W) (2 ^ 63)) ≤ℤ (diff (x .W) (2 ^ 63)) = rw (← x .is, ← y .is) (b .remainder-least (v .remainder) (rw (← e) (a .against))) in
+      λ i. record { divisor = e i; remainder = (x .is ∙ diff-eq _ _ _ _ .1 (omega (arith, simp diffs at l, simp diffs at m)) ∙ sym (y .is)) i }
 
 pub cell-checked-one : {r c b : ℕ} (v w : CellVerdict) → CellChecked r c b v → CellChecked r c b w → v ≡ w
 cell-checked-one C.Allowed C.Allowed j k = refl

@@ -1,14 +1,12 @@
 -- The made byte of a cell, the made table, the limits of a row and what the maker leaves are each one.
-use Rattle.laws.proofs.Basics.{_≡_, refl, sym, ap, ap₂, _∙_, true, false, not, List, [], _∷_, _++_, ⊎-elim, ℕ, zero, suc, _+_, _≤_, _<_, arith, T-not, eqb, eqb-refl, ltb, length, getD, drop, lt-ltb, le-ltb}
-use native.Mathlib.Nat.{le-antisymm, lt-of-not-le, le-of-lt, le-of-suc-le-suc, eq-or-lt-of-le}
-use native.Mathlib.Decide.{decLe}
+use Rattle.laws.proofs.Basics.{_≡_, refl, sym, ap, _∙_, not, cond, List, [], _∷_, _++_, ⊎-elim, ℕ, zero, suc, _≤_, _<_, add-one, arith, T-not, eqb, eqb-refl, ltb, length, getD, drop, lt-ltb, le-ltb}
+use native.Mathlib.Nat.{le-antisymm, le-of-suc-le-suc, eq-or-lt-of-le}
 use lib.Seq.{ext-getD}
-use Rattle.laws.proofs.Tests.{upto-at, up-to-four}
-use Rattle.selection.specs.Maker.{Made, MadeTable, stepAt, Limits, limitsRules, makeRules, Limited, Makes}
-use Rattle.selection.specs.Refusals.{Wrongs, firstRefusal, rank}
-use Rattle.selection.specs.declared.Admission.{Admission}
-use Rattle.selection.specs.declared.Admission.the-variants.{Admitted, Refused}
-use Rattle.selection.proofs.Rules.{WellFormed, Meets, rules-meet, refused-is}
+use Rattle.laws.proofs.Comparisons.{not-below}
+use Rattle.laws.proofs.Tests.{upto-at}
+use Rattle.selection.specs.Maker.{Made, MadeTable, Limits, limitsRules, makeRules, Limited, Makes}
+use Rattle.selection.specs.Refusals.{rank}
+use Rattle.selection.proofs.Rules.{WellFormed, clear, either-way, refused-one, refuses-one}
 use Rattle.selection.specs.declared.Refusal.{Refusal}
 use Rattle.selection.specs.declared.maker.RowLimits.{RowLimits}
 
@@ -21,93 +19,64 @@ made-one {s} {t} a b = ext-getD 0 s t (a .size ∙ sym (b .size)) (λ k l. let j
 
 -- ---- the limits of a row
 
-six-cases : (P : ℕ → Type 0) → P 0 → P 1 → P 2 → P 3 → P 4 → P 5 → (i : ℕ) → i < 6 → P i
-six-cases P p q r s t u zero h = p
-six-cases P p q r s t u (suc i) h = up-to-four (λ k. P (suc k)) q r s t u i (omega arith)
-
--- the bytes of a row, from the first column on
+-- the bytes of a row before each limit, and past the last one 2
 abbrev bytes : List ℕ
-bytes = 2 ∷ 0 ∷ 1 ∷ 2 ∷ 3 ∷ 4 ∷ 2 ∷ []
+bytes = 2 ∷ 0 ∷ 1 ∷ 2 ∷ 3 ∷ 4 ∷ []
 
-bytes-change : (i : ℕ) → i < 6 → getD bytes i 0 ≡ getD bytes (suc i) 0 → ⊥
+bytes-change : (i : ℕ) → i < 6 → getD bytes i 2 ≡ getD bytes (suc i) 2 → ⊥
 bytes-change i h e =
-    T-not (eqb (getD bytes i 0) (getD bytes (suc i) 0)) (upto-at (λ (k : ℕ). not (eqb (getD bytes k 0) (getD bytes (suc k) 0))) 6 tt i h) (rw e (eqb-refl (getD bytes (suc i) 0)))
+    T-not (eqb (getD bytes i 2) (getD bytes (suc i) 2)) (upto-at (λ (k : ℕ). not (eqb (getD bytes k 2) (getD bytes (suc k) 2))) 6 tt i h) (rw e (eqb-refl (getD bytes (suc i) 2)))
 
--- where the byte i of those begins
-abbrev start : List ℕ → ℕ → ℕ
-start l zero = 0
-start l (suc i) = getD l i 0
+-- `stepAt` for the limits f and the bytes bs
+abbrev stepIn : (ℕ → ℕ) → List ℕ → ℕ → ℕ
+stepIn f [] c = 2
+stepIn f (b ∷ bs) c = cond (ltb c (f 0)) b (stepIn (λ j. f (suc j)) bs c)
+
+-- past i limits and before the next stands byte i
+step-is : (f : ℕ → ℕ) (bs : List ℕ) (c i : ℕ) → ((j : ℕ) → j < i → f j ≤ c) → (i < length bs → c < f i) → stepIn f bs c ≡ getD bs i 2
+step-is f [] c i a b = refl
+step-is f (d ∷ bs) c zero a b = rw (lt-ltb c (f 0) (b (omega arith))) refl
+step-is f (d ∷ bs) c (suc i) a b = rw (le-ltb c (f 0) (a 0 (omega arith))) (step-is (λ j. f (suc j)) bs c i (λ j h. a (suc j) (omega arith)) (λ h. b (omega arith)))
 
 module _ {r : ℕ} {l : List ℕ} (h : Limits r l) where
-  start-le : (i : ℕ) → i < 6 → start l i ≤ getD l i 0
-  start-le zero g = omega arith
-  start-le (suc i) g = let e : i + 1 ≡ suc i = omega arith in rw e at (le-of-lt (h .rises i (omega arith)))
+  limit-next : (i : ℕ) → i < 5 → getD l i 0 < getD l (suc i) 0
+  limit-next i g = rw add-one at (h .rises i g)
 
-  -- past the start of byte i all limits before it are passed
-  past : (i : ℕ) → i < 7 → (c : ℕ) → start l i ≤ c → (j : ℕ) → j < i → getD l j 0 ≤ c
-  past zero g c a j k = absurd (omega arith)
-  past (suc i) g c a j k =
-      ⊎-elim (λ e. rw e a) (λ m. past i (omega arith) c (omega (arith, start-le i (omega arith))) j m) (eq-or-lt-of-le (le-of-suc-le-suc k))
+  limit-least : (i : ℕ) → i < 6 → (j : ℕ) → j ≤ i → getD l j 0 ≤ getD l i 0
+  limit-least zero g j k = let e : j ≡ 0 = omega arith in rw e (omega arith)
+  limit-least (suc i) g j k =
+      ⊎-elim (λ e. rw e (omega arith)) (λ m. omega (arith, limit-least i (omega arith) j (omega arith), limit-next i (omega arith))) (eq-or-lt-of-le k)
 
-  not-yet : (i : ℕ) → i < 7 → (c : ℕ) → start l i ≤ c → (j : ℕ) → j < i → ltb c (getD l j 0) ≡ false
-  not-yet i g c a j k = le-ltb c (getD l j 0) (past i g c a j k)
-
-  -- a row holds byte i of those from its start up to the next limit
-  step-in : (i : ℕ) → i < 6 → (c : ℕ) → start l i ≤ c → c < getD l i 0 → stepAt l c ≡ getD bytes i 0
-  step-in i g c a b = six-cases (λ i. ((j : ℕ) → j < i → ltb c (getD l j 0) ≡ false) → ltb c (getD l i 0) ≡ true → stepAt l c ≡ getD bytes i 0)
-      (λ n t. simp t)
-      (λ n t. simp (n 0 (omega arith), t))
-      (λ n t. simp (n 0 (omega arith), n 1 (omega arith), t))
-      (λ n t. simp (n 0 (omega arith), n 1 (omega arith), n 2 (omega arith), t))
-      (λ n t. simp (n 0 (omega arith), n 1 (omega arith), n 2 (omega arith), n 3 (omega arith), t))
-      (λ n t. simp (n 0 (omega arith), n 1 (omega arith), n 2 (omega arith), n 3 (omega arith), n 4 (omega arith), t))
-      i g (not-yet i (omega arith) c a) (lt-ltb c (getD l i 0) b)
-
-  -- and the next from there
-  step-at : (i : ℕ) → i < 6 → stepAt l (getD l i 0) ≡ getD bytes (suc i) 0
-  step-at i g =
-      ⊎-elim
-      (λ e. let n = not-yet 6 (omega arith) (getD l 5 0) (omega arith) in rw e (simp (n 0 (omega arith), n 1 (omega arith), n 2 (omega arith), n 3 (omega arith), n 4 (omega arith), n 5 (omega arith))))
-      (λ k. let e : i + 1 ≡ suc i = omega arith in step-in (suc i) (omega arith) (getD l i 0) (omega arith) (rw e at (h .rises i k)))
-      (eq-or-lt-of-le (le-of-suc-le-suc g))
-
-  limit-small : (i : ℕ) → i < 6 → getD l i 0 ≤ 127
-  limit-small i g = ⊎-elim (λ e. rw e (h .within)) (λ k. omega (arith, past 6 (omega arith) (getD l 5 0) (omega arith) i g, h .within)) (eq-or-lt-of-le (le-of-suc-le-suc g))
-
-module _ {r : ℕ} {l m : List ℕ} (h : Limits r l) (k : Limits r m) where
   -- no limit comes before the other's, where the limits before them are the same
-  not-before : (i : ℕ) → i < 6 → start l i ≡ start m i → getD l i 0 < getD m i 0 → ⊥
-  not-before i g e b =
+  not-before : {m : List ℕ} → Limits r m → (i : ℕ) → i < 6 → ((j : ℕ) → j < i → getD l j 0 ≡ getD m j 0) → getD l i 0 < getD m i 0 → ⊥
+  not-before {m} k i g e b =
       let c = getD l i 0 in
-      let small = limit-small h i g in
-      let low = start-le h i g in
-      bytes-change i g (sym (step-in k i g c (omega arith) b) ∙ byte-one (k .steps c small) (h .steps c small) ∙ step-at h i g)
+      let small : c ≤ 127 = omega (arith, limit-least 5 (omega arith) i (omega arith), h .within) in
+      bytes-change i g (
+      sym (step-is (λ j. getD m j 0) bytes c i (λ j s. omega (arith, e j s, limit-least i g j (omega arith))) (λ _. b))
+      ∙ byte-one (k .steps c small) (h .steps c small)
+      ∙ step-is (λ j. getD l j 0) bytes c (suc i) (λ j s. limit-least i g j (omega arith)) (λ s. limit-next i (omega arith)))
 
 pub limits-one : {r : ℕ} {l m : List ℕ} → Limits r l → Limits r m → l ≡ m
-limits-one {r} {l} {m} h k = ext-getD 0 l m (h .six ∙ sym (k .six)) (λ i g. starts (suc i) (omega (arith, h .six)))
+limits-one {r} {l} {m} h k = ext-getD 0 l m (h .six ∙ sym (k .six)) (λ i g. before 6 (omega arith) i (omega (arith, h .six)))
   where
-    starts : (i : ℕ) → i < 7 → start l i ≡ start m i
-    starts zero g = refl
-    starts (suc i) g =
-        let e = starts i (omega arith) in
-        elim (decLe (getD l i 0) (getD m i 0)) [
-          | yes a ↦ elim (decLe (getD m i 0) (getD l i 0)) [ yes b ↦ le-antisymm a b | no n ↦ absurd (not-before h k i (omega arith) e (lt-of-not-le n)) ]
-          | no n ↦ absurd (not-before k h i (omega arith) (sym e) (lt-of-not-le n))
-        ]
+    before : (n : ℕ) → n ≤ 6 → (j : ℕ) → j < n → getD l j 0 ≡ getD m j 0
+    before zero g j s = absurd (omega arith)
+    before (suc n) g j s =
+        let e = before n (omega arith) in
+        ⊎-elim
+        (λ q. rw q (le-antisymm (not-below (not-before k h n (omega arith) (λ j s. sym (e j s)))) (not-below (not-before h k n (omega arith) e))))
+        (e j)
+        (eq-or-lt-of-le (le-of-suc-le-suc s))
 
 pub limits-rules : (r : ℕ) → WellFormed (limitsRules r)
 unfolding rank
 limits-rules r = record { sound = (tt, λ _. tt); in-order = tt }
 
 pub limited-one : {r : ℕ} (a b : RowLimits) → Limited r a → Limited r b → a ≡ b
-limited-one {r} a b x y = go (firstRefusal (limitsRules r)) (rules-meet (limits-rules r) _ refl)
-  where
-    mk : Refusal → List ℕ → RowLimits
-    mk f l = record { refusal = f; limits = l }
-
-    go : (v : Admission) → Meets (Wrongs (limitsRules r)) v → a ≡ b
-    go Admitted m = ap₂ mk (x .refuses .by .none .1 m ∙ sym (y .refuses .by .none .1 m)) (limits-one (x .limits m) (y .limits m))
-    go (Refused f) m = x .refuses .besides _ _ m ∙ sym (y .refuses .besides _ _ m)
+limited-one {r} a b x y =
+    let l = limits-rules r in
+    refuses-one l (x .refuses) (y .refuses) (λ e f i. record { refusal = f i; limits = limits-one (x .limits (clear l e)) (y .limits (clear l e)) i })
 
 -- ---- the maker
 
@@ -116,8 +85,10 @@ unfolding rank
 make-rules len = record { sound = (tt, λ _. tt); in-order = tt }
 
 pub makes-one : {s t u : List ℕ} (f g : Refusal) → Makes s t f → Makes s u g → (t ≡ u) × (f ≡ g)
-makes-one {s} {t} {u} f g x y = (go (firstRefusal (makeRules (length s))) (rules-meet (make-rules (length s)) _ refl), refused-is (make-rules (length s)) f (x .refuses) ∙ sym (refused-is (make-rules (length s)) g (y .refuses)))
-  where
-    go : (v : Admission) → Meets (Wrongs (makeRules (length s))) v → t ≡ u
-    go Admitted m = let k = x .makes m in let l = y .makes m in k .2 ∙ ap (λ (m : List ℕ). m ++ drop 2048 s) (made-one (k .1) (l .1)) ∙ sym (l .2)
-    go (Refused f) m = x .keeps _ _ m ∙ sym (y .keeps _ _ m)
+makes-one {s} f g x y =
+    let l = make-rules (length s) in (
+      either-way l
+          (λ e. let k = x .makes (clear l e) in let m = y .makes (clear l e) in k .2 ∙ ap (λ (m : List ℕ). m ++ drop 2048 s) (made-one (k .1) (m .1)) ∙ sym (m .2))
+          (λ n p m. x .keeps n p m ∙ sym (y .keeps n p m)),
+      refused-one l (x .refuses) (y .refuses),
+    )

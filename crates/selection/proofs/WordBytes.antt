@@ -1,5 +1,5 @@
 -- Words are written out byte by byte, eight stores a turn: the turns of `bytes_of`'s loop.
-use Rattle.laws.proofs.Basics.{_≡_, sym, ap, _∙_, List, [], _∷_, ℕ, suc, _+_, _*_, _/_, _%_, _^_, _≤_, _<_, arith, length, getD, set}
+use Rattle.laws.proofs.Basics.{_≡_, ap, _∙_, List, [], _∷_, ℕ, suc, _+_, _*_, _/_, _%_, _^_, _≤_, _<_, arith, length, getD, set}
 use Rattle.laws.specs.Lists.{listFrom, filled}
 use Rattle.laws.proofs.Lists.{list-at, fill-more, fill-all}
 use Rattle.selection.specs.WordBytes.{byteOf, wordsBytes}
@@ -21,31 +21,24 @@ stored-fills f o (b ∷ bs) i j is h =
     ∙ stored-fills f o bs i (suc j) (λ m l. is (suc m) (omega arith) ∙ ap (λ (m : ℕ). f (i + m)) (omega arith)) (omega arith)
     ∙ ap (λ (m : ℕ). filled f m o) n
 
-byte-at : (w : List ℕ) (k m : ℕ) → m < 8 → byteOf w (8 * k + m) ≡ getD w k 0 / 2 ^ (8 * m) % 256
-byte-at w k m h =
-    let q : (8 * k + m) / 8 ≡ k = omega arith in
-    let r : (8 * k + m) % 8 ≡ m = omega arith in
-    rw (q, r)
-
 -- bytes 1 to 7 of a word
 abbrev pub laterBytes : ℕ → List ℕ
 laterBytes x = x / 2 ^ 8 % 256 ∷ x / 2 ^ 16 % 256 ∷ x / 2 ^ 24 % 256 ∷ x / 2 ^ 32 % 256 ∷ x / 2 ^ 40 % 256 ∷ x / 2 ^ 48 % 256 ∷ x / 2 ^ 56 % 256 ∷ []
 
-later-at : (x m : ℕ) → m < 7 → getD (laterBytes x) m 0 ≡ x / 2 ^ (8 * (1 + m)) % 256
-unfolding listFrom
-later-at x m h = list-at (λ m. x / 2 ^ (8 * m) % 256) 0 1 7 m h
-
 pub word-more : (w o : List ℕ) {b : List ℕ} (k : ℕ) → b ≡ filled (byteOf w) (8 * k) o → 8 * (k + 1) ≤ length o
     → stored (set b (8 * k) (getD w k 0 % 256)) (8 * k) 1 (laterBytes (getD w k 0)) ≡ filled (byteOf w) (8 * (k + 1)) o
+unfolding listFrom
 word-more w o k e h =
     let x = getD w k 0 in
-    let first : x % 256 ≡ byteOf w (8 * k) = sym (ap (byteOf w) z ∙ byte-at w k 0 (omega arith) ∙ ap (λ (n : ℕ). n % 256) (omega arith)) in
+    let q : 8 * k / 8 ≡ k = omega arith in
+    let r : 8 * k % 8 ≡ 0 = omega arith in
+    let first : x % 256 ≡ byteOf w (8 * k) = rw (q, r) (omega arith) in
     let n : 8 * k + (1 + length (laterBytes x)) ≡ 8 * (k + 1) = omega arith in
     rw (e, first, fill-more (byteOf w) o (8 * k) (omega arith))
-    (stored-fills (byteOf w) o (laterBytes x) (8 * k) 1 (λ m l. later-at x m l ∙ sym (byte-at w k (1 + m) (omega arith))) (omega (arith, n)) ∙ ap (λ (m : ℕ). filled (byteOf w) m o) n)
-  where
-    z : 8 * k ≡ 8 * k + 0
-    z = omega arith
+    (stored-fills (byteOf w) o (laterBytes x) (8 * k) 1 (λ m l.
+    let q : (8 * k + (1 + m)) / 8 ≡ k = omega arith in
+    let r : (8 * k + (1 + m)) % 8 ≡ 1 + m = omega arith in
+    rw (q, r) (list-at (λ m. x / 2 ^ (8 * m) % 256) 0 1 7 m l)) (omega (arith, n)) ∙ ap (λ (m : ℕ). filled (byteOf w) m o) n)
 
 pub words-all : (w o : List ℕ) {b : List ℕ} (k : ℕ) → b ≡ filled (byteOf w) (8 * k) o → 8 * k ≡ 128 → length o ≡ 128 → b ≡ wordsBytes w
 unfolding wordsBytes

@@ -7,7 +7,7 @@ use Prim.Native.Nat.{ℕ, _+_, _-_, _/_, _%_, _≤_, _<_}
 use lib.Dec.{ltb}
 use lib.ListN.{length, getD, drop}
 use Rattle.selection.specs.Cell.{Allows, digit}
-use Rattle.selection.specs.Refusals.{Rule, tooShort, below, number, Wrongs, FirstRefusal, RefusedBy, Refuses}
+use Rattle.selection.specs.Refusals.{Rule, tooShort, below, number, Wrongs, IsFirstRefusal, RefusedBy, Refuses}
 use Rattle.selection.specs.declared.Refusal.{Refusal}
 use Rattle.selection.specs.declared.maker.RowLimits.{RowLimits}
 
@@ -61,5 +61,5 @@ pub record MadeTable (t : List ℕ) : Type 0 where
 -- f is the maker's answer, where the buffer held s and then holds t: s again, or the made table where nothing is refused
 pub record Makes (s t : List ℕ) (f : Refusal) : Type 0 where
   pub refuses : RefusedBy (Wrongs (makeRules (length s))) f
-  pub keeps : (n p : ℕ) → FirstRefusal (Wrongs (makeRules (length s))) n p → t ≡ s
+  pub keeps : (n p : ℕ) → IsFirstRefusal (Wrongs (makeRules (length s))) n p → t ≡ s
   pub makes : ((n p : ℕ) → Wrongs (makeRules (length s)) n p → ⊥) → (m : List ℕ) × MadeTable m × (t ≡ m ++ drop 2048 s)

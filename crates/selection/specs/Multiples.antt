@@ -73,6 +73,12 @@ pub record RowOf (m : RowMultiples) : Type 0 where
   pub small : m .row ≤ 15
   pub is : m ≡ multiplesOf (m .row)
 
+-- what the test of a cell is handed: the multiples of its row, its column and a byte
+pub record CellOf (m : RowMultiples) (c b : ℕ) : Type 0 where
+  pub row : RowOf m
+  pub column : c ≤ 127
+  pub byte : b ≤ 4
+
 -- ---- the digits of a column
 
 -- 1 if c is past x
@@ -127,6 +133,12 @@ lowAt d c = max (c * 2 ^ 57) (2 ^ 63 - reach d)
 
 abbrev pub highAt : ℕ → ℕ → ℕ → ℕ
 highAt d c b = max (c * 2 ^ 57) (2 ^ 63 - 2 * d + b * d + 2 * d / 3 + 1)
+
+-- under these bounds the least remainder that is too high fits a word
+pub record WitnessFor (d c b : ℕ) : Type 0 where
+  pub divisor : d ≤ 2 ^ 61
+  pub column : c ≤ 106
+  pub byte : b ≤ 4
 
 -- ---- the test
 

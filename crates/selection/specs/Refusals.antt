@@ -96,21 +96,21 @@ unfoldable pub rank : ℕ → ℕ
 rank n = rankIn order 1 n
 
 -- of what C refuses, number n with place p is the first
-pub record FirstRefusal (C : ℕ → ℕ → Type 0) (n p : ℕ) : Type 0 where
+pub record IsFirstRefusal (C : ℕ → ℕ → Type 0) (n p : ℕ) : Type 0 where
   pub holds : C n p
   pub before : (m q : ℕ) → rank m < rank n → C m q → ⊥
 
 -- f is the refusal (0 and 0: none) of a call that refuses by C: a number and a place exactly if they are the first, and none exactly if no condition holds
 pub record RefusedBy (C : ℕ → ℕ → Type 0) (f : Refusal) : Type 0 where
-  pub exactly : (n p : ℕ) → 0 < n → (f ≡ refusal n p) ↔ FirstRefusal C n p
+  pub exactly : (n p : ℕ) → 0 < n → (f ≡ refusal n p) ↔ IsFirstRefusal C n p
   pub none : (f ≡ refusal 0 0) ↔ ((n p : ℕ) → C n p → ⊥)
 
 -- x is an answer, `refused x` the refusal in it, and `zeros f` the refusal f with zeros besides
 pub record Refuses {X : Type 0} (C : ℕ → ℕ → Type 0) (refused : X → Refusal) (zeros : Refusal → X) (x : X) : Type 0 where
   pub by : RefusedBy C (refused x)
-  pub besides : (n p : ℕ) → FirstRefusal C n p → x ≡ zeros (refusal n p)
+  pub besides : (n p : ℕ) → IsFirstRefusal C n p → x ≡ zeros (refusal n p)
 
 -- a call that refuses by C and is lent a list to write, b before and c after
 pub record RefusesLent {X : Type 0} (C : ℕ → ℕ → Type 0) (refused : X → Refusal) (zeros : Refusal → X) (x : X) (b c : List ℕ) : Type 0 where
   pub answer : Refuses C refused zeros x
-  pub kept : (n p : ℕ) → FirstRefusal C n p → c ≡ b
+  pub kept : (n p : ℕ) → IsFirstRefusal C n p → c ≡ b

@@ -6,7 +6,7 @@ use Prim.Native.Nat.{ℕ, _/_, _%_, _≤_, _<_}
 use lib.ListN.{length, getD, take}
 use Rattle.laws.specs.Lists.{KeptFrom}
 use Rattle.laws.specs.Counting.{Tally}
-use Rattle.selection.specs.Refusals.{Rule, tooShort, differ, eitherOf, number, Wrongs, FirstRefusal, Refuses}
+use Rattle.selection.specs.Refusals.{Rule, tooShort, differ, eitherOf, number, Wrongs, IsFirstRefusal, Refuses}
 use Rattle.selection.specs.Table.{BadAt, Passes}
 use Rattle.selection.specs.Maker.{Made}
 use Rattle.selection.specs.declared.Refusal.{Refusal}
@@ -37,7 +37,7 @@ pub record Repaired (t rs cs a b : List ℕ) (n : ℕ) : Type 0 where
   pub count : Tally (DifferAt t a) 2048 n
 
 -- what is refused of a table of len bytes and two buffers of r and c. 7: a buffer is too short. 8: length not 2,048
-unfoldable pub repairRules : ℕ → ℕ → ℕ → List Rule
+abbrev pub repairRules : ℕ → ℕ → ℕ → List Rule
 repairRules len r c = number 7 (eitherOf (tooShort r 2048) (tooShort c 2048)) ∷ number 8 (differ len 2048) ∷ []
 
 abbrev pub repairZeros : Refusal → RepairAnswer
@@ -52,7 +52,7 @@ pub record RepairAccepts (len r c : ℕ) : Type 0 where
 -- x is the answer to the table t, where the two buffers held rs and cs and then hold a and b
 pub record Repairs (t rs cs a b : List ℕ) (x : RepairAnswer) : Type 0 where
   pub refuses : Refuses (Wrongs (repairRules (length t) (length rs) (length cs))) (λ y. y .refusal) repairZeros x
-  pub keeps : (n p : ℕ) → FirstRefusal (Wrongs (repairRules (length t) (length rs) (length cs))) n p → (a ≡ rs) × (b ≡ cs)
+  pub keeps : (n p : ℕ) → IsFirstRefusal (Wrongs (repairRules (length t) (length rs) (length cs))) n p → (a ≡ rs) × (b ≡ cs)
   pub repairs : RepairAccepts (length t) (length rs) (length cs) → Repaired t rs cs a b (x .count)
 
 -- what is claimed of a repair, where a is the buffer that holds it and n the number of changes

@@ -6,7 +6,7 @@ use lib.IntN.{ℤ}
 use lib.ListN.{length, getD, take, drop}
 use Rattle.laws.specs.Search.{First}
 use Rattle.laws.specs.Counting.{Tally}
-use Rattle.selection.specs.Refusals.{Rule, differ, number, numberFirst, Wrongs, FirstRefusal}
+use Rattle.selection.specs.Refusals.{Rule, differ, number, numberFirst, Wrongs, IsFirstRefusal}
 use Rattle.selection.specs.Allowed.{aboveFour, isBad}
 use Rattle.selection.specs.Cell.{span, AllowsUnder, Against, LeastWitness, digit}
 use Rattle.selection.specs.declared.table.Outcome.{Outcome}
@@ -45,7 +45,7 @@ unfoldable pub tableRules : List ℕ → List Rule
 tableRules t = formRules t ++ (numberFirst 10 (BadAt t) (isBad t) 2048 ∷ [])
 
 abbrev pub NoTable : List ℕ → ℕ → ℕ → Type 0
-NoTable t n p = FirstRefusal (Wrongs (formRules t)) n p
+NoTable t n p = IsFirstRefusal (Wrongs (formRules t)) n p
 
 -- the first bad cell, with its witness
 pub record FirstBad (t : List ℕ) (r c D : ℕ) (P : ℤ) : Type 0 where

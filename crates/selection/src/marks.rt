@@ -3,16 +3,15 @@ ghost use mathlib.Core.Path.{_≡_};
 ghost use Prim.Native.Nat.{_≤_};
 ghost use lib.ListN.{length};
 ghost use Rattle.laws.specs.Lists.{filled};
-ghost use Rattle.selection.specs.Multiples.{RowOf};
 ghost use Rattle.selection.specs.Computed.{changeMark};
-ghost use Rattle.selection.specs.RepairRows.{FillsRow};
+ghost use Rattle.selection.specs.RepairRows.{FillsRow, MarksRow};
 use crate::multiples::RowMultiples;
 use crate::multiples::row_multiples;
 use crate::repair::mark_of;
 
 // A row's marks, in a list that has those of the rows before it.
 fn mark_row(table: &[u8], m: RowMultiples, marks: &mut [u16])
-    requires { ⌜ (length (now table) ≡ 2048) × RowOf m × (2048 ≤ length (now marks)) ⌝ }
+    requires { ⌜ MarksRow (now table) m (now marks) ⌝ }
     ensures { λ r. ⌜ FillsRow (changeMark (now (table .entry))) (m .row) (now (marks .entry)) (now (marks .exit)) ⌝ }
 {
     let start = 128 * (m.row as usize);

@@ -5,7 +5,7 @@ ghost use mathlib.Core.Logic.{_↔_};
 ghost use Prim.Native.Nat.{_+_, _*_, _-_, _^_, _≤_, _<_, max};
 ghost use lib.IntN.{subℕ};
 ghost use Rattle.selection.specs.Computed.{cellOf};
-ghost use Rattle.selection.specs.Multiples.{leftColumn, rightColumn, beginsAtMost, beginsBelowMinus, endsAtMost, endsBelowMinus, RowOf, past, leastByte, greatestByte, hasPoint, allowsBy, above, under, leastPast, leastDivisor, lowDivisor, highDivisor, lowAt, highAt, witnessOf};
+ghost use Rattle.selection.specs.Multiples.{leftColumn, rightColumn, beginsAtMost, beginsBelowMinus, endsAtMost, endsBelowMinus, RowOf, CellOf, past, leastByte, greatestByte, hasPoint, allowsBy, above, under, leastPast, leastDivisor, lowDivisor, highDivisor, lowAt, highAt, WitnessFor, witnessOf};
 ghost use Rattle.selection.specs.declared.CellVerdict.the-variants as Verdict;
 use crate::CellVerdict;
 use crate::Witness;
@@ -156,7 +156,7 @@ fn has_point(m: RowMultiples, c: u8) -> bool
 
 // Whether the cell allows the byte's digit: the verdict of `test_cell` without its witness.
 pub(crate) fn allows(m: RowMultiples, c: u8, byte: u8) -> bool
-    requires { ⌜ RowOf m × (c ≤ 127) × (byte ≤ 4) ⌝ }
+    requires { ⌜ CellOf m c byte ⌝ }
     ensures { λ r. ⌜ (r ≡ allowsBy m c byte) × ((r ≡ true) ↔ (cellOf (m .row) c byte ≡ Verdict.Allowed)) ⌝ }
 {
     if past(greatest_byte(m, c), byte) + past(byte, least_byte(m, c)) == 0 {
@@ -248,7 +248,7 @@ fn low_witness(d: u64, column: u64) -> Witness
 }
 
 fn high_witness(d: u64, column: u64, byte: u64) -> Witness
-    requires { ⌜ (d ≤ 2 ^ 61) × (column ≤ 106) × (byte ≤ 4) ⌝ }
+    requires { ⌜ WitnessFor d column byte ⌝ }
     ensures { λ r. ⌜ r ≡ witnessOf d (highAt d column byte) ⌝ }
 {
     Witness {
@@ -259,7 +259,7 @@ fn high_witness(d: u64, column: u64, byte: u64) -> Witness
 
 // The test of a cell: the verdict and the witness of `check_cell`. No digit is both too low and too high.
 pub(crate) fn test_cell(m: RowMultiples, column: u64, byte: u8) -> CellVerdict
-    requires { ⌜ RowOf m × (column ≤ 127) × (byte ≤ 4) ⌝ }
+    requires { ⌜ CellOf m column byte ⌝ }
     ensures { λ r. ⌜ r ≡ cellOf (m .row) column byte ⌝ }
 {
     let c = column as u8;

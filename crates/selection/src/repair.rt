@@ -1,18 +1,17 @@
 // The repair of a table that was read back from a monitor.
 ghost use mathlib.Core.Path.{_≡_};
 ghost use mathlib.Core.Bool.{cond, not, _||_};
-ghost use Prim.Native.Nat.{ℕ, _+_, _*_, _≤_, _<_};
+ghost use Prim.Native.Nat.{_+_, _*_, _≤_};
 ghost use lib.Dec.{ltb, eqb};
-ghost use lib.ListN.{length, getD};
-ghost use Rattle.laws.specs.Lists.{filled};
+ghost use lib.ListN.{length};
 ghost use Rattle.laws.specs.Counting.{countBelow};
 ghost use Rattle.selection.specs.Refusals.{firstRefusal};
 ghost use Rattle.selection.specs.Allowed.{isReplaced};
-ghost use Rattle.selection.specs.Maker.{Limits, stepAt};
+ghost use Rattle.selection.specs.Maker.{stepAt};
 ghost use Rattle.selection.specs.Multiples.{RowOf, allowsBy};
 ghost use Rattle.selection.specs.Computed.{repairedByte, changeMark, repairOf, repairedOf, changedOf};
-ghost use Rattle.selection.specs.RepairRows.{FillsRow};
-ghost use Rattle.selection.specs.Repair.{repairRules, Repairs};
+ghost use Rattle.selection.specs.RepairRows.{FillsRow, MarksRow, BytesRow, RepairedTo};
+ghost use Rattle.selection.specs.Repair.{repairRules, RepairAccepts, Repairs};
 use crate::Admission;
 use crate::NO_REFUSAL;
 use crate::Refusal;
@@ -57,7 +56,7 @@ fn byte_of(l: [u8; 6], c: u8, byte: u8, mark: u8) -> u8
 // A row's marks, in a list that has those of the rows before it, and how many of them are 1. Marks and bytes have a loop each: one for both is compiled into
 // vectors that do not fit the registers and go to the stack.
 fn mark_row(table: &[u8], m: RowMultiples, changed: &mut [u8]) -> u8
-    requires { ⌜ (length (now table) ≡ 2048) × RowOf m × (2048 ≤ length (now changed)) ⌝ }
+    requires { ⌜ MarksRow (now table) m (now changed) ⌝ }
     ensures { λ r. ⌜ FillsRow (changeMark (now (table .entry))) (m .row) (now (changed .entry)) (now (changed .exit)) × (r ≡ countBelow (λ c. isReplaced (now (table .entry)) (128 * m .row + c)) 128) ⌝ }
 {
     let start = 128 * (m.row as usize);
@@ -74,7 +73,7 @@ fn mark_row(table: &[u8], m: RowMultiples, changed: &mut [u8]) -> u8
 
 // A row's bytes by its marks, in a list that has those of the rows before it.
 fn byte_row(table: &[u8], row: usize, l: [u8; 6], changed: &[u8], repaired: &mut [u8])
-    requires { ⌜ (length (now table) ≡ 2048) × (row ≤ 15) × Limits row l × (2048 ≤ length (now changed)) × (2048 ≤ length (now repaired)) × ((c : ℕ) → c < 128 → getD (now changed) (128 * row + c) 0 ≡ changeMark (now table) (128 * row + c)) ⌝ }
+    requires { ⌜ BytesRow (now table) row l (now changed) (now repaired) ⌝ }
     ensures { λ r. ⌜ FillsRow (repairedByte (now (table .entry))) row (now (repaired .entry)) (now (repaired .exit)) ⌝ }
 {
     let start = 128 * row;
@@ -87,8 +86,8 @@ fn byte_row(table: &[u8], row: usize, l: [u8; 6], changed: &[u8], repaired: &mut
 
 // All rows, and the number of changes. A row's multiples and limits are worked out before its columns start.
 fn repair_rows(table: &[u8], repaired: &mut [u8], changed: &mut [u8]) -> u64
-    requires { ⌜ (length (now table) ≡ 2048) × (2048 ≤ length (now repaired)) × (2048 ≤ length (now changed)) ⌝ }
-    ensures { λ r. ⌜ (now (repaired .exit) ≡ filled (repairedByte (now (table .entry))) 2048 (now (repaired .entry))) × (now (changed .exit) ≡ filled (changeMark (now (table .entry))) 2048 (now (changed .entry))) × (r ≡ countBelow (isReplaced (now (table .entry))) 2048) ⌝ }
+    requires { ⌜ RepairAccepts (length (now table)) (length (now repaired)) (length (now changed)) ⌝ }
+    ensures { λ r. ⌜ RepairedTo (now (table .entry)) 2048 (now (repaired .entry)) (now (changed .entry)) (now (repaired .exit)) (now (changed .exit)) r ⌝ }
 {
     let mut count: u64 = 0;
     let mut row: usize = 0;

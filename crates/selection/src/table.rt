@@ -2,7 +2,7 @@
 ghost use mathlib.Core.Path.{_≡_};
 ghost use mathlib.Core.Bool.{true, cond};
 ghost use mathlib.Core.Logic.{_↔_};
-ghost use Prim.Native.Nat.{_+_, _*_, _≤_, _<_, min};
+ghost use Prim.Native.Nat.{_+_, _*_, _≤_, min};
 ghost use lib.ListN.{length};
 ghost use Rattle.laws.specs.Search.{firstFrom};
 ghost use Rattle.laws.specs.Counting.{countBelow};
@@ -11,6 +11,7 @@ ghost use Rattle.selection.specs.Answer.{refusal, admission, firstOf};
 ghost use Rattle.selection.specs.Cell as Cell;
 ghost use Rattle.selection.specs.Allowed.{aboveFour, isBad, isBadIn};
 ghost use Rattle.selection.specs.Multiples.{RowOf};
+ghost use Rattle.selection.specs.RepairRows.{ColumnOf};
 ghost use Rattle.selection.specs.Table.{rowBytes, tableRules, Table, Checked};
 ghost use Rattle.selection.specs.Computed.{refusedReport, reportAt, tableReport, reportOf};
 use crate::Admission;
@@ -92,7 +93,7 @@ fn first_above(table: &[u8]) -> usize
 
 // Whether the byte at a column of a row holds a digit that isn't allowed: the test of the cell up to its witness, which the report alone wants.
 fn is_bad(table: &[u8], m: RowMultiples, column: usize) -> bool
-    requires { ⌜ Table (now table) × RowOf m × (column ≤ 127) ⌝ }
+    requires { ⌜ ColumnOf (now table) m column ⌝ }
     ensures { λ r. ⌜ r ≡ isBadIn (now (table .entry)) (m .row) column ⌝ }
 {
     !allows(m, column as u8, table[128 * (m.row as usize) + column])
@@ -116,7 +117,7 @@ fn count_row(table: &[u8], m: RowMultiples) -> u8
 
 // The column of a bad cell, or 128.
 fn bad_column(table: &[u8], m: RowMultiples, column: usize) -> u8
-    requires { ⌜ Table (now table) × RowOf m × (column ≤ 127) ⌝ }
+    requires { ⌜ ColumnOf (now table) m column ⌝ }
     ensures { λ r. ⌜ r ≡ cond (isBadIn (now (table .entry)) (m .row) column) column 128 ⌝ }
 {
     if is_bad(table, m, column) {
@@ -174,7 +175,7 @@ fn refused_report(number: u64, place: u64) -> Report
 // The report of a table with `count` bad cells, the first of them in the row whose multiples are m: its verdict and witness are the test's. The last two
 // verdicts are never given on it.
 fn bad_report(table: &[u8], m: RowMultiples, count: u64) -> Report
-    requires { ⌜ Table (now table) × RowOf m × (firstFrom (isBadIn (now table) (m .row)) 0 128 < 128) ⌝ }
+    requires { ⌜ ColumnOf (now table) m (firstFrom (isBadIn (now table) (m .row)) 0 128) ⌝ }
     ensures { λ r. ⌜ r ≡ reportAt count (now (table .entry)) (128 * m .row + firstFrom (isBadIn (now (table .entry)) (m .row)) 0 128) ⌝ }
 {
     let row = m.row;

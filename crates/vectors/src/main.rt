@@ -268,7 +268,7 @@ fn tell_too_long(name: &[u8]) {
 
 // What is told of a file of which that was read.
 fn run_of(name: &[u8], bytes: &[u8; FILE], input: Input) -> FileRun
-    requires { ⌜ input .count ≤ length (now bytes) ⌝ }
+    requires { ⌜ Counts·io (input .count) (now bytes) ⌝ }
     ensures { λ r. ⌜ r ≡ runOf (now (bytes .entry)) input ⌝ }
 {
     if input.failed {
@@ -336,7 +336,7 @@ fn with_file(out: &mut [u8], page: Page, name: &[u8]) -> Page
 
 // All that is printed.
 fn report(out: &mut [u8; ROOM]) -> usize
-    ensures { λ r. ⌜ Reports (take r (now (out .exit))) × (r ≤ length (now (out .exit))) ⌝ }
+    ensures { λ r. ⌜ Reports (take r (now (out .exit))) × Counts·io r (now (out .exit)) ⌝ }
 {
     let start = Page {
         end: append(out, 0, b"file run differ\n"),

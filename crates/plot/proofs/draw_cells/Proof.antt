@@ -3,14 +3,8 @@ use Rattle.laws.proofs.Basics.{_-_, _≤_, arith, needs}
 use Rattle.plot.proofs.draw_cells.Statement.{statement}
 use Rattle.plot.proofs.draw_cells.Tie as tie
 
-abbrev Inv-loop : tie.InvT-loop
-Inv-loop table k₀ k = k ≤ 2048
-
-abbrev μ-loop : tie.MeasureT-loop
-μ-loop table k₀ k = 2048 - k
-
 pub draw-cells-spec : {M : Type 1} → statement M
 draw-cells-spec =
-    tie.close (tie.spec Inv-loop μ-loop (λ c. omega arith)
+    tie.close (tie.spec (λ table k₀ k. k ≤ 2048) (λ table k₀ k. 2048 - k) (λ c. omega arith)
     (λ c κs. (c .before .before .before .pre, omega arith)) (λ c. search needs) (λ c. omega arith)
     (λ c. omega arith) (λ c. omega arith) (λ c. search needs))

@@ -4,20 +4,10 @@ use Rattle.plot.proofs.BadCells.{bad-drawn}
 use Rattle.plot.proofs.mark_row.Statement.{statement}
 use Rattle.plot.proofs.mark_row.Tie as tie
 
-abbrev Inv-loop : tie.InvT-loop
-Inv-loop table row rings from₀ from = from ≤ 129
-
-abbrev μ-loop : tie.MeasureT-loop
-μ-loop table row rings from₀ from = 129 - from
-
-bad-end-requires : tie.Need-bad-end-requires Inv-loop μ-loop
-bad-end-requires c κs = (c .before .before .before .pre .0, omega arith, omega arith)
-
-mark-requires : tie.Need-mark-requires Inv-loop μ-loop
-mark-requires c κs = let hr = c .before .before .before .before .before .pre .1 in (hr, c .if1 .taken, bad-drawn hr (c .before .bad-end .ensures) (c .if1 .taken))
-
 pub mark-row-spec : {M : Type 1} → statement M
 mark-row-spec =
-    tie.close (tie.spec Inv-loop μ-loop (λ c. omega arith) bad-end-requires mark-requires (λ c. search needs)
+    tie.close (tie.spec (λ table row rings from₀ from. from ≤ 129) (λ table row rings from₀ from. 129 - from) (λ c. omega arith)
+    (λ c κs. (c .before .before .before .pre .0, omega arith, omega arith))
+    (λ c κs. let hr = c .before .before .before .before .before .pre .1 in (hr, c .if1 .taken, bad-drawn hr (c .before .bad-end .ensures) (c .if1 .taken))) (λ c. search needs)
     (λ c. omega (arith, c .before .bad-end .ensures .within)) (λ c. omega (arith, c .before .bad-end .ensures .starts))
     (λ c. omega (arith, c .before .bad-end .ensures .within)) (λ c. search needs))

@@ -1,7 +1,7 @@
 -- `run` meets its contract: the arguments' refusal, then the table's, else the run through the table.
-use Rattle.laws.proofs.Basics.{refl, sym, ap, _∙_, now, length, needs}
-use Rattle.selection.proofs.Orders.{admitted-both, first-lent}
-use Rattle.recurrence.specs.Run.{runRules, runValues}
+use Rattle.laws.proofs.Basics.{refl, sym, ap, _∙_, now, needs}
+use Rattle.selection.proofs.Orders.{admitted-both}
+use Rattle.recurrence.specs.Run.{runValues}
 use Rattle.recurrence.proofs.Refusals.{spans, run-answered}
 use Rattle.recurrence.proofs.run.Statement.{statement}
 use Rattle.recurrence.proofs.run.Tie as tie
@@ -9,27 +9,20 @@ use Rattle.recurrence.proofs.run.Tie as tie
 run-admitted-requires : tie.Need-run-admitted-requires
 run-admitted-requires c κs =
     let k = admitted-both _ (c .before .before .before .admit-after .ensures) (c .before .enum-told .given .1) in
-    let s = spans _ _ _ _ _ (sym (c .before .before .before .before .argument-refusal .ensures) ∙ k .0) in
-    (k .1, s .0, s .1, s .2, s .3)
+    (k .1, spans _ _ _ _ _ (sym (c .before .before .before .before .argument-refusal .ensures) ∙ k .0))
 
 returns : tie.Need-returns
 returns c =
     let k = c .before .before .before .before in
-    let a = k .before .before .before .before .args in
-    run-answered (now (a .table)) (a .dividend) (a .divisor) (a .digits) (now (a .buffer)) (a .place)
-    (first-lent (runRules (a .dividend) (a .divisor) (a .digits) (length (now (a .buffer))) (a .place)) _ (k .admit-after .ensures) (k .before .argument-refusal .ensures) (c .before .before .admission .given .1))
-    (c .zeros .ensures, refl)
+    run-answered _ _ _ _ _ _ (k .before .argument-refusal .ensures) (k .admit-after .ensures) (c .before .before .admission .given .1) (c .zeros .ensures, refl)
 
 returns-2 : tie.Need-returns-2
 returns-2 c =
     let ran = c .before .before .before in
     let told = ran .before .before in
     let k = told .before .before in
-    let a = k .before .before .before .before .args in
-    let r = ran .run-admitted .ensures in
-    run-answered (now (a .table)) (a .dividend) (a .divisor) (a .digits) (now (a .buffer)) (a .place)
-    (first-lent (runRules (a .dividend) (a .divisor) (a .digits) (length (now (a .buffer))) (a .place)) _ (k .admit-after .ensures) (k .before .argument-refusal .ensures) (told .enum-told .given .1))
-    (c .values .ensures ∙ ap runValues (r .1), r .0)
+    run-answered _ _ _ _ (now (k .before .before .before .before .args .buffer)) _ (k .before .argument-refusal .ensures) (k .admit-after .ensures) (told .enum-told .given .1)
+    (c .values .ensures ∙ ap runValues (ran .run-admitted .ensures .1), ran .run-admitted .ensures .0)
 
 pub run-spec : {M : Type 1} → statement M
 run-spec =

@@ -51,12 +51,6 @@ loop-again c t ok is =
 turn : (c : tie.In-loop Inv-loop μ-loop) → c .before .loop .i < length (start (c .before) .args .out .now)
 turn c = let h = c .loop-test .taken in omega (arith, reached-length (reached (c .before)))
 
-add-i : tie.Need-add-i Inv-loop μ-loop
-add-i c = let w = c .before .before in omega (arith, turn w, start (w .before) .pre .3)
-
-corrected-requires : tie.Need-corrected-requires Inv-loop μ-loop
-corrected-requires c κs = let l = c .before in rw (reached l .stands, divisor-after) (start l .pre .1 .most)
-
 returns : tie.Need-returns Inv-loop μ-loop
 returns c t ok is =
     let l = c .before .before in
@@ -67,12 +61,13 @@ returns c t ok is =
     let d = done r (c .before .loop-test .left) in
     rw (← d .0) (
       d .1,
-      c .corrected .ensures ∙ rw (r .stands) (result-from-word _ _ _ i (k .0) (k .1) (omega (arith, d .0, s .pre .2)) (omega (arith, d .0, s .pre .3)) (pair-after t _ _ (ok .table .digits) i)),
+      c .corrected .ensures ∙ rw (r .stands) (result-from-word _ _ _ i (k .0) (k .1) (omega (arith, d .0, s .pre)) (omega (arith, d .0, s .pre)) (pair-after t _ _ (ok .table .digits) i)),
     )
 
 pub run-row-spec : {M : Type 1} → statement M
 run-row-spec =
     tie.close (tie.spec Inv-loop μ-loop (λ c κs. c .before .before .pre .1 .most)
     (λ c κs. search needs) (λ c κs. search needs) loop-holds next-requires
-    (λ c. c .before .before .loop-test .taken) add-i (λ c. omega (arith, turn (c .before .before)))
-    loop-again corrected-requires (λ c. reached-length (reached (c .before .before))) returns)
+    (λ c. c .before .before .loop-test .taken) (λ c. let w = c .before .before in omega (arith, turn w, start (w .before) .pre))
+    (λ c. omega (arith, turn (c .before .before))) loop-again
+    (λ c κs. rw (reached (c .before) .stands, divisor-after) (start (c .before) .pre .1 .most)) (λ c. reached-length (reached (c .before .before))) returns)

@@ -1,14 +1,10 @@
 -- `repair::repair_input` meets its contract: there is room for more than a table, so that what was read settles what is written.
-use Rattle.laws.proofs.Basics.{sym, arith, needs}
-use lib.Seq.{length-take-le}
+use Rattle.laws.proofs.Basics.{arith, needs}
 use Rattle.repair.proofs.Writing.{writes-read}
 use Rattle.repair.proofs.repair_input.Statement.{statement}
 use Rattle.repair.proofs.repair_input.Tie as tie
 
-returns : tie.Need-returns
-returns c = let r = c .repair .ensures in (writes-read (omega arith) (r .0), r .1)
-
 pub repair-input-spec : {M : Type 1} → statement M
 repair-input-spec =
-    tie.close (tie.spec (λ c. sym (length-take-le _ _ (c .before .before .pre)))
-    (λ c κs. search needs) returns)
+    tie.close (tie.spec (λ c. search needs) (λ c κs. search needs)
+    (λ c. let r = c .repair .ensures in (writes-read (omega arith) (r .0), r .1)))

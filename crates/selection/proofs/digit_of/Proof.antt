@@ -1,5 +1,5 @@
 -- `selection::digit_of` meets its contract: a byte is below 256, so its digit fits.
-use Rattle.laws.proofs.Basics.{refl, _∙_, arith, needs}
+use Rattle.laws.proofs.Basics.{arith, needs}
 use mir.Facts.{toZ-ofZ, toZ-pos}
 use mir.Syntax.{w64}
 use Rattle.selection.specs.Cell.{digit}
@@ -7,13 +7,9 @@ use Rattle.selection.proofs.BiasedPoints.{digit-fits}
 use Rattle.selection.proofs.digit_of.Statement.{statement}
 use Rattle.selection.proofs.digit_of.Tie as tie
 
-sub-result : tie.Need-sub-result
-unfolding digit
-sub-result c = rw (toZ-pos w64 {n = c .args .byte} (omega arith)) (digit-fits (c .args .byte) (omega arith))
-
-returns : tie.Need-returns
-unfolding digit
-returns c = toZ-ofZ (sub-result c) ∙ rw (toZ-pos w64 {n = c .args .byte} (omega arith)) refl
-
 pub digit-of-spec : {M : Type 1} → statement M
-digit-of-spec = tie.close (tie.spec (λ c. search needs) sub-result returns)
+unfolding digit
+digit-of-spec =
+    tie.close (tie.spec (λ c. search needs)
+    (λ c. rw (toZ-pos w64 {n = c .args .byte} (omega arith)) (digit-fits (c .args .byte) (omega arith)))
+    (λ c. rw (toZ-pos w64 {n = c .args .byte} (omega arith)) (toZ-ofZ (digit-fits (c .args .byte) (omega arith)))))

@@ -10,7 +10,7 @@ returns c =
     let run = differ .before .before .before .before .before in
     let parted = run .before .before .before .before .before in
     let name = parted .before .before .before .before .before in
-    (appended-then (appended-then (appended-then (name .append .ensures) (parted .append2 .ensures) (omega arith)) (run .append-number .ensures .0) (omega arith)) (differ .append-number2 .ensures .0) (omega arith), omega arith)
+    (appended-then (appended-then (appended-then (name .append .ensures) (parted .append2 .ensures)) (run .append-number .ensures .0)) (differ .append-number2 .ensures .0), omega arith)
 
 pub append-counts-spec : {M : Type 1} → statement M
 append-counts-spec =

@@ -1,5 +1,5 @@
 -- `vectors::count_lines` meets its contract: after k lines, so many of them differ.
-use Rattle.laws.proofs.Basics.{_≡_, sym, ap, _∙_, ⊎-elim, ℕ, _+_, _-_, _≤_, arith, needs}
+use Rattle.laws.proofs.Basics.{_≡_, sym, ap, _∙_, ⊎-elim, _-_, _≤_, arith, needs}
 use Rattle.laws.specs.Counting.{countBelow}
 use Rattle.laws.proofs.Counting.{count-start, count-one, count-other, count-most}
 use Rattle.vectors.specs.Vectors.{lineDiffers, differsAt, linesIn, countsOf}
@@ -19,13 +19,12 @@ add-differ c =
 
 loop-again : tie.Need-loop-again Inv-loop μ-loop
 loop-again c =
-    let inv = c .before .before .before .before .loop .inv in
-    let told = c .before .line-differs .ensures ∙ ap lineDiffers (c .before .before .line-of .ensures) in (
+    let l = c .before .before .before .before in
+    let f = differsAt (l .before .before .args .bytes .now) in
+    let told = sym (c .before .line-differs .ensures ∙ ap lineDiffers (c .before .before .line-of .ensures)) in (
       omega arith,
-      ⊎-elim
-          (λ w. w .1 ∙ ap (λ (n : ℕ). n + 1) (inv .1) ∙ sym (count-one _ _ (sym told ∙ w .0 .taken)))
-          (λ w. w .1 ∙ inv .1 ∙ sym (count-other _ _ (sym told ∙ w .0 .left)))
-          (c .if1 .came),
+      ⊎-elim (λ w. omega (arith, l .loop .inv, w .1, count-one f (l .loop .k) (told ∙ w .0 .taken)))
+          (λ w. omega (arith, l .loop .inv, w .1, count-other f (l .loop .k) (told ∙ w .0 .left))) (c .if1 .came),
     )
 
 returns : tie.Need-returns Inv-loop μ-loop

@@ -10,16 +10,8 @@ Inv-loop number bytes₀ rest₀ i₀ bytes rest i = SetFrom number bytes rest i
 abbrev μ-loop : tie.MeasureT-loop
 μ-loop number bytes₀ rest₀ i₀ bytes rest i = i
 
-loop-holds : tie.Need-loop-holds Inv-loop μ-loop
-loop-holds c = set-none _
-
-loop-again : tie.Need-loop-again Inv-loop μ-loop
-loop-again c = set-more (c .before .loop .inv) (omega arith)
-
-returns : tie.Need-returns Inv-loop μ-loop
-returns c = set-all (c .before .loop .inv) (omega arith)
-
 pub bytes-of-spec : {M : Type 1} → statement M
 bytes-of-spec =
-    tie.close (tie.spec Inv-loop μ-loop loop-holds (λ c. search needs) (λ c. search needs) (λ c. search needs)
-    (λ c. search needs) (λ c. search needs) (λ c. search needs) loop-again returns)
+    tie.close (tie.spec Inv-loop μ-loop (λ c. set-none _) (λ c. search needs) (λ c. search needs) (λ c. search needs)
+    (λ c. search needs) (λ c. search needs) (λ c. search needs) (λ c. set-more (c .before .loop .inv) (omega arith))
+    (λ c. set-all (c .before .loop .inv) (omega arith)))

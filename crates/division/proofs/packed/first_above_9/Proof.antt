@@ -1,5 +1,5 @@
 -- `first_above_9` meets its contract: no half byte is above 9 before the index that it gives.
-use Rattle.laws.proofs.Basics.{_≤_, _-_, _≡_, refl, sym, ap, _∙_, arith, needs}
+use Rattle.laws.proofs.Basics.{_≤_, _-_, _≡_, refl, sym, _∙_, arith, needs}
 use Rattle.laws.specs.Search.{firstFrom}
 use Rattle.laws.proofs.Search.{first-here, first-on, first-end}
 use Rattle.division.specs.Packed.{operandByte, isAbove9, firstAbove9}
@@ -12,19 +12,8 @@ Inv-loop dividend divisor i₀ i = (i ≤ 16) × (firstAbove9 dividend divisor �
 abbrev μ-loop : tie.MeasureT-loop
 μ-loop dividend divisor i₀ i = 16 - i
 
-loop-holds : tie.Need-loop-holds Inv-loop μ-loop
-loop-holds c = (omega arith, refl)
-
-returns : tie.Need-returns Inv-loop μ-loop
-returns c = sym (c .before .before .before .before .loop .inv .1 ∙ first-here _ _ _ (omega arith) (ap isAbove9 (sym (c .before .before .operand-byte .ensures)) ∙ sym (c .before .is-above-9 .ensures) ∙ c .if1 .taken))
-
-loop-again : tie.Need-loop-again Inv-loop μ-loop
-loop-again c = (omega arith, c .before .before .before .before .loop .inv .1 ∙ first-on _ _ _ (omega arith) (ap isAbove9 (sym (c .before .before .operand-byte .ensures)) ∙ sym (c .before .is-above-9 .ensures) ∙ c .if1 .left))
-
-returns-2 : tie.Need-returns-2 Inv-loop μ-loop
-returns-2 c = sym (c .before .loop .inv .1 ∙ first-end _ _ _ (c .loop-test .left))
-
 pub first-above-9-spec : {M : Type 1} → statement M
 first-above-9-spec =
-    tie.close (tie.spec Inv-loop μ-loop loop-holds (λ c κs. search needs) (λ c κs. search needs) returns
-    (λ c. omega arith) (λ c. omega arith) loop-again returns-2)
+    tie.close (tie.spec Inv-loop μ-loop (λ c. (omega arith, refl)) (λ c κs. search needs) (λ c κs. search needs)
+    (λ c. sym (c .before .before .before .before .loop .inv .1 ∙ first-here _ _ _ (omega arith) (cc))) (λ c. omega arith) (λ c. omega arith)
+    (λ c. (omega arith, c .before .before .before .before .loop .inv .1 ∙ first-on _ _ _ (omega arith) (cc))) (λ c. sym (c .before .loop .inv .1 ∙ first-end _ _ _ (c .loop-test .left))))

@@ -1,8 +1,6 @@
 -- `divide_whole` meets its contract: the arguments' refusal, then the table's, else the quotient through the table.
-use Rattle.laws.proofs.Basics.{sym, ap, _∙_, now, needs}
-use Rattle.selection.proofs.Orders.{admitted-both, answered, first-lent}
-use Rattle.division.specs.Whole.{wholeRules, wholeZeros, wholeValues}
-use Rattle.division.specs.WholeSteps.{wholeThrough}
+use Rattle.laws.proofs.Basics.{sym, _∙_, needs}
+use Rattle.selection.proofs.Orders.{admitted-both, first-lent}
 use Rattle.division.proofs.Calls.{whole-spans}
 use Rattle.division.proofs.whole.divide_whole.Statement.{statement}
 use Rattle.division.proofs.whole.divide_whole.Tie as tie
@@ -13,22 +11,10 @@ divide-requires c κs =
     let s = whole-spans _ _ (sym (c .before .before .before .refusal-of .ensures) ∙ k .0) in
     (k .1, s .0, s .1, s .2)
 
-returns : tie.Need-returns
-returns c =
-    let k = c .before .before .before .before in
-    let x = k .before .before .before .args in
-    answered wholeZeros (wholeValues (wholeThrough (now (x .table)) (x .a) (x .b)))
-    (first-lent (wholeRules (x .a) (x .b)) _ (k .admit-after .ensures) (k .before .refusal-of .ensures) (c .before .before .admission .given .1)) (c .zeros .ensures)
-
-returns-2 : tie.Need-returns-2
-returns-2 c =
-    let k = c .before .before .before .before in
-    let x = k .before .before .before .args in
-    answered wholeZeros (wholeValues (wholeThrough (now (x .table)) (x .a) (x .b)))
-    (first-lent (wholeRules (x .a) (x .b)) _ (k .admit-after .ensures) (k .before .refusal-of .ensures) (c .before .before .enum-told .given .1)) (c .values .ensures ∙ ap wholeValues (c .before .divide .ensures))
-
 pub divide-whole-spec : {M : Type 1} → statement M
 divide-whole-spec =
     tie.close (tie.spec (λ c κs. search needs) (λ c κs. search needs) (λ c. search needs)
-    (λ c κs. search needs) (λ c. search needs) divide-requires (λ c κs. search needs) returns
-    returns-2)
+    (λ c κs. search needs) (λ c. search needs) divide-requires (λ c κs. search needs)
+    (λ c. let k = c .before .before .before .before in rw (first-lent _ _ (k .admit-after .ensures) (k .before .refusal-of .ensures) (c .before .before .admission .given .1)) (c .zeros .ensures))
+    (λ c. let k = c .before .before .before .before in rw (first-lent _ _ (k .admit-after .ensures) (k .before .refusal-of .ensures) (c .before .before .enum-told .given .1), ← c .before .divide .ensures)
+    (c .values .ensures)))

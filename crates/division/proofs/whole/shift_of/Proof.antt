@@ -4,11 +4,7 @@ use Rattle.laws.proofs.Powers.{lifted}
 use Rattle.division.proofs.whole.shift_of.Statement.{statement}
 use Rattle.division.proofs.whole.shift_of.Tie as tie
 
-sub-result : tie.Need-sub-result
-sub-result c = lifted 60 (c .args .b) (lit< tt) (c .pre .0) (c .pre .1) .0
-
-returns : tie.Need-returns
-returns c = let l = lifted 60 (c .args .b) (lit< tt) (c .pre .0) (c .pre .1) in (refl, l .1, l .2, l .3)
-
 pub shift-of-spec : {M : Type 1} → statement M
-shift-of-spec = tie.close (tie.spec sub-result returns)
+shift-of-spec =
+    tie.close (tie.spec (λ c. lifted 60 (c .args .b) (lit< tt) (c .pre .0) (c .pre .1) .0)
+    (λ c. let l = lifted 60 (c .args .b) (lit< tt) (c .pre .0) (c .pre .1) in record { is = refl; small = l .1; least = l .2; most = l .3 }))

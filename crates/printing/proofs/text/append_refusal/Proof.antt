@@ -9,7 +9,7 @@ returns c =
     let place = c .before .before in
     let number = place .before .before .before .before .before in
     let names = number .before .before .before .before .before in
-    (appended-then (names .append .ensures) (appended-then (number .append-number .ensures .0) (place .append-number2 .ensures .0) (omega arith)) (omega arith), omega arith)
+    (appended-then (names .append .ensures) (search (needs, appended-then)), omega arith)
 
 pub append-refusal-spec : {M : Type 1} → statement M
 append-refusal-spec =

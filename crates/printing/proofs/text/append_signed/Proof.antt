@@ -11,7 +11,7 @@ returns c =
     let sign = number .before .before .before .before .before in
     let negative = sign .before .before .before in
     let e = with-sign _ _ _ (negative .before .before .before .fits .number) (number .before .magnitude .ensures) (negative .if1 .taken) in
-    (appended-as (appended-then (sign .append .ensures) (number .append-number .ensures .0) (omega arith)) e, omega arith)
+    (appended-as (appended-then (sign .append .ensures) (number .append-number .ensures .0)) e, omega arith)
 
 returns-2 : tie.Need-returns-2
 returns-2 c =

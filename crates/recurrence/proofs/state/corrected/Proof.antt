@@ -8,10 +8,8 @@ mul-wrapping-add-u64 c =
     let h : c .before .before .wrapping-add-u64 .result / 2 ^ 63 ≤ 1 = omega arith in
     record { fits = omega (arith, mul-le-mul-right (c .before .before .before .args .state .divisor + 3 * 2 ^ 62) h) }
 
-returns : tie.Need-returns
-returns c = simp (c .wrapping-add-u642 .ensures, c .before .before .choose .ensures, c .before .before .before .wrapping-add-u64 .ensures)
-
 pub corrected-spec : {M : Type 1} → statement M
 corrected-spec =
     tie.close (tie.spec (λ c κs. search needs) (λ c κs. search needs) (λ c. search needs)
-    mul-wrapping-add-u64 (λ c κs. search needs) returns)
+    mul-wrapping-add-u64 (λ c κs. search needs)
+    (λ c. simp (c .wrapping-add-u642 .ensures, c .before .before .choose .ensures, c .before .before .before .wrapping-add-u64 .ensures)))

@@ -3,8 +3,5 @@ use Rattle.laws.proofs.Tests.{tests}
 use Rattle.recurrence.proofs.step.distance.Statement.{statement}
 use Rattle.recurrence.proofs.step.distance.Tie as tie
 
-returns-2 : tie.Need-returns-2
-returns-2 c = rw (le-ltb (c .before .args .word) (2 ^ 63) (c .if1 .left)) (omega arith)
-
 pub distance-spec : {M : Type 1} → statement M
-distance-spec = tie.close (tie.spec (λ c. search tests) (λ c. search needs) returns-2)
+distance-spec = tie.close (tie.spec (λ c. search tests) (λ c. search needs) (λ c. rw (le-ltb (c .before .args .word) (2 ^ 63) (c .if1 .left)) (omega arith)))

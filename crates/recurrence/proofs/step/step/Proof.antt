@@ -1,34 +1,27 @@
 -- `step::step` meets its contract: the arguments' refusal, then the table's, else the run's step.
-use Rattle.laws.proofs.Basics.{needs, sym, ap, _∙_, now}
-use Rattle.selection.proofs.Orders.{admitted-both, answered, first-lent}
-use Rattle.recurrence.specs.Recurrence.{stateFrom, nextOf}
+use Rattle.laws.proofs.Basics.{needs, sym, ap, _∙_}
+use Rattle.selection.proofs.Orders.{admitted-both}
 use Rattle.recurrence.specs.FastRun.{stateOf}
 use Rattle.recurrence.specs.declared.state.RunState.{RunState}
-use Rattle.recurrence.specs.Step.{stepRules, stepZeros, stepValues}
-use Rattle.recurrence.proofs.StepRange.{step-span}
+use Rattle.recurrence.specs.Step.{stepValues}
+use Rattle.recurrence.proofs.StepRange.{step-span, step-answered}
 use Rattle.recurrence.proofs.step.step.Statement.{statement}
 use Rattle.recurrence.proofs.step.step.Tie as tie
 
 admitted-requires : tie.Need-admitted-requires
 admitted-requires c κs =
-    let a = c .before .before .before .before .before .args in
     let k = admitted-both _ (c .before .before .admit-after .ensures) (c .enum-told .given .1) in
-    (k .1, step-span (a .sum) (a .carry) (a .divisor) (sym (c .before .before .before .refusal-of .ensures) ∙ k .0))
+    (k .1, step-span _ _ _ (sym (c .before .before .before .refusal-of .ensures) ∙ k .0))
 
 returns : tie.Need-returns
 returns c =
     let k = c .before .before .before .before in
-    let a = k .before .before .before .args in
-    answered stepZeros (stepValues (nextOf (now (a .table)) (stateFrom (a .sum) (a .carry) (a .divisor))))
-    (first-lent (stepRules (a .sum) (a .carry) (a .divisor)) _ (k .admit-after .ensures) (k .before .refusal-of .ensures) (c .before .before .admission .given .1))
-    (c .zeros .ensures)
+    step-answered _ _ _ _ (k .before .refusal-of .ensures) (k .admit-after .ensures) (c .before .before .admission .given .1) (c .zeros .ensures)
 
 returns-2 : tie.Need-returns-2
 returns-2 c =
     let k = c .before .before .before .before in
-    let a = k .before .before .before .args in
-    answered stepZeros (stepValues (nextOf (now (a .table)) (stateFrom (a .sum) (a .carry) (a .divisor))))
-    (first-lent (stepRules (a .sum) (a .carry) (a .divisor)) _ (k .admit-after .ensures) (k .before .refusal-of .ensures) (c .before .before .enum-told .given .1))
+    step-answered _ _ _ _ (k .before .refusal-of .ensures) (k .admit-after .ensures) (c .before .before .enum-told .given .1)
     (c .values .ensures ∙ ap (λ (p : RunState). stepValues (stateOf p)) (c .before .admitted .ensures))
 
 pub step-spec : {M : Type 1} → statement M

@@ -1,7 +1,6 @@
 -- `count_visits` meets its contract: the arguments' refusal, then the table's, else the visits.
-use Rattle.laws.proofs.Basics.{refl, sym, _∙_, now, length, needs}
-use Rattle.selection.proofs.Orders.{admitted-both, first-lent}
-use Rattle.recurrence.specs.Visits.{visitsRules}
+use Rattle.laws.proofs.Basics.{refl, sym, _∙_, needs}
+use Rattle.selection.proofs.Orders.{admitted-both}
 use Rattle.recurrence.proofs.VisitCounts.{visits-spans, visits-told}
 use Rattle.recurrence.proofs.visits.count_visits.Statement.{statement}
 use Rattle.recurrence.proofs.visits.count_visits.Tie as tie
@@ -9,25 +8,18 @@ use Rattle.recurrence.proofs.visits.count_visits.Tie as tie
 visit-all-requires : tie.Need-visit-all-requires
 visit-all-requires c κs =
     let k = admitted-both _ (c .before .before .before .admit-after .ensures) (c .before .enum-told .given .1) in
-    let s = visits-spans _ _ _ (sym (c .before .before .before .before .refusal-of .ensures) ∙ k .0) in
-    (k .1, s .0, s .1, s .2, s .3)
+    (k .1, visits-spans _ _ _ (sym (c .before .before .before .before .refusal-of .ensures) ∙ k .0))
 
 returns : tie.Need-returns
 returns c =
     let k = c .before .before .before in
-    let a = k .before .before .before .before .args in
-    visits-told (now (a .table)) (a .bits) (a .digits) (now (a .visits))
-    (first-lent (visitsRules (a .bits) (a .digits) (length (now (a .visits)))) _ (k .admit-after .ensures) (k .before .refusal-of .ensures) (c .before .admission .given .1))
-    refl refl
+    visits-told _ _ _ _ (k .before .refusal-of .ensures) (k .admit-after .ensures) (c .before .admission .given .1) refl refl
 
 returns-2 : tie.Need-returns-2
 returns-2 c =
     let told = c .before .before .before .before in
     let k = told .before .before in
-    let a = k .before .before .before .before .args in
-    visits-told (now (a .table)) (a .bits) (a .digits) (now (a .visits))
-    (first-lent (visitsRules (a .bits) (a .digits) (length (now (a .visits)))) _ (k .admit-after .ensures) (k .before .refusal-of .ensures) (told .enum-told .given .1))
-    refl (c .before .before .visit-all .ensures)
+    visits-told _ _ _ _ (k .before .refusal-of .ensures) (k .admit-after .ensures) (told .enum-told .given .1) refl (c .before .before .visit-all .ensures)
 
 pub count-visits-spec : {M : Type 1} → statement M
 count-visits-spec =

@@ -8,15 +8,15 @@ visit-pairs-requires : tie.Need-visit-pairs-requires
 visit-pairs-requires c κs =
     let k = c .before .before .before in
     let s = k .before .before .before .before in
-    let r = bits-ready (s .args .bits) (s .args .digits) (now (s .args .visits)) (s .pre .1) (s .pre .2) (s .pre .4) (k .clear .ensures) (s .pre .3) in
-    (s .pre .0, r .0, r .1, r .2)
+    let r = bits-ready (now (s .args .visits)) (s .pre .1) (k .clear .ensures) in
+    (record { passes = s .pre .0; room = r .1 }, r .0)
 
 returns : tie.Need-returns
 returns c =
     let v = c .before .before in
     let k = v .before .before .before .before in
     let s = k .before .before .before .before in
-    bits-done (s .args .bits) (s .args .digits) (now (s .args .visits)) (s .pre .1) (s .pre .2) (s .pre .4) (k .clear .ensures) (now (s .args .table)) (v .visit-pairs .ensures)
+    bits-done (now (s .args .visits)) (s .pre .1) (k .clear .ensures) _ (v .visit-pairs .ensures)
 
 pub visit-all-spec : {M : Type 1} → statement M
 visit-all-spec =

@@ -12,12 +12,6 @@ Inv-loop words bytes₀ k₀ bytes k = (k ≤ 16) × (bytes ≡ filled (byteOf w
 abbrev μ-loop : tie.MeasureT-loop
 μ-loop words bytes₀ k₀ bytes k = 16 - k
 
-loop-again : tie.Need-loop-again Inv-loop μ-loop
-loop-again c = (omega arith, word-more (c .before .before .before .args .words .now) _ (c .before .before .loop .k) (c .before .before .loop .inv .1) (omega arith))
-
-returns : tie.Need-returns Inv-loop μ-loop
-returns c = words-all (c .before .before .args .words .now) _ (c .before .loop .k) (c .before .loop .inv .1) (omega arith) refl
-
 pub bytes-of-spec : {M : Type 1} → statement M
 bytes-of-spec =
     tie.close (tie.spec Inv-loop μ-loop (λ c. (omega arith, sym (fill-none _ _)))
@@ -27,5 +21,6 @@ bytes-of-spec =
     (λ c. search needs) (λ c. search needs) (λ c. search needs) (λ c. search needs)
     (λ c. search needs) (λ c. search needs) (λ c. search needs) (λ c. search needs)
     (λ c. search needs) (λ c. search needs) (λ c. search needs) (λ c. search needs)
-    (λ c. search needs) (λ c. search needs) (λ c. search needs) (λ c. search needs) loop-again
-    returns)
+    (λ c. search needs) (λ c. search needs) (λ c. search needs) (λ c. search needs)
+    (λ c. (omega arith, word-more (c .before .before .before .args .words .now) _ (c .before .before .loop .k) (c .before .before .loop .inv .1) (omega arith)))
+    (λ c. words-all (c .before .before .args .words .now) _ (c .before .loop .k) (c .before .loop .inv .1) (omega arith) refl))

@@ -7,9 +7,6 @@ use Rattle.selection.proofs.MadeTables.{made-answer}
 use Rattle.selection.proofs.kept.kept_table.Statement.{statement}
 use Rattle.selection.proofs.kept.kept_table.Tie as tie
 
-returns : tie.Need-returns
-unfolding right madeOf allowsOf
-returns c = made-answer (made-table refl tt)
-
 pub kept-table-spec : {M : Type 1} → statement M
-kept-table-spec = tie.close (tie.spec returns)
+unfolding right madeOf allowsOf
+kept-table-spec = tie.close (tie.spec (λ c. made-answer (made-table refl tt)))

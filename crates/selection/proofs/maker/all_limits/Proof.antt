@@ -1,26 +1,29 @@
-use Rattle.laws.proofs.Basics.{ℕ, _≤_, _<_, _-_, _≡_, refl, [], arith, length, getD, length-set}
-use native.Mathlib.Nat.{not-suc-le-zero}
+use Rattle.laws.proofs.Basics.{ℕ, _≤_, _<_, _-_, _≡_, refl, List, [], arith, length, getD, length-set}
 use Rattle.selection.specs.Maker.{Limits}
 use Rattle.laws.proofs.Lists.{set-more}
 use Rattle.selection.proofs.maker.all_limits.Statement.{statement}
 use Rattle.selection.proofs.maker.all_limits.Tie as tie
 
+-- the rows before this one have their limits
+record Before (all : List (List ℕ)) (row : ℕ) : Type 0 where
+  within : row ≤ 16
+  size : length all ≡ 16
+  limits : (j : ℕ) → j < row → Limits j (getD all j [])
+
 abbrev Inv-loop : tie.InvT-loop
-Inv-loop all₀ row₀ all row = (row ≤ 16) × (length all ≡ 16) × ((j : ℕ) → j < row → Limits j (getD all j []))
+Inv-loop all₀ row₀ all row = Before all row
 
 abbrev μ-loop : tie.MeasureT-loop
 μ-loop all₀ row₀ all row = 16 - row
 
 loop-again : tie.Need-loop-again Inv-loop μ-loop
-loop-again c = let inv = c .before .before .loop .inv in (
-  omega arith,
-  simp length-set (inv .1),
-  set-more Limits (c .before .before .loop .all) (c .before .before .loop .row) _ _ (omega (arith, inv .1)) (inv .2) (c .limits-of .ensures .1),
-)
+loop-again c =
+    let l = c .before .before .loop in
+    record { within = omega arith; size = simp length-set (l .inv .size); limits = set-more Limits (l .all) (l .row) _ _ (omega arith) (l .inv .limits) (c .limits-of .ensures .1) }
 
 pub all-limits-spec : {M : Type 1} → statement M
 all-limits-spec =
     tie.close (tie.spec Inv-loop μ-loop
-    (λ c. (omega arith, refl, λ j h. absurd (not-suc-le-zero h))) (λ c κs. omega arith)
+    (λ c. record { within = omega arith; size = refl; limits = λ j h. absurd (omega arith) }) (λ c κs. omega arith)
     (λ c. omega arith) (λ c. omega arith) (λ c. omega arith) (λ c. omega arith) loop-again
-    (λ c. λ j h. c .before .loop .inv .2 j (omega arith)))
+    (λ c. λ j h. c .before .loop .inv .limits j (omega arith)))

@@ -11,29 +11,17 @@ Inv-loop table m marks₀ start c₀ marks c = RowFilled (changeMark table) (m .
 abbrev μ-loop : tie.MeasureT-loop
 μ-loop table m marks₀ start c₀ marks c = 128 - c
 
-loop-holds : tie.Need-loop-holds Inv-loop μ-loop
-loop-holds c = row-begins _ _ _
-
-mark-of-requires : tie.Need-mark-of-requires Inv-loop μ-loop
-mark-of-requires c κs = (c .before .before .before .before .before .pre .1, omega arith)
-
-slice-write-marks : tie.Need-slice-write-marks Inv-loop μ-loop
-slice-write-marks c = omega (arith, c .before .before .before .loop .inv .size)
-
 loop-again : tie.Need-loop-again Inv-loop μ-loop
 loop-again c =
-    let s = c .before .before .before .before .before .before in
-    let l = c .before .before .before .loop in
-    row-more _ _ _ (l .inv) (s .pre .1 .small) (omega arith) (s .pre .2) (mark-is (s .args .table .now) (l .c) (s .pre .1) (omega arith) (c .mark-of .ensures .0))
-
-same-length : tie.Need-same-length Inv-loop μ-loop
-same-length c = c .before .loop .inv .size
-
-returns : tie.Need-returns Inv-loop μ-loop
-returns c = row-ends _ _ _ (c .before .loop .inv) (omega arith)
+    let at = c .before .before .before in
+    let s = at .before .before .before in
+    let l = at .loop in
+    row-more _ _ _ (l .inv) (s .pre .row .small) (omega arith) (s .pre .room) (mark-is (s .args .table .now) (l .c) (s .pre .row) (omega arith) (c .mark-of .ensures .0))
 
 pub mark-row-spec : {M : Type 1} → statement M
 mark-row-spec =
-    tie.close (tie.spec Inv-loop μ-loop (λ c. search needs) loop-holds (λ c. search needs)
-    (λ c. search needs) (λ c. omega arith) mark-of-requires (λ c. omega arith) (λ c. omega arith) (λ c. omega arith) slice-write-marks (λ c. omega arith) (λ c. omega arith) loop-again same-length
-    returns)
+    tie.close (tie.spec Inv-loop μ-loop (λ c. search needs) (λ c. row-begins _ _ _) (λ c. search needs)
+    (λ c. search needs) (λ c. omega arith) (λ c κs. (search needs, omega arith))
+    (λ c. omega arith) (λ c. omega arith) (λ c. omega arith)
+    (λ c. omega (arith, c .before .before .before .loop .inv .size)) (λ c. omega arith) (λ c. omega arith) loop-again
+    (λ c. c .before .loop .inv .size) (λ c. row-ends _ _ _ (c .before .loop .inv) (omega arith)))

@@ -12,10 +12,10 @@ high : (c : tie.After-past2) → let a = c .before .before .before .before .args
 high c = rw (← c .before .least-byte .ensures .0) (c .past2 .ensures .0)
 
 returns : tie.Need-returns
-returns c = let p = c .before in let a = p .before .before .before .before in allowed-is (a .pre .0) (a .pre .1) (a .pre .2) (by-sides (a .args .m) (a .args .c) (a .args .byte) (low p) (high p) .0 (c .if1 .taken))
+returns c = let p = c .before in let a = p .before .before .before .before in allowed-is (a .pre .row) (a .pre .column) (a .pre .byte) (by-sides (a .args .m) (a .args .c) (a .args .byte) (low p) (high p) .0 (c .if1 .taken))
 
 returns-2 : tie.Need-returns-2
-returns-2 c = let p = c .before .before in let a = p .before .before .before .before in allowed-is (a .pre .0) (a .pre .1) (a .pre .2) (ap not (c .has-point .ensures) ∙ by-sides (a .args .m) (a .args .c) (a .args .byte) (low p) (high p) .1 (c .before .if1 .left))
+returns-2 c = let p = c .before .before in let a = p .before .before .before .before in allowed-is (a .pre .row) (a .pre .column) (a .pre .byte) (ap not (c .has-point .ensures) ∙ by-sides (a .args .m) (a .args .c) (a .args .byte) (low p) (high p) .1 (c .before .if1 .left))
 
 pub allows-spec : {M : Type 1} → statement M
 allows-spec =

@@ -6,5 +6,4 @@ use Rattle.selection.proofs.multiples.has_point.Tie as tie
 pub has-point-spec : {M : Type 1} → statement M
 has-point-spec =
     tie.close (tie.spec (λ c κs. omega (arith, columns (c .pre .0)))
-    (λ c κs. omega (arith, columns (c .before .pre .0))) (λ c. search needs)
-    (λ c. simp (c .before .past .ensures .0, c .past2 .ensures .0)))
+    (λ c κs. omega (arith, columns (c .before .pre .0))) (λ c. search needs) (λ c. cc))

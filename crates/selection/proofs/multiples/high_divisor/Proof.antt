@@ -1,10 +1,8 @@
-use Rattle.laws.proofs.Basics.{refl, needs}
+use Rattle.laws.proofs.Basics.{needs}
 use Rattle.selection.proofs.multiples.high_divisor.Statement.{statement}
 use Rattle.selection.proofs.multiples.high_divisor.Tie as tie
 
-returns : tie.Need-returns
-returns c = rw (c .least-divisor .ensures, c .before .under .ensures .0, c .before .before .above .ensures .0) refl
-
 pub high-divisor-spec : {M : Type 1} → statement M
 high-divisor-spec =
-    tie.close (tie.spec (λ c κs. search needs) (λ c κs. search needs) (λ c κs. search needs) returns)
+    tie.close (tie.spec (λ c κs. search needs) (λ c κs. search needs) (λ c κs. search needs)
+    (λ c. cc))

@@ -6,36 +6,24 @@ use Rattle.selection.proofs.CellTests.{is-allowed, low-found, high-foun
 use Rattle.selection.proofs.multiples.test_cell.Statement.{statement}
 use Rattle.selection.proofs.multiples.test_cell.Tie as tie
 
-returns : tie.Need-returns
-returns c = let a = c .before .before in is-allowed (a .pre .0) (a .pre .1) (a .pre .2) (sym (c .before .allows .ensures .0) ∙ c .if1 .taken)
-
 -- past the first test a digit is broken
 columns : (c : tie.Else1) → let a = c .before .before .args in (20 ≤ a .column) × (a .column ≤ 106)
-columns c = let a = c .before .before in found-columns (a .pre .0) (a .pre .1) (a .pre .2) (sym (c .before .allows .ensures .0) ∙ c .if1 .left)
+columns c = let a = c .before .before in found-columns (a .pre .row) (a .pre .column) (a .pre .byte) (sym (c .before .allows .ensures .0) ∙ c .if1 .left)
 
 low : (c : tie.Then2) → let a = c .before .before .before .before .args in let d = lowDivisor (a .m .smallest) (a .column) (a .byte) in (d ≤ 2 ^ 61) × (Disallowed (witnessOf d (lowAt d (a .column))) ≡ cellOf (a .m .row) (a .column) (a .byte))
-low c = let a = c .before .before .before .before in low-found (a .pre .0) (a .pre .1) (a .pre .2) (sym (c .before .before .before .allows .ensures .0) ∙ c .before .before .if1 .left) (rw (← c .before .greatest-byte .ensures .0) (c .if2 .taken))
+low c = let a = c .before .before .before .before in low-found (a .pre .row) (a .pre .column) (a .pre .byte) (sym (c .before .before .before .allows .ensures .0) ∙ c .before .before .if1 .left) (rw (← c .before .greatest-byte .ensures .0) (c .if2 .taken))
 
 high : (c : tie.Else2) → let a = c .before .before .before .before .args in let d = highDivisor (a .m .smallest) (a .column) (a .byte) in (d ≤ 2 ^ 61) × (Disallowed (witnessOf d (highAt d (a .column) (a .byte))) ≡ cellOf (a .m .row) (a .column) (a .byte))
-high c = let a = c .before .before .before .before in high-found (a .pre .0) (a .pre .1) (a .pre .2) (sym (c .before .before .before .allows .ensures .0) ∙ c .before .before .if1 .left) (rw (← c .before .greatest-byte .ensures .0) (c .if2 .left))
-
-low-divisor-requires : tie.Need-low-divisor-requires
-low-divisor-requires c κs = (columns (c .before .before) .0, columns (c .before .before) .1, c .before .before .before .before .pre .2)
-
-low-witness-requires : tie.Need-low-witness-requires
-low-witness-requires c κs = (rw (c .low-divisor .ensures) (low (c .before) .0), columns (c .before .before .before) .1)
-
-returns-2 : tie.Need-returns-2
-returns-2 c = rw (c .low-witness .ensures, c .before .low-divisor .ensures) (low (c .before .before) .1)
-
-high-witness-requires : tie.Need-high-witness-requires
-high-witness-requires c κs = (rw (c .high-divisor .ensures) (high (c .before) .0), columns (c .before .before .before) .1, c .before .before .before .before .before .pre .2)
-
-returns-3 : tie.Need-returns-3
-returns-3 c = rw (c .high-witness .ensures, c .before .high-divisor .ensures) (high (c .before .before) .1)
+high c = let a = c .before .before .before .before in high-found (a .pre .row) (a .pre .column) (a .pre .byte) (sym (c .before .before .before .allows .ensures .0) ∙ c .before .before .if1 .left) (rw (← c .before .greatest-byte .ensures .0) (c .if2 .left))
 
 pub test-cell-spec : {M : Type 1} → statement M
 test-cell-spec =
-    tie.close (tie.spec (λ c. search needs) (λ c κs. search needs) returns (λ c κs. search needs)
-    low-divisor-requires low-witness-requires returns-2 (λ c κs. columns (c .before .before))
-    high-witness-requires returns-3)
+    tie.close (tie.spec (λ c. search needs) (λ c κs. search needs)
+    (λ c. let a = c .before .before in is-allowed (a .pre .row) (a .pre .column) (a .pre .byte) (sym (c .before .allows .ensures .0) ∙ c .if1 .taken))
+    (λ c κs. search needs)
+    (λ c κs. (columns (c .before .before) .0, columns (c .before .before) .1, search needs))
+    (λ c κs. (rw (c .low-divisor .ensures) (low (c .before) .0), columns (c .before .before .before) .1))
+    (λ c. rw (c .low-witness .ensures, c .before .low-divisor .ensures) (low (c .before .before) .1))
+    (λ c κs. columns (c .before .before))
+    (λ c κs. record { divisor = rw (c .high-divisor .ensures) (high (c .before) .0); column = columns (c .before .before .before) .1; byte = search needs })
+    (λ c. rw (c .high-witness .ensures, c .before .high-divisor .ensures) (high (c .before .before) .1)))

@@ -15,8 +15,7 @@ loop-again : tie.Need-loop-again Inv-loop μ-loop
 loop-again c =
     let l = c .before .before .before .before in
     let s = l .before .before .before .before in
-    let hr = s .pre .1 in
-    row-more _ _ _ (l .loop .inv) hr (omega arith) (s .pre .4) (byte-is (s .args .table .now) (l .loop .c) hr (omega arith) (s .pre .2) (s .pre .5 (l .loop .c) (omega arith)) (c .byte-of .ensures))
+    row-more _ _ _ (l .loop .inv) (s .pre .row) (omega arith) (search needs) (byte-is (s .args .table .now) (l .loop .c) (s .pre .row) (omega arith) (s .pre .limits) (s .pre .marks (l .loop .c) (omega arith)) (c .byte-of .ensures))
 
 pub byte-row-spec : {M : Type 1} → statement M
 byte-row-spec =

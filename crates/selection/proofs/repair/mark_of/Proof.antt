@@ -2,13 +2,9 @@ use Rattle.laws.proofs.Basics.{sym, _∙_, arith, needs, lt-ltb, le-ltb}
 use Rattle.selection.proofs.repair.mark_of.Statement.{statement}
 use Rattle.selection.proofs.repair.mark_of.Tie as tie
 
-returns-2 : tie.Need-returns-2
-returns-2 c = (simp (le-ltb _ _ (c .before .before .if1 .left), sym (c .before .allows .ensures .0) ∙ c .if2 .taken), omega arith)
-
-returns-3 : tie.Need-returns-3
-returns-3 c = (simp (le-ltb _ _ (c .before .before .if1 .left), sym (c .before .allows .ensures .0) ∙ c .if2 .left), omega arith)
-
 pub mark-of-spec : {M : Type 1} → statement M
 mark-of-spec =
     tie.close (tie.spec (λ c. (simp (lt-ltb _ _ (c .if1 .taken)), omega arith))
-    (λ c κs. search needs) returns-2 returns-3)
+    (λ c κs. search needs)
+    (λ c. (simp (le-ltb _ _ (c .before .before .if1 .left), sym (c .before .allows .ensures .0) ∙ c .if2 .taken), omega arith))
+    (λ c. (simp (le-ltb _ _ (c .before .before .if1 .left), sym (c .before .allows .ensures .0) ∙ c .if2 .left), omega arith)))

@@ -1,5 +1,5 @@
 -- `mark_row` meets its contract: a turn stores the mark of one cell and counts it.
-use Rattle.laws.proofs.Basics.{_+_, _*_, _-_, _≡_, ap, _∙_, arith, needs, sym}
+use Rattle.laws.proofs.Basics.{_+_, _*_, _-_, _≤_, _≡_, arith, needs, sym}
 use Rattle.laws.specs.Counting.{countBelow}
 use Rattle.laws.proofs.Counting.{count-start, count-most}
 use Rattle.selection.specs.Allowed.{isReplaced}
@@ -15,31 +15,20 @@ Inv-loop table m changed₀ start count₀ c₀ changed count c =
 abbrev μ-loop : tie.MeasureT-loop
 μ-loop table m changed₀ start count₀ c₀ changed count c = 128 - c
 
-add-count : tie.Need-add-count Inv-loop μ-loop
-add-count c =
-    let l = c .before .before .before in
-    let a = l .before .before .before .args in
-    omega (arith, l .loop .inv .1, count-most (λ c. isReplaced (a .table .now) (128 * a .m .row + c)) (l .loop .c), c .mark-of .ensures .1)
-
 loop-again : tie.Need-loop-again Inv-loop μ-loop
 loop-again c =
     let l = c .before .before .before in
     let s = l .before .before .before in
     let t = s .args .table .now in
-    let mark = mark-is t (l .loop .c) (s .pre .1) (omega arith) (c .mark-of .ensures .0) in
-    (row-more _ _ _ (l .loop .inv .0) (s .pre .1 .small) (omega arith) (s .pre .2) mark, count-mark t (s .args .m .row) (l .loop .c) (l .loop .inv .1) mark)
-
-returns : tie.Need-returns Inv-loop μ-loop
-returns c =
-    let a = c .before .before .before .before .args in
-    let i = c .before .loop .inv in
-    let e : c .before .loop .c ≡ 128 = omega arith in
-    (row-ends _ _ _ (i .0) (omega arith), i .1 ∙ ap (countBelow (λ c. isReplaced (a .table .now) (128 * a .m .row + c))) e)
+    let mark = mark-is t (l .loop .c) (s .pre .row) (omega arith) (c .mark-of .ensures .0) in
+    (row-more _ _ _ (l .loop .inv .0) (s .pre .row .small) (omega arith) (s .pre .room) mark, count-mark t (s .args .m .row) (l .loop .c) (l .loop .inv .1) mark)
 
 pub mark-row-spec : {M : Type 1} → statement M
 mark-row-spec =
     tie.close (tie.spec Inv-loop μ-loop (λ c. search needs)
     (λ c. (row-begins _ _ _, sym (count-start _))) (λ c. search needs) (λ c. search needs)
-    (λ c. omega arith) (λ c κs. (c .before .before .before .before .before .pre .1, omega arith)) (λ c. omega arith)
-    (λ c. omega (arith, c .before .before .before .loop .inv .0 .size)) add-count (λ c. omega arith)
-    (λ c. omega arith) loop-again (λ c. c .before .loop .inv .0 .size) returns)
+    (λ c. omega arith) (λ c κs. (search needs, omega arith))
+    (λ c. omega arith) (λ c. omega (arith, c .before .before .before .loop .inv .0 .size))
+    (λ c. let l = c .before .before .before .loop in let h : l .count ≤ l .c = rw (l .inv .1) (count-most _ _) in omega arith)
+    (λ c. omega arith) (λ c. omega arith) loop-again (λ c. c .before .loop .inv .0 .size)
+    (λ c. let e : c .before .loop .c ≡ 128 = omega arith in (row-ends _ _ _ (c .before .loop .inv .0) (omega arith), rw e at (c .before .loop .inv .1))))

@@ -12,17 +12,12 @@ Inv-loop table i₀ i = (i ≤ 2048) × (firstFrom (aboveFour table) 0 2048 ≡ 
 abbrev μ-loop : tie.MeasureT-loop
 μ-loop table i₀ i = 2048 - i
 
-returns-2 : tie.Need-returns-2 Inv-loop μ-loop
-returns-2 c = sym (c .before .before .before .loop .inv .1 ∙ first-here _ _ 2048 (omega arith) (lt-ltb _ _ (c .if2 .taken)))
-
-loop-again : tie.Need-loop-again Inv-loop μ-loop
-loop-again c = (omega arith, c .before .before .before .loop .inv .1 ∙ first-on _ _ 2048 (omega arith) (le-ltb _ _ (c .if2 .left)))
-
-returns-3 : tie.Need-returns-3 Inv-loop μ-loop
-returns-3 c = let e : c .before .loop .i ≡ 2048 = omega arith in sym (c .before .loop .inv .1 ∙ first-end _ _ 2048 (c .loop-test .left) ∙ e)
-
 pub first-above-spec : {M : Type 1} → statement M
 first-above-spec =
-    tie.close (tie.spec Inv-loop μ-loop (λ c κs. c .before .pre)
+    tie.close (tie.spec Inv-loop μ-loop (λ c κs. search tests)
     (λ c. sym (c .before .none-above .ensures .0 (c .if1 .taken))) (λ c. search tests)
-    (λ c. omega arith) returns-2 (λ c. omega arith) (λ c. omega arith) loop-again returns-3)
+    (λ c. omega arith)
+    (λ c. sym (c .before .before .before .loop .inv .1 ∙ first-here _ _ 2048 (omega arith) (lt-ltb _ _ (c .if2 .taken))))
+    (λ c. omega arith) (λ c. omega arith)
+    (λ c. (omega arith, c .before .before .before .loop .inv .1 ∙ first-on _ _ 2048 (omega arith) (le-ltb _ _ (c .if2 .left))))
+    (λ c. let e : c .before .loop .i ≡ 2048 = omega arith in sym (c .before .loop .inv .1 ∙ first-end _ _ 2048 (c .loop-test .left) ∙ e)))

@@ -1,29 +1,30 @@
-use Rattle.laws.proofs.Basics.{_≤_, _-_, _≡_, min, sym, _∙_, arith, needs}
+use Rattle.laws.proofs.Basics.{Bool, ℕ, _≤_, _-_, _≡_, min, sym, _∙_, arith, needs}
 use Rattle.laws.specs.Search.{firstFrom}
 use Rattle.laws.proofs.Search.{lesser-start, lesser-turn, lesser-end}
 use Rattle.selection.specs.Allowed.{isBadIn}
 use Rattle.selection.proofs.table.first_in_row.Statement.{statement}
 use Rattle.selection.proofs.table.first_in_row.Tie as tie
 
+-- the first bad column so far, or 128, and those that are left
+record Lesser (f : ℕ → Bool) (first column : ℕ) : Type 0 where
+  within : column ≤ 128
+  most : first ≤ 128
+  is : firstFrom f 0 128 ≡ min first (firstFrom f column (128 - column))
+
 abbrev Inv-loop : tie.InvT-loop
-Inv-loop table m first₀ column₀ first column = (column ≤ 128) × (first ≤ 128) × (firstFrom (isBadIn table (m .row)) 0 128 ≡ min first (firstFrom (isBadIn table (m .row)) column (128 - column)))
+Inv-loop table m first₀ column₀ first column = Lesser (isBadIn table (m .row)) first column
 
 abbrev μ-loop : tie.MeasureT-loop
 μ-loop table m first₀ column₀ first column = 128 - column
 
-bad-column-requires : tie.Need-bad-column-requires Inv-loop μ-loop
-bad-column-requires c κs = (c .before .before .before .pre .0, c .before .before .before .pre .1, omega arith)
-
 loop-again : tie.Need-loop-again Inv-loop μ-loop
 loop-again c =
-    let l = c .before .before .before .loop in
-    let e = c .lesser .ensures in
-    (omega arith, omega arith, l .inv .2 ∙ lesser-turn _ 128 _ _ (omega arith) (l .inv .1) (c .before .bad-column .ensures) e)
-
-returns : tie.Need-returns Inv-loop μ-loop
-returns c = sym (c .before .loop .inv .2 ∙ lesser-end _ 128 _ _ (c .loop-test .left) (c .before .loop .inv .1))
+    let i = c .before .before .before .loop .inv in
+    record { within = omega arith; most = omega arith; is = i .is ∙ lesser-turn _ 128 _ _ (omega arith) (i .most) (c .before .bad-column .ensures) (c .lesser .ensures) }
 
 pub first-in-row-spec : {M : Type 1} → statement M
 first-in-row-spec =
-    tie.close (tie.spec Inv-loop μ-loop (λ c. (omega arith, omega arith, lesser-start _ 128)) bad-column-requires
-    (λ c κs. search needs) (λ c. omega arith) (λ c. omega arith) loop-again returns)
+    tie.close (tie.spec Inv-loop μ-loop (λ c. record { within = omega arith; most = omega arith; is = lesser-start _ 128 })
+    (λ c κs. record { table = search needs; row = search needs; column = omega arith })
+    (λ c κs. search needs) (λ c. omega arith) (λ c. omega arith) loop-again
+    (λ c. let i = c .before .loop .inv in sym (i .is ∙ lesser-end _ 128 _ _ (c .loop-test .left) (i .most))))

@@ -7,9 +7,6 @@ use Rattle.recurrence.proofs.Rows.{row-at}
 use Rattle.recurrence.proofs.state.RunState.next.Statement.{statement}
 use Rattle.recurrence.proofs.state.RunState.next.Tie as tie
 
-step-by-requires : tie.Need-step-by-requires
-step-by-requires c κs = let s = c .before .before in (c .digit-at .ensures .1, s .pre .multiples, s .pre .top-bits)
-
 returns : tie.Need-returns
 unfolding nextOf
 returns c =
@@ -21,4 +18,4 @@ returns c =
     c .step-by .ensures ∙ ap (λ (n : ℕ). withColumn (stepBy n (stateOf p))) e
 
 pub next-spec : {M : Type 1} → statement M
-next-spec = tie.close (tie.spec (λ c κs. search needs) step-by-requires returns)
+next-spec = tie.close (tie.spec (λ c κs. search needs) (λ c κs. search needs) returns)

@@ -8,13 +8,15 @@ use Rattle.recurrence.proofs.state.RunState.step_by.Tie as tie
 
 returns : tie.Need-returns
 returns c =
-    let s = c .before .before .before .before .before .before .before in
+    let majority = c .before .before .before in
+    let column = majority .before .before in
+    let s = column .before .before in
     let p = s .args .self in
     let ms = s .args .multiples .now in
     let d = s .args .digit in
-    let x : getD ms d 0 ≡ multiple d (p .divisor) = rw (s .pre .1) (multiple-at (p .divisor) d (s .pre .0)) in
-    let l : s .args .tops * 2 ^ (9 * d) % 2 ^ 64 / 2 ^ 55 ≡ topBitsOf (getD ms d 0) = rw (s .pre .2) (top-bits-at ms d (s .pre .0)) in
-    rw (c .before .before .before .before .before .wrapping-add-u642 .ensures, c .before .before .before .before .before .before .wrapping-add-u64 .ensures, c .before .before .before .wrapping-add-u643 .ensures, c .before .before .lowest-carry .ensures .0, c .before .renew .ensures, c .renew2 .ensures)
+    let x : getD ms d 0 ≡ multiple d (p .divisor) = rw (s .pre .1 .each) (multiple-at (p .divisor) d (s .pre .0)) in
+    let l : s .args .tops * 2 ^ (9 * d) % 2 ^ 64 / 2 ^ 55 ≡ topBitsOf (getD ms d 0) = rw (s .pre .1 .top-bits) (top-bits-at ms d (s .pre .0)) in
+    rw (column .wrapping-add-u642 .ensures, column .before .wrapping-add-u64 .ensures, majority .wrapping-add-u643 .ensures, c .before .before .lowest-carry .ensures .0, c .before .renew .ensures, c .renew2 .ensures)
     (step-code (stateOf p) d _ _ (s .pre .0) x l)
 
 pub step-by-spec : {M : Type 1} → statement M
