@@ -28,7 +28,7 @@ pub record RecheckTold (t currents sensitivities given : List ℕ) : Type 0 wher
   pub done : recheckOf t currents sensitivities given .refusal ≡ refusal 0 0
   pub rechecked : Rechecked t currents sensitivities given (affectedOf t currents sensitivities given) (recheckOf t currents sensitivities given .count)
   pub claim : (j : ℕ) → j < length currents → RecordClaim t (getD currents j 0) (getD sensitivities j 0) (getD (affectedOf t currents sensitivities given) j 0)
-  -- in numbers: a mark is 0 or 1, and the count is the number of ones; a sample that its class decides is 0; a mark 1 has a step before the 28th end and a bad cell that it reads
+  -- in numbers: a mark is 0 or 1, and the count is the number of ones; a sample that its class decides is 0; where a mark is 1, one of the 28 steps reads a bad cell
   pub mark : (j : ℕ) → j < length currents → (getD (affectedOf t currents sensitivities given) j 0 ≡ 0) ⊎ (getD (affectedOf t currents sensitivities given) j 0 ≡ 1)
   pub count : Tally (λ j. getD (affectedOf t currents sensitivities given) j 0 ≡ 1) (length currents) (recheckOf t currents sensitivities given .count)
   pub by-class : (j : ℕ) → j < length currents → (IsNonzero (getD currents j 0) → ⊥) ⊎ (IsNonzero (getD sensitivities j 0) → ⊥) → getD (affectedOf t currents sensitivities given) j 0 ≡ 0
