@@ -10,6 +10,7 @@
 
 #include "quendaric.h"
 #include "read_table.h"
+#include "written.h"
 #include <inttypes.h>
 #include <stdio.h>
 
@@ -53,9 +54,5 @@ int main(int argc, char **argv) {
     return FAILED;
   }
   int status = read_table(file, name, &table) ? verdict(&table, name) : FAILED;
-  if (fclose(stdout) != 0) {
-    perror("standard output");
-    return FAILED;
-  }
-  return status;
+  return written() ? status : FAILED;
 }

@@ -4,6 +4,7 @@
 #ifndef LINES_H
 #define LINES_H
 
+#include "written.h"
 #include <stdio.h>
 #include <string.h>
 
@@ -41,14 +42,6 @@ static int two_words(char line[LINE], char **first, char **second) {
     return 2;
   fprintf(stderr, "line %zu: %s\n", line_number, fault);
   return -1;
-}
-
-/* Is what was printed written? Else that is told. */
-static int written(void) {
-  if (fclose(stdout) == 0)
-    return 1;
-  perror("standard output");
-  return 0;
 }
 
 #endif

@@ -10,6 +10,7 @@
 #include "quendaric.h"
 #include "parse.h"
 #include "read_table.h"
+#include "written.h"
 #include <inttypes.h>
 #include <stdio.h>
 
@@ -28,14 +29,14 @@ static int print_reading(const table_file *table, double current, double sensiti
   }
   printf("table passed\n");
 
-  quendaric_binary64 reading = quendaric_divide_binary64(
-      table->bytes, table->length, quendaric_pattern(current), quendaric_pattern(sensitivity), QUENDARIC_NEAREST);
-  if (reading.refusal != 0 || (reading.flags & ~(uint64_t)QUENDARIC_INEXACT) != 0) {
-    fprintf(stderr, "no reading: refusal %" PRIu64 ", flags %" PRIu64 "\n", reading.refusal, reading.flags);
+  const uint64_t a = quendaric_pattern(current), b = quendaric_pattern(sensitivity);
+  const quendaric_binary64 r = quendaric_divide_binary64(table->bytes, table->length, a, b, QUENDARIC_NEAREST);
+  if (r.refusal != 0 || !quendaric_is_finite(a) || !quendaric_is_finite(b) || !quendaric_is_finite(r.pattern) ||
+      (r.flags & ~(uint64_t)(QUENDARIC_INEXACT | QUENDARIC_UNDERFLOW)) != 0) {
+    fprintf(stderr, "no reading: refusal %" PRIu64 ", flags %" PRIu64 "\n", r.refusal, r.flags);
     return REFUSED;
   }
-  printf("reading %.17g%s\n", quendaric_double(reading.pattern),
-         reading.flags & QUENDARIC_INEXACT ? " (rounded)" : "");
+  printf("reading %.17g%s\n", quendaric_double(r.pattern), r.flags & QUENDARIC_INEXACT ? " (rounded)" : "");
   return READ;
 }
 
@@ -55,9 +56,5 @@ int main(int argc, char **argv) {
     return FAILED;
   fclose(file);
   int status = print_reading(&table, current, sensitivity);
-  if (fclose(stdout) != 0) {
-    perror("standard output");
-    return FAILED;
-  }
-  return status;
+  return written() ? status : FAILED;
 }

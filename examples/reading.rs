@@ -2,7 +2,12 @@
 //!
 //!     reading CURRENT SENSITIVITY
 //!
+//! Status: 0 the reading was printed, 1 there is none, 2 the arguments are wrong or not all was written; what is wrong stands
+//! on standard error.
 //! Build: rustc -L target/staticlib examples/reading.rs -o reading
+
+use std::io::Write;
+use std::process::ExitCode;
 
 #[repr(C)]
 struct Binary64 {
@@ -17,9 +22,37 @@ extern "C" {
     fn quendaric_divide_binary64_kept(a: u64, b: u64, direction: u64) -> Binary64;
 }
 
-fn main() {
-    let number = |i| std::env::args().nth(i).and_then(|word| word.parse::<f64>().ok()).expect("CURRENT SENSITIVITY");
-    let answer = unsafe { quendaric_divide_binary64_kept(number(1).to_bits(), number(2).to_bits(), 0) };
-    assert!(answer.refusal == 0, "refused: {}, place {}", answer.refusal, answer.place);
-    println!("reading {}, flags {}", f64::from_bits(answer.pattern), answer.flags);
+const NEAREST: u64 = 0;
+const INEXACT: u64 = 1;
+const UNDERFLOW: u64 = 2;
+
+/// The number in an argument, where it is one that is finite and in the range of f64.
+fn number(place: usize) -> Option<f64> {
+    let word = std::env::args_os().nth(place)?.into_string().ok()?;
+    let number: f64 = word.parse().ok()?;
+    // a number below the range is read as 0
+    let significand = word.split(['e', 'E']).next()?;
+    let below = number == 0.0 && significand.contains(|c: char| ('1'..='9').contains(&c));
+    (number.is_finite() && !below).then_some(number)
+}
+
+fn main() -> ExitCode {
+    let (Some(current), Some(sensitivity), 3) = (number(1), number(2), std::env::args_os().len()) else {
+        eprintln!("usage: reading CURRENT SENSITIVITY, both finite numbers in the range of f64");
+        return ExitCode::from(2);
+    };
+    // the call takes three numbers and has no pointer
+    let answer = unsafe { quendaric_divide_binary64_kept(current.to_bits(), sensitivity.to_bits(), NEAREST) };
+    let reading = f64::from_bits(answer.pattern);
+    if answer.refusal != 0 || !reading.is_finite() || answer.flags & !(INEXACT | UNDERFLOW) != 0 {
+        eprintln!("no reading: refusal {}, place {}, flags {}", answer.refusal, answer.place, answer.flags);
+        return ExitCode::from(1);
+    }
+    let mut output = std::io::stdout();
+    let written = writeln!(output, "reading {reading}, flags {}", answer.flags).and_then(|()| output.flush());
+    if let Err(fault) = written {
+        eprintln!("standard output: not all was written: {fault}");
+        return ExitCode::from(2);
+    }
+    ExitCode::SUCCESS
 }

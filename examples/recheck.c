@@ -4,28 +4,19 @@
 
      recheck TABLE-FILE < SAMPLES
 
+   All of it is about a divider that steps as this unit does: it adds the top eight bits of both remainder words and takes 28
+   digits. Dividers built before add seven bits and read other cells: no line here is about their records. What needs no such
+   assumption: divide the samples anew (samples.c) and compare with the filed values.
+   Status: 0 all was written, 1 the table was refused, 2 the input could not be read or is wrong, or not all was written. What
+   is wrong stands on standard error.
    Build: gcc -Iinclude examples/recheck.c target/staticlib/libquendaric.a -o recheck */
 
-#include "parse.h"
 #include "quendaric.h"
 #include "read_table.h"
+#include "samples.h"
 #include <inttypes.h>
-#include <stdio.h>
-#include <string.h>
 
-enum { MOST = 100000 };
-
-__extension__ typedef __int128 wide;
-
-static uint64_t currents[MOST], sensitivities[MOST];
 static uint8_t affected[MOST];
-
-/* Are there exactly two numbers in the line? */
-static int two_numbers(char *line, double *current, double *sensitivity) {
-  char *first = strtok(line, " \t\n"), *second = strtok(NULL, " \t\n");
-  return first != NULL && second != NULL && strtok(NULL, " \t\n") == NULL && parse(first, current) &&
-         parse(second, sensitivity);
-}
 
 /* The significand of a number, its leading one at bit 60, and the exponent beside it. */
 static uint64_t operand(double number, int *exponent) {
@@ -34,9 +25,10 @@ static uint64_t operand(double number, int *exponent) {
 
 enum burned { GIVEN, NO_DIGIT, NO_QUOTIENT };
 
-/* What the table as it was burned gave: the steps through it, with no check, and the number that their digits form, less
-   one where the end remainder is negative. NO_DIGIT: a step reads a byte above 4. NO_QUOTIENT: the number is not between
-   1/2 and 2, as that of two significands is, and what a divider makes of it depends on how it rounds. */
+/* What the table as it was burned gave: the steps through it, with no check, and the number that their digits form, ended
+   as the unit ends a run: where the words' sum is negative the number is one less, and the remainder, a quarter of that sum,
+   a divisor more. NO_DIGIT: a step reads a byte above 4. NO_QUOTIENT: the number is not between 1/2 and 2, as that of two
+   significands is, and what a divider makes of it depends on how it rounds. */
 static enum burned as_burned(const uint8_t *table, double current, double sensitivity, double *given) {
   int up, down;
   const uint64_t dividend = operand(current, &up), divisor = operand(sensitivity, &down);
@@ -53,12 +45,14 @@ static enum burned as_burned(const uint8_t *table, double current, double sensit
     carry = ((majority << 1) + (digit > 0)) << 2;
     quotient = 4 * quotient + digit;
   }
-  const wide remainder = (wide)dividend * ((wide)1 << 54) - (wide)quotient * (wide)divisor;
-  quotient -= remainder < 0;
+  const uint64_t end = sum + carry;
+  const int negative = end >> 63 != 0;
+  quotient -= negative;
   if (quotient < (int64_t)1 << 53 || quotient >= (int64_t)1 << 55)
     return NO_QUOTIENT;
   /* twice the quotient, and 1 more where something is left: a long double has it, and rounds it once */
-  const long double twice = (long double)(2 * quotient + (remainder != 0 && remainder != -(wide)divisor));
+  const int left = negative ? end != 0 - 4 * divisor : end != 0;
+  const long double twice = (long double)(2 * quotient + left);
   *given = (double)ldexpl(signbit(current) == signbit(sensitivity) ? twice : -twice, up - down - 55);
   return GIVEN;
 }
@@ -77,27 +71,15 @@ int main(int argc, char **argv) {
   if (!read_table(file, argv[1], &table))
     return 2;
   fclose(file);
-
-  size_t count = 0;
-  char line[256];
-  while (fgets(line, sizeof line, stdin) != NULL) {
-    double current, sensitivity;
-    if (count == MOST || !two_numbers(line, &current, &sensitivity)) {
-      fprintf(stderr, "line %zu: not two finite numbers, or more than %d samples\n", count + 1, MOST);
-      return 2;
-    }
-    currents[count] = quendaric_pattern(current);
-    sensitivities[count++] = quendaric_pattern(sensitivity);
-  }
-  if (ferror(stdin)) {
-    perror("standard input");
+  const long read = read_samples(read_number);
+  if (read < 0)
     return 2;
-  }
 
+  const size_t count = (size_t)read;
   const quendaric_affected_count answer =
       quendaric_affected_samples(table.bytes, table.length, currents, count, sensitivities, count, affected, MOST);
   if (answer.refusal != 0) {
-    printf("refused: %" PRIu64 ", place %" PRIu64 "\n", answer.refusal, answer.place);
+    fprintf(stderr, "refused: %" PRIu64 ", place %" PRIu64 "\n", answer.refusal, answer.place);
     return 1;
   }
   for (size_t j = 0; j < count; j++) {
@@ -115,5 +97,7 @@ int main(int argc, char **argv) {
     printf(", right is %.17g\n", quendaric_double(right.pattern));
   }
   printf("%" PRIu64 " of %zu records are affected\n", answer.count, count);
-  return fflush(stdout) == 0 ? 0 : 2;
+  printf("this holds for a divider that adds eight bits of each remainder word; of one that adds seven it says nothing: "
+         "divide the samples anew and compare with the filed values\n");
+  return written() ? 0 : 2;
 }

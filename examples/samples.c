@@ -7,39 +7,14 @@
    input could not be read or is wrong, or not all was written. What is wrong stands on standard error.
    Build: gcc -Iinclude examples/samples.c target/staticlib/libquendaric.a -o samples */
 
-#include "lines.h"
-#include "parse.h"
 #include "quendaric.h"
 #include "read_table.h"
+#include "samples.h"
 #include <inttypes.h>
 
 enum { CLEAN = 0, FLAGGED = 1, FAILED = 2 };
 
-static uint64_t currents[MOST], sensitivities[MOST], concentrations[MOST];
-
-/* Reads a number from a word into *pattern. 0, and a message, where the word is none. */
-static int read_number(const char *word, uint64_t *pattern) {
-  double number;
-  if (!parse(word, &number)) {
-    fprintf(stderr, "line %zu: %s is not a finite number in the range of double\n", line_number, word);
-    return 0;
-  }
-  *pattern = quendaric_pattern(number);
-  return 1;
-}
-
-/* Reads all samples. Their number, or -1 and a message. */
-static long read_samples(void) {
-  char line[LINE], *first, *second;
-  long count = 0;
-  int words;
-  while ((words = two_words(line, &first, &second)) == 2) {
-    if (!read_number(first, &currents[count]) || !read_number(second, &sensitivities[count]))
-      return -1;
-    count++;
-  }
-  return words == 0 ? count : -1;
-}
+static uint64_t concentrations[MOST];
 
 static void tell_run(quendaric_samples run) {
   static const char *const names[] = {"inexact", "underflow", "overflow", "division by zero", "invalid"};
@@ -67,7 +42,7 @@ int main(int argc, char **argv) {
   if (!read_table(file, argv[1], &table))
     return FAILED;
   fclose(file);
-  const long read = read_samples();
+  const long read = read_samples(read_number);
   if (read < 0)
     return FAILED;
 

@@ -29,7 +29,13 @@
    Target. The archive is for x86-64 with the System V calling convention and a size_t of 64 bits. It needs no library
    and uses vector registers. A call uses at most QUENDARIC_STACK bytes of stack below its caller's;
    quendaric_affected_samples and quendaric_affected_whole, which are for a dock or a desk, use at most
-   QUENDARIC_STACK_AFFECTED. */
+   QUENDARIC_STACK_AFFECTED.
+
+   Interrupts. The archive is compiled with System V's red zone: a call keeps values in the 128 bytes below its stack
+   pointer. An interrupt that is taken on the same stack overwrites them; the call may then crash, or return a wrong
+   answer with refusal 0. Where interrupts do not change the stack, as in firmware without a user mode, give each of
+   them a stack of its own (an IST entry), or disable them during a call; an NMI, which cannot be disabled, needs its
+   own stack. A Linux signal handler spares the red zone. */
 
 #ifndef QUENDARIC_H
 #define QUENDARIC_H
@@ -72,17 +78,19 @@ extern "C" {
 #endif
 
 /* The version of these calls. CHANGELOG.md says what changed in each. */
-#define QUENDARIC_VERSION "2.4.0"
+#define QUENDARIC_VERSION "2.4.1"
 #define QUENDARIC_VERSION_MAJOR 2
 #define QUENDARIC_VERSION_MINOR 4
-#define QUENDARIC_VERSION_PATCH 0
+#define QUENDARIC_VERSION_PATCH 1
 
 #define QUENDARIC_TABLE_LENGTH 2048
 #define QUENDARIC_MOST_DIGITS 28
 #define QUENDARIC_WIDEST_WINDOW 4096
 
-/* A call uses at most so many bytes of stack. That is promised and not proved; in brackets stands what was measured. */
-#define QUENDARIC_STACK 1024 /* (512 measured) */
+/* A call uses at most so many bytes of stack. That is promised and not proved. In brackets stands the most that was
+   measured, over drawn operands, with tables that pass and with tables that are refused: quendaric_count_visits uses
+   584 where it refuses a table by 10, and 512 is the most of any call that refuses none. */
+#define QUENDARIC_STACK 1024 /* (584 measured) */
 #define QUENDARIC_STACK_AFFECTED 8192 /* (4417 measured) */
 
 /* Refusals. The maker of the table has to mend 8 to 10, the caller all others. */
@@ -341,9 +349,10 @@ quendaric_samples quendaric_divide_samples(const uint8_t *table, size_t table_le
    affected[j] is 0, the pattern and the flags that are formed from the burned table's own digits are those of IEEE 754,
    in every direction. Where it is 1, nothing is said of the answer: it may have been right. A sample with a zero, an
    infinity or a NaN takes no digit, and its mark is 0. The record must come from a divider that steps as this unit does,
-   with its estimate of eight bits and 28 digits. Later bytes of affected keep their contents. affected may overlap
-   nothing else. Uses at most QUENDARIC_STACK_AFFECTED bytes of stack. Beside a refusal nothing is written, and a count
-   of 0 does not say that no sample is affected. Refuses 11, 7, 8, in this order. */
+   with its estimate of eight bits and 28 digits; of one that adds seven bits, as all dividers built before do, nothing is
+   said, and a count of 0 does not say that its records are right. Later bytes of affected keep their contents. affected
+   may overlap nothing else. Uses at most QUENDARIC_STACK_AFFECTED bytes of stack. Beside a refusal nothing is written,
+   and a count of 0 does not say that no sample is affected. Refuses 11, 7, 8, in this order. */
 QUENDARIC_ANSWER
 quendaric_affected_count quendaric_affected_samples(const uint8_t *table, size_t table_length, const uint64_t *currents,
                                                     size_t currents_length, const uint64_t *sensitivities,
@@ -352,8 +361,11 @@ quendaric_affected_count quendaric_affected_samples(const uint8_t *table, size_t
 
 /* Does the same for one division of whole numbers below 2^60, as quendaric_divide_whole takes it: affected is 1 if a
    step through the table as it was burned reads a bad cell or a byte above 4, else 0. Where it is 0, the quotient and
-   the remainder that are formed from the burned table's own digits are those of a / b. Uses at most
-   QUENDARIC_STACK_AFFECTED bytes of stack. Writes nothing. Refuses 4, 5, 8. */
+   the remainder that are formed from the burned table's own digits are those of a / b. The record must come from a
+   divider that steps as this unit does, with its estimate of eight bits and exactly (d + 1) / 2 + 1 digits, the half
+   rounded down, where d is by how many bits a is longer than b, or 0 where it is not longer. A divider that takes
+   another number of digits, as this unit did before version 2.2.2, reads other cells, and nothing is said of it. Uses
+   at most QUENDARIC_STACK_AFFECTED bytes of stack. Writes nothing. Refuses 4, 5, 8. */
 QUENDARIC_ANSWER
 quendaric_affected_mark quendaric_affected_whole(const uint8_t *table, size_t table_length, uint64_t a, uint64_t b);
 
@@ -408,6 +420,10 @@ quendaric_binary64 quendaric_root_binary64(uint64_t a, uint64_t direction);
 #ifdef __cplusplus
 }
 #endif
+
+/* Is this the pattern of a finite number, and not of an infinity or a NaN? It needs neither a library nor floating
+   point. */
+static inline bool quendaric_is_finite(uint64_t pattern) { return (pattern >> 52 & 0x7FF) != 0x7FF; }
 
 /* The 64 bits of a double, and the double of 64 bits. Neither needs a library. */
 static inline uint64_t quendaric_pattern(double number) {

@@ -478,6 +478,14 @@ static void ratios(void) {
   no_order(quendaric_compare_ratios(1, 1, 2, 0), QUENDARIC_REFUSED_BY_ZERO);
 }
 
+/* Every exponent with the least, some and the greatest fraction, in both signs: only the last exponent is of no number. */
+static void finite(void) {
+  const uint64_t fractions[] = {0, 1, (uint64_t)1 << 51, ((uint64_t)1 << 52) - 1};
+  for (uint64_t exponent = 0; exponent < 4096; exponent++)
+    for (int i = 0; i < 4; i++)
+      SAME(quendaric_is_finite(exponent << 52 | fractions[i]), exponent % 2048 != 2047);
+}
+
 int main(void) {
   uint8_t table[QUENDARIC_TABLE_LENGTH];
   memset(table, untouched, sizeof table);
@@ -496,5 +504,6 @@ int main(void) {
   packed();
   ratios();
   roots();
+  finite();
   return differences != 0;
 }

@@ -1,5 +1,6 @@
 /* Would catch a header or an archive that needs a C library: a program without one, for -ffreestanding and -nostdlib, as C
-   and as C++. It divides 1 by 3 and back, from doubles to doubles, and ends with 0 where both are as they should be. */
+   and as C++. It divides 1 by 3 and back, from doubles to doubles, asks whether both are finite, and ends with 0 where all is as
+   it should be. */
 
 #include "quendaric.h"
 
@@ -19,7 +20,8 @@ void begin(void) {
   const quendaric_binary64 back =
       quendaric_divide_binary64_kept(third.pattern, quendaric_pattern(quendaric_double(third.pattern) / 3), 0);
   const int right = third.refusal == 0 && quendaric_double(third.pattern) == 1.0 / 3.0 && back.refusal == 0 &&
-                    quendaric_double(back.pattern) == three;
+                    quendaric_double(back.pattern) == three && quendaric_is_finite(third.pattern) &&
+                    quendaric_is_finite(back.pattern);
   for (;;)
     __asm__ volatile("syscall" : : "a"(60), "D"(right ? 0 : 1) : "rcx", "r11", "memory");
 }

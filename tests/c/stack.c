@@ -1,7 +1,8 @@
 /* Would catch a call that uses more of the stack than include/quendaric.h says was measured, and so more than it
-   promises: each call is made on a stack of painted bytes, on drawn operands, and the bytes below its caller's that have
-   changed are counted. tests/c/run takes the measured numbers from the header into measured.h. For x86-64, in GNU C;
-   the caller's stack pointer must stay where it is (-maccumulate-outgoing-args). */
+   promises: each call is made on a stack of painted bytes, on drawn operands, through a table that passes and through
+   tables that are refused, and the bytes below its caller's that have changed are counted. tests/c/run takes the measured
+   numbers from the header into measured.h. For x86-64, in GNU C; the caller's stack pointer must stay where it is
+   (-maccumulate-outgoing-args). */
 
 #include "measured.h"
 #include "quendaric.h"
@@ -12,6 +13,8 @@ enum { TURNS = 1000, PAINT = 0xA5 };
 
 static uint8_t stack[16384] __attribute__((aligned(64)));
 static uint8_t table[QUENDARIC_TABLE_LENGTH], buffer[QUENDARIC_MOST_DIGITS];
+static uint8_t bad[QUENDARIC_TABLE_LENGTH];
+static const uint8_t *lent; /* table or bad, in turn */
 static uint8_t read_back[QUENDARIC_TABLE_LENGTH], repaired[QUENDARIC_TABLE_LENGTH], changed[QUENDARIC_TABLE_LENGTH];
 static uint32_t visits[QUENDARIC_TABLE_LENGTH];
 static uint64_t readings[8], means[8], remainders[8];
@@ -32,28 +35,28 @@ static uint64_t bits(void) {
 /* Every call, the macro of the header that says how much stack it may use, and an example of it. */
 #define EACH(CALL)                                                                                                     \
   CALL(check_cell, QUENDARIC_STACK, quendaric_check_cell(a % 16, b % 128, a % 5).allowed)                              \
-  CALL(check_table, QUENDARIC_STACK, quendaric_check_table(table, size).count)                                         \
+  CALL(check_table, QUENDARIC_STACK, quendaric_check_table(lent, size).count)                                          \
   CALL(row_limits, QUENDARIC_STACK, quendaric_row_limits(a % 16).limits[0])                                            \
   CALL(make_table, QUENDARIC_STACK, quendaric_make_table(table, size).refusal)                                         \
-  CALL(run, QUENDARIC_STACK, quendaric_run(table, size, dividend, divisor, digits, buffer, room, 0).quotient)          \
+  CALL(run, QUENDARIC_STACK, quendaric_run(lent, size, dividend, divisor, digits, buffer, room, 0).quotient)           \
   CALL(run_kept, QUENDARIC_STACK, quendaric_run_kept(dividend, divisor, digits, buffer, room, 0).quotient)             \
-  CALL(divide_whole, QUENDARIC_STACK, quendaric_divide_whole(table, size, x, y).quotient)                              \
+  CALL(divide_whole, QUENDARIC_STACK, quendaric_divide_whole(lent, size, x, y).quotient)                               \
   CALL(divide_whole_kept, QUENDARIC_STACK, quendaric_divide_whole_kept(x, y).quotient)                                 \
-  CALL(divide_binary64, QUENDARIC_STACK, quendaric_divide_binary64(table, size, a, b, a % 4).pattern)                  \
+  CALL(divide_binary64, QUENDARIC_STACK, quendaric_divide_binary64(lent, size, a, b, a % 4).pattern)                   \
   CALL(divide_binary64_kept, QUENDARIC_STACK, quendaric_divide_binary64_kept(a, b, a % 4).pattern)                     \
   CALL(divide_samples, QUENDARIC_STACK,                                                                                \
-       quendaric_divide_samples(table, size, &a, 1, &b, 1, &concentration, 1, a % 4).flags)                            \
+       quendaric_divide_samples(lent, size, &a, 1, &b, 1, &concentration, 1, a % 4).flags)                             \
   CALL(average_windows, QUENDARIC_STACK,                                                                               \
        quendaric_average_windows(readings, 8, 1 + a % 8, a % 16 > 7, means, 8, remainders, 8).refusal)                 \
   CALL(root_whole, QUENDARIC_STACK, quendaric_root_whole(x).root)                                                      \
-  CALL(step, QUENDARIC_STACK, quendaric_step(dividend, 0, divisor, table, size).sum)                                   \
+  CALL(step, QUENDARIC_STACK, quendaric_step(dividend, 0, divisor, lent, size).sum)                                    \
   CALL(divide_packed, QUENDARIC_STACK, quendaric_divide_packed(digit, digit + 8).quotient[0])                          \
   CALL(repair_table, QUENDARIC_STACK,                                                                                  \
        quendaric_repair_table(read_back, size, repaired, size, changed, size).count)                                   \
   CALL(affected_samples, QUENDARIC_STACK_AFFECTED,                                                                     \
        quendaric_affected_samples(read_back, size, &a, 1, &b, 1, changed, 1).count)                                    \
   CALL(affected_whole, QUENDARIC_STACK_AFFECTED, quendaric_affected_whole(read_back, size, x, y).affected)             \
-  CALL(count_visits, QUENDARIC_STACK, quendaric_count_visits(table, size, 1 + a % 2, digits, visits, size).refusal)    \
+  CALL(count_visits, QUENDARIC_STACK, quendaric_count_visits(lent, size, 1 + a % 2, digits, visits, size).refusal)     \
   CALL(compare_ratios, QUENDARIC_STACK, (uint64_t)quendaric_compare_ratios(x, y, x + a % 2, y + b % 2).order)          \
   CALL(root_binary64, QUENDARIC_STACK, quendaric_root_binary64(a >> 1, b % 4).pattern)
 
@@ -94,12 +97,22 @@ static long used(void) {
   return pointer - low;
 }
 
+/* A table with 1 to 64 bytes drawn anew, as digits or as any bytes; most such tables are refused. */
+static void spoil(void) {
+  const uint64_t end = bits() % 4 ? 5 : 256;
+  memcpy(bad, table, sizeof bad);
+  for (uint64_t left = 1 + bits() % 64; left > 0; left--)
+    bad[bits() % sizeof bad] = (uint8_t)(bits() % end);
+}
+
 /* The most that a call uses in so many turns. */
 static long most_of(void) {
   long most = 0;
   for (int turn = 0; turn < TURNS; turn++) {
     a = bits(), b = bits();
     readings[turn % 8] = a >> 24;
+    spoil();
+    lent = turn % 2 ? table : bad;
     digit[turn % 16] = (uint8_t)(a % 10 * 16 + b % 10);
     read_back[a % sizeof read_back] = (uint8_t)(b % 8);
     long now = used();
