@@ -30,7 +30,9 @@ static int verdict(const table_file *table, const char *name) {
     printf("witness: divisor %" PRIu64 ", remainder %" PRId64 "\n", report.divisor, report.remainder);
     return BAD;
   case QUENDARIC_REFUSED_LENGTH:
-    fprintf(stderr, "%s: refused (8): not %d bytes\n", name, QUENDARIC_TABLE_LENGTH);
+    /* no more than one byte too many is read */
+    fprintf(stderr, "%s: refused (8): %zu bytes%s, not %d\n", name, table->length,
+            table->length > QUENDARIC_TABLE_LENGTH ? " or more" : "", QUENDARIC_TABLE_LENGTH);
     return FAILED;
   case QUENDARIC_REFUSED_BYTE:
     fprintf(stderr, "%s: refused (9): the byte at %" PRIu64 " is above 4\n", name, report.place);
