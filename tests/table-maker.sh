@@ -16,12 +16,6 @@ by_bits() {
         END { for (k = 0; k < n; k++) { c = k % 128; print byte[k - c + (c < 64 ? c + 64 : c - 64)] } }'
 }
 
-# What was read back from the device.
-by_bits "$pentium" | awk '{ printf "\\%03o", $1 }' >octal
-# shellcheck disable=SC2059
-printf "$(cat octal)" >device.rom
-objcopy -I binary -O ihex device.rom readback.hex
-
 # Each command is a case: what it prints is what stands below it.
 count=0
 while IFS= read -r line; do
@@ -44,15 +38,25 @@ done
 
 # What the commands wrote.
 cp made.table found && same 'the made table is the kept one' "$kept"
-od -An -v -tu1 made.rom | tr -s ' ' '\n' | sed '/^$/d' >found
+words() {
+    tr -s ' ' '\n' | sed '/^$/d'
+}
+od -An -v -tu1 made.rom | words >found
 by_bits "$kept" >expected && same 'the table by the bits as they stand' expected
 for name in made.table:made.hex made.rom:made-rom.hex; do
     objcopy -I ihex -O binary "${name#*:}" found && same "${name#*:} is read back as it was" "${name%:*}"
 done
+printf '%s\n' '#include "made.h"' '#include <stdio.h>' 'int main(void) { return fwrite(table, 1, sizeof table, stdout) != 2048; }' >array.c
+gcc -std=c99 -Wall -Wextra -Werror -pedantic array.c -o array && ./array >found && same 'the C array has the bytes of the table' made.table
+od -An -v -tu1 made.table | words >expected
+words <made.mem | awk '
+    function digit(at) { return index("0123456789abcdef", substr($1, at, 1)) - 1 }
+    { print length($1) == 2 ? 16 * digit(1) + digit(2) : "no byte" }' >found
+same 'the file for readmemh has the bytes of the table' expected
 cp readback.table found && same 'what was read back' "$pentium"
 cp readback.svg found && same 'its picture' "$root/docs/pentium-1994.svg"
 "$root/target/bin/plot" visits <repaired.table >expected
 cp visits.svg found && same 'the visits of the repaired table' expected
 
 [ "$count" -gt 0 ] || echo 'FAILED: no command on the page'
-ends table-maker $((count + 7))
+ends table-maker $((count + 9))
