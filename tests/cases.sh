@@ -1,4 +1,4 @@
-# What tests/listing.sh, tests/repair.sh, tests/plot.sh and tests/vectors.sh share, to be read in by them: comparing whole outputs, and counting.
+# What tests/listing.sh, tests/repair.sh, tests/plot.sh, tests/table-maker.sh and tests/vectors.sh share, to be read in by them: comparing whole outputs, and counting.
 # shellcheck shell=sh
 set -u
 root=$(cd "$(dirname "$0")/.." && pwd)
@@ -58,6 +58,35 @@ unread() {
     same "$1: its input is a folder" "$work/expected"
     "$root/target/bin/$1" <&- >"$work/found" 2>&1
     same "$1: its input is closed" "$work/expected"
+}
+
+# The program $1 with the arguments from $3 on, which are not its own, says the line of use $2, prints nothing and reads nothing.
+misused() {
+    program=$1
+    echo "$2" >"$work/expected"
+    shift 2
+    { "$root/target/bin/$program" "$@" >"$work/printed" 2>"$work/found"; cat >>"$work/printed"; } <"$pentium"
+    same "$program '$*': the line of use" "$work/expected"
+    mv "$work/printed" "$work/found"
+    same "$program '$*': nothing is printed, nothing is read" "$pentium"
+}
+
+# The program $1 on the input $2, with the arguments that follow, prints the same where signals interrupt its calls. Where they do so without end, it
+# says so and ends.
+interrupts() {
+    program=$1
+    input=$2
+    shift 2
+    [ -e "$work/interrupted.so" ] || gcc -shared -fPIC "$root/tests/c/interrupted.c" -o "$work/interrupted.so" || exit 1
+    "$root/target/bin/$program" "$@" <"$input" >"$work/expected" 2>"$work/said"
+    cat "$work/said" >>"$work/expected"
+    OPENS=3 READS=3 WRITES=3 LD_PRELOAD=$work/interrupted.so "$root/target/bin/$program" "$@" <"$input" >"$work/found" 2>"$work/said"
+    cat "$work/said" >>"$work/found"
+    same "$program: interrupted calls are made again" "$work/expected"
+    echo "$program: not all was written" >"$work/expected"
+    WRITES=2000 LD_PRELOAD=$work/interrupted.so "$root/target/bin/$program" "$@" <"$input" 2>"$work/said" >"$work/found"
+    tail -n 1 "$work/said" >>"$work/found"
+    same "$program: writes that are interrupted without end" "$work/expected"
 }
 
 # A copy of the table $1 whose byte at the index $2 is the octal $3, in $work/changed.

@@ -1,6 +1,6 @@
 #!/bin/sh
 # The listing program on the inputs that the specification shows, and on what is no table; the maker. Whole outputs,
-# and what is said where not all was read or written.
+# and what is said where not all was read or written, and to arguments; calls that signals interrupt.
 # Drawn inputs are in tests/host/tests/listing.rs. Run it after `rt check listing maker` has written target/bin/.
 # shellcheck source=tests/cases.sh
 . "$(dirname "$0")/cases.sh"
@@ -38,4 +38,18 @@ loses listing "$kept"
 loses maker /dev/null
 unread listing
 
-ends listing 18
+use='usage: listing < TABLE'
+misused listing "$use" "$kept"
+misused listing "$use" ''
+misused listing "$use" --help more
+use='usage: maker > TABLE'
+misused maker "$use" made.table
+misused maker "$use" ''
+
+interrupts listing "$root/tests/data/all-bad.table"
+interrupts maker /dev/null
+echo 'listing: not all was read' >"$work/expected"
+READS=2000 LD_PRELOAD=$work/interrupted.so "$root/target/bin/listing" <"$kept" >"$work/found" 2>&1
+same 'reads that are interrupted without end' "$work/expected"
+
+ends listing 33

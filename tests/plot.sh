@@ -14,9 +14,6 @@ same 'the visits of the kept table' "$root/docs/visits.svg"
 "$root/target/bin/plot" visits <"$pentium" >"$work/found"
 printf 'refusal place\n10 215\n' >"$work/expected"
 same 'the visits of a table with a bad cell' "$work/expected"
-"$root/target/bin/plot" digits <"$kept" >"$work/found" 2>&1
-echo 'plot: there is one argument, visits' >"$work/expected"
-same 'another argument' "$work/expected"
 refuses plot
 unread plot
 loses plot "$pentium"
@@ -29,4 +26,13 @@ cat "$work/said" >>"$work/found"
 { head -c $((blocks * 512)) "$root/docs/pentium-1994.svg"; echo 'plot: not all was written'; } >"$work/expected"
 same 'a picture cut short' "$work/expected"
 
-ends plot 14
+use='usage: plot [visits] < TABLE'
+misused plot "$use" digits
+misused plot "$use" ''
+misused plot "$use" visit
+misused plot "$use" visitss
+misused plot "$use" visits visits
+
+interrupts plot "$pentium"
+
+ends plot 25

@@ -85,4 +85,10 @@ same 'its text is lost: full' /dev/null
 "$root/target/bin/repair" <"$pentium" >"$work/found" 2>&-
 same 'its text is lost: closed' /dev/null
 
-ends repair 26
+use='usage: repair < TABLE > REPAIRED'
+misused repair "$use" "$pentium"
+misused repair "$use" ''
+
+interrupts repair "$pentium"
+
+ends repair 32

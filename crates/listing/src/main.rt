@@ -10,6 +10,7 @@ use libc::STDERR_FILENO;
 use libc::STDIN_FILENO;
 use libc::STDOUT_FILENO;
 use printing::input::read_input;
+use printing::output::write_output;
 use printing::text::append;
 use printing::text::append_number;
 use printing::text::append_signed;
@@ -126,15 +127,19 @@ fn listing_of_input(bytes: &[u8; INPUT], count: usize, out: &mut [u8; ROOM]) -> 
 
 // A read or a write that fails is told: a table that is read in part would look too short, and a lost line would make a bad cell look allowed.
 fn main() {
+    if 1 < os::arg_count() {
+        write_output(STDERR_FILENO, b"usage: listing < TABLE\n");
+        return;
+    }
     let mut bytes = [0u8; INPUT];
     let input = read_input(STDIN_FILENO, &mut bytes);
     if input.failed {
-        io::write_all(STDERR_FILENO, b"listing: not all was read\n");
+        write_output(STDERR_FILENO, b"listing: not all was read\n");
         return;
     }
     let mut out = [0u8; ROOM];
     let end = listing_of_input(&bytes, input.count, &mut out);
-    if !io::write_all(STDOUT_FILENO, &out[..end]) {
-        io::write_all(STDERR_FILENO, b"listing: not all was written\n");
+    if write_output(STDOUT_FILENO, &out[..end]) != end {
+        write_output(STDERR_FILENO, b"listing: not all was written\n");
     }
 }

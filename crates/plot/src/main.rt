@@ -10,6 +10,7 @@ ghost use Rattle.selection.specs.Table.{Table};
 use libc::STDERR_FILENO;
 use libc::STDIN_FILENO;
 use printing::input::read_input;
+use printing::output::write_output;
 use selection::table::Outcome;
 
 // Up to so many bad cells, each stretch of them in a row gets a ring.
@@ -122,17 +123,17 @@ fn draw_asked(bytes: &[u8], of_visits: bool) -> bool {
 fn main() {
     let words = os::arg_count();
     if 2 < words || (words == 2 && !asks_visits()) {
-        io::write_all(STDERR_FILENO, b"plot: there is one argument, visits\n");
+        write_output(STDERR_FILENO, b"usage: plot [visits] < TABLE\n");
         return;
     }
     let mut bytes = [0u8; 2049];
     let input = read_input(STDIN_FILENO, &mut bytes);
     if input.failed {
-        io::write_all(STDERR_FILENO, b"plot: not all was read\n");
+        write_output(STDERR_FILENO, b"plot: not all was read\n");
         return;
     }
     let count = input.count;
     if !draw_asked(&bytes[..count], words == 2) {
-        io::write_all(STDERR_FILENO, b"plot: not all was written\n");
+        write_output(STDERR_FILENO, b"plot: not all was written\n");
     }
 }

@@ -1,3 +1,4 @@
+pub mod Calls
 pub mod Decimals
 pub mod Signs
 pub mod Texts

@@ -9,6 +9,7 @@ use libc::STDERR_FILENO;
 use libc::STDIN_FILENO;
 use libc::STDOUT_FILENO;
 use printing::input::read_input;
+use printing::output::write_output;
 use printing::text::append;
 use printing::text::append_number;
 use printing::text::append_refusal;
@@ -104,19 +105,23 @@ fn repair_input(
 
 // A read or a write that fails is told. Where the text cannot be told, the table is not written: a repair is not handed on in silence.
 fn main() {
+    if 1 < os::arg_count() {
+        write_output(STDERR_FILENO, b"usage: repair < TABLE > REPAIRED\n");
+        return;
+    }
     let mut bytes = [0u8; INPUT];
     let input = read_input(STDIN_FILENO, &mut bytes);
     if input.failed {
-        io::write_all(STDERR_FILENO, b"repair: not all was read\n");
+        write_output(STDERR_FILENO, b"repair: not all was read\n");
         return;
     }
     let mut table = [0u8; TABLE];
     let mut text = [0u8; ROOM];
     let written = repair_input(&bytes, input.count, &mut table, &mut text);
-    if !io::write_all(STDERR_FILENO, &text[..written.text]) {
+    if write_output(STDERR_FILENO, &text[..written.text]) != written.text {
         return;
     }
-    if !io::write_all(STDOUT_FILENO, &table[..written.table]) {
-        io::write_all(STDERR_FILENO, b"repair: not all was written\n");
+    if write_output(STDOUT_FILENO, &table[..written.table]) != written.table {
+        write_output(STDERR_FILENO, b"repair: not all was written\n");
     }
 }

@@ -1,11 +1,7 @@
 -- `printing::input::read_input` meets its contract: a read brings no more bytes than there is room for.
-use Rattle.laws.proofs.Basics.{_≡_, refl, _∙_, ℕ, _-_, _≤_, arith, ℤ, pos, negsuc, length, needs}
-use mir.Facts.{toZ-ofZ}
-use mir.Syntax.{w64}
-use mir.Val.{SFits}
-use Rattle.io.specs.Counts.{Counts, clamped}
-use Rattle.libc.specs.Io.{Moved}
-use Rattle.printing.proofs.Signs.{held}
+use Rattle.laws.proofs.Basics.{_≡_, refl, _∙_, _-_, _≤_, arith, length, needs}
+use Rattle.io.specs.Counts.{Counts}
+use Rattle.printing.proofs.Calls.{few}
 use Rattle.printing.proofs.Texts.{counts}
 use Rattle.printing.proofs.input.read_input.Statement.{statement}
 use Rattle.printing.proofs.input.read_input.Tie as tie
@@ -15,14 +11,6 @@ Inv-loop fd buffer₀ count₀ buffer count = (count ≤ length buffer) × (leng
 
 abbrev μ-loop : tie.MeasureT-loop
 μ-loop fd buffer₀ count₀ buffer count = length buffer - count
-
-clamped-moved : (z : ℤ) {m : ℕ} (most : ℕ) → Moved m z → clamped z most ≤ m
-clamped-moved (pos k) most h = omega arith
-clamped-moved (negsuc k) most h = omega arith
-
--- no more than was moved
-few : {n m : ℕ} (z : ℤ) (most : ℕ) → SFits w64 z → Moved m z → n ≡ clamped (held z) most → n ≤ m
-few z most f h e = rw (e, toZ-ofZ f) (clamped-moved z most h)
 
 -- the turn that a read is of
 abbrev turn : tie.After-buffer Inv-loop μ-loop → tie.At-loop Inv-loop μ-loop
