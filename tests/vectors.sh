@@ -42,7 +42,7 @@ runs 'a root among quotients' "$work/root" "$more"
 sed '29s/  /0 /' "$work/root" >"$work/filled"
 runs 'half a second operand' "$work/filled" "$more; s/\(29\|9725\) 0/\1 1/"
 
-without='/llvm/d; s/total 9724/total 9696/'
+without='/llvm/d; s/total 9724 0/total 9696 0, files not read: 1/'
 runs 'no file' "$work/none" "$without" 'div-llvm.txt: No such file or directory'
 mkdir "$work/folder"
 runs 'a folder' "$work/folder" "$without" 'div-llvm.txt: Is a directory'
@@ -57,7 +57,23 @@ mkdir "$work/empty"
 echo 'vectors: no div-testfloat.txt here; run it in crates/vectors/data' >"$work/expected"
 same 'in another folder' "$work/expected"
 
+# where no file can be read, the total says so
+for file in "$work/data"/*.txt; do
+    rm -r "$file" && mkdir "$file"
+done
+(cd "$work/data" && "$root/target/bin/vectors" >"$work/found" 2>"$work/said")
+printf '%s\n' 'file run differ' 'total 0 0, files not read: 7' >"$work/expected"
+same 'folders in place of all files' "$work/expected"
+cp "$work/said" "$work/found"
+for file in div-testfloat div-glibc div-llvm div-mpfr div-nan sqrt-testfloat sqrt-glibc; do
+    echo "$file.txt: Is a directory"
+done >"$work/expected"
+same 'folders in place of all files: each is told' "$work/expected"
+
 cd "$root/crates/vectors/data" || exit 1
 loses vectors /dev/null
+misused vectors 'usage: vectors (in crates/vectors/data)' div-llvm.txt
+misused vectors 'usage: vectors (in crates/vectors/data)' ''
+interrupts vectors /dev/null
 
-ends vectors 16
+ends vectors 24

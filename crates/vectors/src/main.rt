@@ -3,14 +3,15 @@ ghost use mathlib.Core.Path.{_≡_};
 ghost use Prim.Native.Nat.{_+_, _*_, _^_, _≤_, _<_};
 ghost use lib.ListN.{length, take};
 ghost use Rattle.io.specs.Counts.{Counts as Counts·io};
-ghost use Rattle.printing.specs.Text.{Appended};
+ghost use Rattle.printing.specs.Text.{ascii, Appended};
 ghost use Rattle.vectors.specs.Vectors.{nibbleOf, hexOf, isRoot, vectorOf, isDecimal, isHex, fitsAt, blankAt, lineFits, formedUpto, answerOf, differsIn, lineDiffers, lineAt, countsOf, runOf, Ran};
-ghost use Rattle.vectors.specs.Report.{countsText, added, Room, WithFile, Reports};
+ghost use Rattle.vectors.specs.Report.{countsText, totalText, added, Room, WithFile, Reports};
 use division::format::Binary64Answer;
 use libc::STDERR_FILENO;
 use libc::STDOUT_FILENO;
 use printing::input::Input;
 use printing::input::read_input;
+use printing::output::write_output;
 use printing::text::append;
 use printing::text::append_number;
 
@@ -35,14 +36,18 @@ enum FileRun {
     Counted(Counts),
 }
 
-// The report so far: where its text ends, and the counts of all files.
+// The report so far: where its text ends, the counts of all files, and how many files were not read.
 struct Page {
     end: usize,
     total: Counts,
+    unread: u64,
 }
 
-// Room for the longest report: 16 bytes of names, and eight lines of a name and two numbers of 20 digits.
-const ROOM: usize = 462;
+// Room for the longest report: 16 bytes of names, eight lines of a name and two numbers of 20 digits, and 38 bytes on files that were not read.
+const ROOM: usize = 500;
+
+// How often in a row an opening that a signal interrupts is tried again.
+const AGAIN: usize = 1000;
 
 // Room for the bytes of 16,000 lines and one byte more, so that a longer file is seen.
 const FILE: usize = 896001;
@@ -241,11 +246,22 @@ fn count_lines(bytes: &[u8]) -> Counts
     }
 }
 
+// Tried again where a signal has interrupted it.
+fn open_file(name: &[u8]) -> i32 {
+    for _ in 0..AGAIN {
+        let fd = os::open_read(name);
+        if 0 <= fd || os::errno() != libc::EINTR {
+            return fd;
+        }
+    }
+    os::open_read(name)
+}
+
 // A file that cannot be opened, or of which a read fails, is told on standard error.
 fn read_file(name: &[u8], bytes: &mut [u8; FILE]) -> Input
     ensures { λ r. ⌜ Counts·io (r .count) (now (bytes .exit)) ⌝ }
 {
-    let fd = os::open_read(name);
+    let fd = open_file(name);
     if fd < 0 {
         os::fail(name);
         return Input {
@@ -262,8 +278,8 @@ fn read_file(name: &[u8], bytes: &mut [u8; FILE]) -> Input
 }
 
 fn tell_too_long(name: &[u8]) {
-    io::write_all(STDERR_FILENO, name);
-    io::write_all(STDERR_FILENO, b": more than 16000 lines\n");
+    write_output(STDERR_FILENO, name);
+    write_output(STDERR_FILENO, b": more than 16000 lines\n");
 }
 
 // What is told of a file of which that was read.
@@ -291,47 +307,75 @@ fn run_file(name: &[u8]) -> FileRun
     run_of(name, &bytes, input)
 }
 
-// A name, the number of lines and how many of them differ.
-fn append_counts(out: &mut [u8], at: usize, name: &[u8], counts: Counts) -> usize
-    requires { ⌜ at + length (now name) + 43 ≤ length (now out) ⌝ }
-    ensures { λ r. ⌜ Appended (now (out .entry)) at (countsText (now (name .entry)) counts) (now (out .exit)) r ⌝ }
-    ensures { λ r. ⌜ r ≤ at + length (now (name .entry)) + 43 ⌝ }
+// A name, the number of lines and how many of them differ, and what follows them.
+fn append_counts(out: &mut [u8], at: usize, name: &[u8], counts: Counts, end: &[u8]) -> usize
+    requires { ⌜ at + length (now name) + 42 + length (now end) ≤ length (now out) ⌝ }
+    ensures { λ r. ⌜ Appended (now (out .entry)) at (countsText (now (name .entry)) counts (now (end .entry))) (now (out .exit)) r ⌝ }
+    ensures { λ r. ⌜ r ≤ at + length (now (name .entry)) + 42 + length (now (end .entry)) ⌝ }
 {
     let named = append(out, at, name);
     let parted = append(out, named, b" ");
     let after_run = append_number(out, parted, counts.run, b" ");
-    append_number(out, after_run, counts.differ, b"\n")
+    append_number(out, after_run, counts.differ, end)
 }
 
 // The report with one file more.
 fn with_counts(out: &mut [u8], page: Page, name: &[u8], counts: Counts) -> Page
     requires { ⌜ Room (now out) page (now name) × (counts .run ≤ 16000) × (counts .differ ≤ 16000) ⌝ }
-    ensures { λ r. ⌜ Appended (now (out .entry)) (page .end) (countsText (now (name .entry)) counts) (now (out .exit)) (r .end) ⌝ }
+    ensures { λ r. ⌜ Appended (now (out .entry)) (page .end) (countsText (now (name .entry)) counts (ascii "\n")) (now (out .exit)) (r .end) ⌝ }
     ensures { λ r. ⌜ r .total ≡ added (page .total) counts ⌝ }
+    ensures { λ r. ⌜ r .unread ≡ page .unread ⌝ }
     ensures { λ r. ⌜ r .end ≤ page .end + length (now (name .entry)) + 43 ⌝ }
 {
     let total = page.total;
-    let end = append_counts(out, page.end, name, counts);
+    let end = append_counts(out, page.end, name, counts, b"\n");
     Page {
         end,
         total: Counts {
             run: total.run + counts.run,
             differ: total.differ + counts.differ,
         },
+        unread: page.unread,
     }
 }
 
-// Runs a file. One of which not all was read adds nothing.
+// The report with one file more that was not read.
+fn with_unread(page: Page) -> Page
+    requires { ⌜ page .unread ≤ 1000000 ⌝ }
+    ensures { λ r. ⌜ (r .end ≡ page .end) × (r .total ≡ page .total) × (r .unread ≡ page .unread + 1) ⌝ }
+{
+    let total = page.total;
+    Page {
+        end: page.end,
+        total,
+        unread: page.unread + 1,
+    }
+}
+
+// Runs a file. One of which not all was read has no line.
 fn with_file(out: &mut [u8], page: Page, name: &[u8]) -> Page
     requires { ⌜ Room (now out) page (now name) ⌝ }
     ensures { λ r. ⌜ WithFile (now (out .entry)) page (now (name .entry)) (now (out .exit)) r ⌝ }
-    ensures { λ r. ⌜ (r .end ≤ page .end + length (now (name .entry)) + 43) × (r .total .run ≤ page .total .run + 16000) × (r .total .differ ≤ page .total .differ + 16000) ⌝ }
+    ensures { λ r. ⌜ (r .end ≤ page .end + length (now (name .entry)) + 43) × (r .total .run ≤ page .total .run + 16000) × (r .total .differ ≤ page .total .differ + 16000) × (r .unread ≤ page .unread + 1) ⌝ }
 {
     let run = run_file(name);
     match run {
-        FileRun::Unread => page,
+        FileRun::Unread => with_unread(page),
         FileRun::Counted(counts) => with_counts(out, page, name, counts),
     }
+}
+
+// The line for all files. Where some were not read it says how many: `total 0 0` alone would look like a pass.
+fn append_total(out: &mut [u8], page: Page) -> usize
+    requires { ⌜ page .end + 86 ≤ length (now out) ⌝ }
+    ensures { λ r. ⌜ Appended (now (out .entry)) (page .end) (totalText (page .total) (page .unread)) (now (out .exit)) r ⌝ }
+    ensures { λ r. ⌜ r ≤ page .end + 86 ⌝ }
+{
+    if page.unread == 0 {
+        return append_counts(out, page.end, b"total", page.total, b"\n");
+    }
+    let next = append_counts(out, page.end, b"total", page.total, b", files not read: ");
+    append_number(out, next, page.unread, b"\n")
 }
 
 // All that is printed.
@@ -341,6 +385,7 @@ fn report(out: &mut [u8; ROOM]) -> usize
     let start = Page {
         end: append(out, 0, b"file run differ\n"),
         total: Counts { run: 0, differ: 0 },
+        unread: 0,
     };
     let one = with_file(out, start, b"div-testfloat.txt");
     let two = with_file(out, one, b"div-glibc.txt");
@@ -349,20 +394,20 @@ fn report(out: &mut [u8; ROOM]) -> usize
     let five = with_file(out, four, b"div-nan.txt");
     let six = with_file(out, five, b"sqrt-testfloat.txt");
     let seven = with_file(out, six, b"sqrt-glibc.txt");
-    append_counts(out, seven.end, b"total", seven.total)
+    append_total(out, seven)
 }
 
 fn print_report() {
     let mut out = [0u8; ROOM];
     let end = report(&mut out);
-    if !io::write_all(STDOUT_FILENO, &out[..end]) {
-        io::write_all(STDERR_FILENO, b"vectors: not all was written\n");
+    if write_output(STDOUT_FILENO, &out[..end]) != end {
+        write_output(STDERR_FILENO, b"vectors: not all was written\n");
     }
 }
 
 // Whether the program runs where its files are: the first of them can be opened.
 fn files_are_here() -> bool {
-    let fd = os::open_read(b"div-testfloat.txt");
+    let fd = open_file(b"div-testfloat.txt");
     if fd < 0 {
         return false;
     }
@@ -371,8 +416,12 @@ fn files_are_here() -> bool {
 }
 
 fn main() {
+    if 1 < os::arg_count() {
+        write_output(STDERR_FILENO, b"usage: vectors (in crates/vectors/data)\n");
+        return;
+    }
     if !files_are_here() {
-        io::write_all(
+        write_output(
             STDERR_FILENO,
             b"vectors: no div-testfloat.txt here; run it in crates/vectors/data\n",
         );

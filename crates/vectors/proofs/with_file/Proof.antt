@@ -31,15 +31,21 @@ with-counts-requires c κs =
     let small = few-told (k .run-file .ensures) (c .before .before .run .given .1) in
     (k .before .before .before .pre, small .0, small .1)
 
+returns : tie.Need-returns
+returns c =
+    let more = c .with-unread .ensures in
+    let told = c .before in
+    let ran = subst Ran (told .enum-told .given .1) (told .before .before .run-file .ensures) in
+    (record { file = Unread; ran = ran; text = rw (more .0) (appended-none _ _); total = more .1; unread = more .2 }, rw (more .1) (omega (arith, more .0, more .2)))
+
 returns-2 : tie.Need-returns-2
 returns-2 c =
     let told = c .before .before .with-counts .ensures in
     let k = c .before .before .before .before .before in
     let ran = subst Ran (k .run .given .1) (k .before .before .run-file .ensures) in
-    (record { file = Counted (k .run .given .0 .0); ran = ran; text = told .0; total = told .1 .0 }, rw (told .1 .0) (omega (arith, few-told ran refl)))
+    (record { file = Counted (k .run .given .0 .0); ran = ran; text = told .0; total = told .1 .0; unread = told .1 .1 .0 }, rw (told .1 .0) (omega (arith, few-told ran refl, told .1 .1)))
 
 pub with-file-spec : {M : Type 1} → statement M
 with-file-spec =
-    tie.close (tie.spec (λ c κs. search needs) (λ c. search needs) (λ c. search needs) with-counts-requires
-    (λ c. (record { file = Unread; ran = subst Ran (c .enum-told .given .1) (c .before .before .run-file .ensures); text = appended-none _ _; total = refl }, omega arith))
-    (λ c. search needs) returns-2)
+    tie.close (tie.spec (λ c κs. search needs) (λ c. search needs) (λ c κs. search needs) (λ c. search needs) with-counts-requires
+    returns (λ c. search needs) returns-2)
