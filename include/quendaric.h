@@ -26,8 +26,9 @@
 
    No call keeps a pointer, allocates memory or has state, so all calls are reentrant and may be made from any thread.
 
-   Target. The archive is for x86-64 with the System V calling convention and a size_t of 64 bits. It needs no library
-   and uses vector registers. A call uses at most QUENDARIC_STACK bytes of stack below its caller's;
+   Target. The archive of `rt staticlib` is for x86-64 with the System V calling convention and a size_t of 64 bits. It
+   needs no library and uses vector registers. cross/build makes archives for little-endian Arm, AArch64 and RISC-V from
+   the same proved functions (docs/TARGETS.md). A call uses at most QUENDARIC_STACK bytes of stack below its caller's;
    quendaric_affected_samples and quendaric_affected_whole, which are for a dock or a desk, use at most
    QUENDARIC_STACK_AFFECTED.
 
@@ -40,8 +41,38 @@
 #ifndef QUENDARIC_H
 #define QUENDARIC_H
 
-#if !defined(__x86_64__) || defined(__ILP32__) || defined(_WIN32) || defined(__CYGWIN__)
-#error "libquendaric.a is for x86-64 with System V calls and a 64-bit size_t, and for no other target"
+#if !defined(QUENDARIC_C99) &&                                                                                         \
+    (defined(_WIN32) || defined(__CYGWIN__) || defined(__APPLE__) || __BYTE_ORDER__ != __ORDER_LITTLE_ENDIAN__ ||      \
+     !(defined(__x86_64__) && !defined(__ILP32__) || defined(__ARM_EABI__) ||                                          \
+       defined(__aarch64__) && !defined(__ILP32__) || defined(__riscv) && !defined(__riscv_abi_rve)))
+#error "libquendaric.a is for x86-64 with System V calls, and as cross/build makes it for little-endian Arm, AArch64 and RISC-V; elsewhere compile the C of `cross/build c99` and define QUENDARIC_C99"
+#endif
+
+/* Elsewhere than on x86-64 the calls have these names in the archive that cross/build makes. An archive that was made
+   otherwise of the same functions, so that its calls are not those of the target's C, has no such names: it cannot be
+   linked. */
+#if defined(QUENDARIC_C99) || !defined(__x86_64__)
+#define quendaric_check_cell quendaric_cross_check_cell
+#define quendaric_check_table quendaric_cross_check_table
+#define quendaric_row_limits quendaric_cross_row_limits
+#define quendaric_make_table quendaric_cross_make_table
+#define quendaric_run quendaric_cross_run
+#define quendaric_run_kept quendaric_cross_run_kept
+#define quendaric_step quendaric_cross_step
+#define quendaric_divide_whole quendaric_cross_divide_whole
+#define quendaric_divide_whole_kept quendaric_cross_divide_whole_kept
+#define quendaric_divide_binary64 quendaric_cross_divide_binary64
+#define quendaric_divide_binary64_kept quendaric_cross_divide_binary64_kept
+#define quendaric_divide_samples quendaric_cross_divide_samples
+#define quendaric_repair_table quendaric_cross_repair_table
+#define quendaric_affected_samples quendaric_cross_affected_samples
+#define quendaric_affected_whole quendaric_cross_affected_whole
+#define quendaric_average_windows quendaric_cross_average_windows
+#define quendaric_divide_packed quendaric_cross_divide_packed
+#define quendaric_count_visits quendaric_cross_count_visits
+#define quendaric_compare_ratios quendaric_cross_compare_ratios
+#define quendaric_root_whole quendaric_cross_root_whole
+#define quendaric_root_binary64 quendaric_cross_root_binary64
 #endif
 
 #ifndef __cplusplus
@@ -50,7 +81,7 @@
 #include <stddef.h>
 #include <stdint.h>
 
-#ifdef __GNUC__
+#if defined(__GNUC__) && defined(__x86_64__)
 /* gcc -mabi=ms makes Microsoft's calls and defines no macro for them, but its va_list is a mere pointer. */
 typedef char quendaric_wants_system_v_calls[sizeof(__builtin_va_list) == 24 ? 1 : -1];
 #endif

@@ -2,8 +2,10 @@
    a literal when this file is compiled, as C and as C++. And a version whose parts are not its numbers. */
 
 #include "quendaric.h"
+#ifndef LAYOUT_ONLY /* tests/cross/run compiles this file where there may be no C library */
 #include <stdio.h>
 #include <string.h>
+#endif
 
 #ifdef __cplusplus
 #define _Static_assert static_assert
@@ -96,6 +98,7 @@ FIELD(quendaric_samples, flags, 16, 8);
 FIELD(quendaric_samples, count, 24, 8);
 SIZE(quendaric_samples, 32);
 
+#ifndef LAYOUT_ONLY
 int main(void) {
   char version[32];
   snprintf(version, sizeof version, "%d.%d.%d", QUENDARIC_VERSION_MAJOR, QUENDARIC_VERSION_MINOR,
@@ -106,3 +109,4 @@ int main(void) {
   }
   return 0;
 }
+#endif
