@@ -32,10 +32,10 @@
    quendaric_affected_samples and quendaric_affected_whole, which are for a dock or a desk, use at most
    QUENDARIC_STACK_AFFECTED.
 
-   Interrupts. The archive is compiled with System V's red zone: a call keeps values in the 128 bytes below its stack
-   pointer. An interrupt that is taken on the same stack overwrites them; the call may then crash, or return a wrong
-   answer with refusal 0. Where interrupts do not change the stack, as in firmware without a user mode, give each of
-   them a stack of its own (an IST entry), or disable them during a call; an NMI, which cannot be disabled, needs its
+   Interrupts. The archive for x86-64 is compiled with System V's red zone: a call keeps values in the 128 bytes below
+   its stack pointer. An interrupt that is taken on the same stack overwrites them; the call may then crash, or return a
+   wrong answer with refusal 0. Where interrupts do not change the stack, as in firmware without a user mode, give each
+   of them a stack of its own (an IST entry), or disable them during a call; an NMI, which cannot be disabled, needs its
    own stack. A Linux signal handler spares the red zone. */
 
 #ifndef QUENDARIC_H
@@ -109,10 +109,10 @@ extern "C" {
 #endif
 
 /* The version of these calls. CHANGELOG.md says what changed in each. */
-#define QUENDARIC_VERSION "2.4.1"
+#define QUENDARIC_VERSION "2.5.0"
 #define QUENDARIC_VERSION_MAJOR 2
-#define QUENDARIC_VERSION_MINOR 4
-#define QUENDARIC_VERSION_PATCH 1
+#define QUENDARIC_VERSION_MINOR 5
+#define QUENDARIC_VERSION_PATCH 0
 
 #define QUENDARIC_TABLE_LENGTH 2048
 #define QUENDARIC_MOST_DIGITS 28

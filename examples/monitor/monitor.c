@@ -3,10 +3,6 @@
 
 #include "monitor.h"
 
-static bool is_finite(uint64_t pattern) {
-  return (pattern >> 52 & 0x7FF) != 0x7FF;
-}
-
 /* The concentration in whole parts per billion. There is none where
    - the current or the sensitivity is infinite or a NaN: a quiet NaN raises no flag, an infinite sensitivity gives 0;
    - the sensitivity is below zero; where it is zero, the cell is dead, and the flag is division by zero or invalid;
@@ -15,10 +11,10 @@ static bool is_finite(uint64_t pattern) {
    - it would be more than a billion parts in a billion: the sensitivity is almost zero. */
 static bool concentration(uint64_t current, uint64_t sensitivity, uint64_t *ppb) {
   const uint64_t harmless = QUENDARIC_INEXACT | QUENDARIC_UNDERFLOW;
-  if (!is_finite(current) || !is_finite(sensitivity) || sensitivity >> 63 != 0)
+  if (!quendaric_is_finite(current) || !quendaric_is_finite(sensitivity) || sensitivity >> 63 != 0)
     return false;
   const quendaric_binary64 r = quendaric_divide_binary64_kept(current, sensitivity, QUENDARIC_NEAREST);
-  if (r.refusal != 0 || (r.flags & ~harmless) != 0 || !is_finite(r.pattern))
+  if (r.refusal != 0 || (r.flags & ~harmless) != 0 || !quendaric_is_finite(r.pattern))
     return false;
   const double quotient = quendaric_double(r.pattern);
   if (quotient > 1e9)
