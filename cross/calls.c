@@ -190,3 +190,46 @@ quendaric_binary64 quendaric_root_binary64(uint64_t a, uint64_t direction) {
   quendaric_proved_root_binary64(&answer, a, direction);
   return answer;
 }
+
+void quendaric_proved_check_cell_for(void *, uint64_t, uint64_t, uint64_t, uint8_t);
+quendaric_cell quendaric_check_cell_for(uint64_t estimate_bits, uint64_t row, uint64_t column, uint8_t byte) {
+  quendaric_cell answer;
+  quendaric_proved_check_cell_for(&answer, estimate_bits, row, column, byte);
+  return answer;
+}
+
+void quendaric_proved_check_table_for(void *, uint64_t, const void *);
+quendaric_report quendaric_check_table_for(uint64_t estimate_bits, const uint8_t *table, size_t table_length) {
+  quendaric_report answer;
+  const slice lent_table = {table, table_length};
+  quendaric_proved_check_table_for(&answer, estimate_bits, &lent_table);
+  return answer;
+}
+
+void quendaric_proved_row_limits_for(void *, uint64_t, uint64_t);
+quendaric_limits quendaric_row_limits_for(uint64_t estimate_bits, uint64_t row) {
+  quendaric_limits answer;
+  quendaric_proved_row_limits_for(&answer, estimate_bits, row);
+  return answer;
+}
+
+void quendaric_proved_make_table_for(void *, uint64_t, const void *);
+quendaric_made quendaric_make_table_for(uint64_t estimate_bits, uint8_t *QUENDARIC_RESTRICT buffer,
+                                        size_t buffer_length) {
+  quendaric_made answer;
+  const slice lent_buffer = {buffer, buffer_length};
+  quendaric_proved_make_table_for(&answer, estimate_bits, &lent_buffer);
+  return answer;
+}
+
+void quendaric_proved_repair_table_for(void *, uint64_t, const void *, const void *, const void *);
+quendaric_repaired quendaric_repair_table_for(uint64_t estimate_bits, const uint8_t *table, size_t table_length,
+                                              uint8_t *QUENDARIC_RESTRICT repaired, size_t repaired_length,
+                                              uint8_t *QUENDARIC_RESTRICT changed, size_t changed_length) {
+  quendaric_repaired answer;
+  const slice lent_table = {table, table_length};
+  const slice lent_repaired = {repaired, repaired_length};
+  const slice lent_changed = {changed, changed_length};
+  quendaric_proved_repair_table_for(&answer, estimate_bits, &lent_table, &lent_repaired, &lent_changed);
+  return answer;
+}

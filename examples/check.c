@@ -1,9 +1,10 @@
 /* Checks a table of quotient digits before it is burned.
 
-     check TABLE-FILE        or        check < TABLE-FILE
+     check [7|8] TABLE-FILE        or        check [7|8] < TABLE-FILE
 
-   Prints the verdict and the number of bad cells; where there is one, the first with its digit and its witness, the
-   divisor and the remainder that the digit drives out of range.
+   7 or 8 is the number of bits that the divider adds of each remainder word; without it, 8. (A table in a file of that
+   name is ./7 or ./8.) Prints the verdict and the number of bad cells; where there is one, the first with its digit and
+   its witness, the divisor and the remainder that the digit drives out of range.
    Status: 0 the table passed, 1 it has a bad cell, 2 it was refused for its form, or could not be read, or the verdict
    could not be written; what is wrong stands on standard error.
    Build: gcc -Iinclude examples/check.c target/staticlib/libquendaric.a -o check */
@@ -13,18 +14,20 @@
 #include "written.h"
 #include <inttypes.h>
 #include <stdio.h>
+#include <string.h>
 
 enum { PASSED = 0, BAD = 1, FAILED = 2 };
 
-/* The verdict on what was read. */
-static int verdict(const table_file *table, const char *name) {
-  quendaric_report report = quendaric_check_table(table->bytes, table->length);
+/* The verdict on what was read, for a divider that adds so many bits. */
+static int verdict(uint64_t bits, const table_file *table, const char *name) {
+  quendaric_report report = quendaric_check_table_for(bits, table->bytes, table->length);
+  const char *by = bits == 7 ? " by seven bits" : "";
   switch (report.refusal) {
   case 0:
-    printf("passed\nbad cells: 0\n");
+    printf("passed\nbad cells%s: 0\n", by);
     return PASSED;
   case QUENDARIC_REFUSED_BAD_CELL:
-    printf("bad\nbad cells: %" PRIu64 "\n", report.count);
+    printf("bad\nbad cells%s: %" PRIu64 "\n", by, report.count);
     printf("first bad cell: row %" PRIu64 ", column %" PRIu64 ", digit %d\n", report.row, report.column,
            table->bytes[report.place] - 2);
     printf("witness: divisor %" PRIu64 ", remainder %" PRId64 "\n", report.divisor, report.remainder);
@@ -45,16 +48,19 @@ static int verdict(const table_file *table, const char *name) {
 
 int main(int argc, char **argv) {
   table_file table;
-  if (argc > 2) {
-    fprintf(stderr, "usage: check [TABLE-FILE]\n");
+  const int asked = argc > 1 && (strcmp(argv[1], "7") == 0 || strcmp(argv[1], "8") == 0);
+  const uint64_t bits = asked && argv[1][0] == '7' ? 7 : 8;
+  if (argc > 2 + asked) {
+    fprintf(stderr, "usage: check [7|8] [TABLE-FILE]\n");
     return FAILED;
   }
-  const char *name = argc == 2 ? argv[1] : "standard input";
-  FILE *file = argc == 2 ? fopen(name, "rb") : stdin;
+  const int named = argc == 2 + asked;
+  const char *name = named ? argv[1 + asked] : "standard input";
+  FILE *file = named ? fopen(name, "rb") : stdin;
   if (file == NULL) {
     perror(name);
     return FAILED;
   }
-  int status = read_table(file, name, &table) ? verdict(&table, name) : FAILED;
+  int status = read_table(file, name, &table) ? verdict(bits, &table, name) : FAILED;
   return written() ? status : FAILED;
 }

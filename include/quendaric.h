@@ -4,17 +4,22 @@
    The table. A table is 2,048 bytes. Byte 128 * row + column holds the quotient digit q as q + 2, so it is 0 to 4. The
    row is the four bits that follow the divisor's leading one. The column is t + 64, where t is the truncated estimate
    of the partial remainder: the top eight bits of the sum word and of the carry word are added modulo 256, the lowest
-   bit of that sum is dropped, and the seven bits that are left are read as a signed number. The kept table is built
-   into the archive and passes the check: a call whose name ends in _kept divides through it, and quendaric_make_table
-   writes it.
+   bit of that sum is dropped, and the seven bits that are left are read as a signed number. Every call that divides or
+   counts visits steps by this estimate of eight bits. The kept table is built into the archive and passes the check: a
+   call whose name ends in _kept divides through it, and quendaric_make_table writes it.
+
+   Dividers of seven bits. A divider may add the top seven bits of each word instead, modulo 128, and read that sum as
+   signed. It leaves more of the remainder out, so it allows fewer digits: a table that passes for seven bits passes for
+   eight too, and serves in every call here; the kept table passes for eight bits alone. A call whose name ends in _for
+   takes estimate_bits, the number of bits that the divider adds of each word, 7 or 8, and speaks of that divider.
 
    Answers. Every call returns, and returns its answer by value. The first two fields of an answer are the refusal and
    its place. Refusal 0 means that the call did what its comment says. Invalid input returns a refusal number and an
-   index, the place; all other fields are 0 and your buffers are unchanged (quendaric_check_table also returns count,
+   index, the place; all other fields are 0 and your buffers are unchanged (the check of a table also returns count,
    cell and witness with refusal 10). The place is 0 unless the refusal is 9, 10, 13 or 15. Test the refusal before you
    use another field: a quotient, a pattern or an order of 0 beside a refusal looks like an answer and is none. Where
-   several refusals apply, the call returns the one that comes first in the order 1, 2, 16, 3, 14, 15, 4 to 6, 11 to 13,
-   7 to 10.
+   several refusals apply, the call returns the one that comes first in the order 17, 1, 2, 16, 3, 14, 15, 4 to 6, 11 to
+   13, 7 to 10.
 
    Pointers. These are C's own rules, and no call tests them:
    - A pointer is valid for its length. With length 0 it is not read or written, and it may be NULL.
@@ -73,6 +78,11 @@
 #define quendaric_compare_ratios quendaric_cross_compare_ratios
 #define quendaric_root_whole quendaric_cross_root_whole
 #define quendaric_root_binary64 quendaric_cross_root_binary64
+#define quendaric_check_cell_for quendaric_cross_check_cell_for
+#define quendaric_check_table_for quendaric_cross_check_table_for
+#define quendaric_row_limits_for quendaric_cross_row_limits_for
+#define quendaric_make_table_for quendaric_cross_make_table_for
+#define quendaric_repair_table_for quendaric_cross_repair_table_for
 #endif
 
 #ifndef __cplusplus
@@ -109,9 +119,9 @@ extern "C" {
 #endif
 
 /* The version of these calls. CHANGELOG.md says what changed in each. */
-#define QUENDARIC_VERSION "2.5.0"
+#define QUENDARIC_VERSION "2.6.0"
 #define QUENDARIC_VERSION_MAJOR 2
-#define QUENDARIC_VERSION_MINOR 5
+#define QUENDARIC_VERSION_MINOR 6
 #define QUENDARIC_VERSION_PATCH 0
 
 #define QUENDARIC_TABLE_LENGTH 2048
@@ -120,9 +130,9 @@ extern "C" {
 
 /* A call uses at most so many bytes of stack. That is promised and not proved. In brackets stands the most that was
    measured, over drawn operands, with tables that pass and with tables that are refused: quendaric_count_visits uses
-   584 where it refuses a table by 10, and 512 is the most of any call that refuses none. */
-#define QUENDARIC_STACK 1024 /* (584 measured) */
-#define QUENDARIC_STACK_AFFECTED 8192 /* (4417 measured) */
+   580 where it refuses a table by 10, and 512 is the most of any call that refuses none. */
+#define QUENDARIC_STACK 1024 /* (580 measured) */
+#define QUENDARIC_STACK_AFFECTED 8192 /* (4497 measured) */
 
 /* Refusals. The maker of the table has to mend 8 to 10, the caller all others. */
 #define QUENDARIC_REFUSED_CELL 1      /* the row is above 15 or the column above 127 */
@@ -141,6 +151,7 @@ extern "C" {
 #define QUENDARIC_REFUSED_RANGE 14    /* three times the remainder of a step is below -8 or above 8 divisors */
 #define QUENDARIC_REFUSED_DECIMAL 15  /* a half byte is above 9; the place is its byte, 8 to 15 in the divisor */
 #define QUENDARIC_REFUSED_BITS 16     /* the number of significant bits is 0 or above 6 */
+#define QUENDARIC_REFUSED_ESTIMATE_BITS 17 /* the number of bits of the estimate is neither 7 nor 8 */
 
 /* Rounding directions for binary64. */
 #define QUENDARIC_NEAREST 0 /* to nearest, ties to even */
@@ -290,19 +301,33 @@ typedef struct {
   uint64_t place;
 } quendaric_visits;
 
-/* Examines one cell: may the digit byte - 2 stand in it? That it may not is an ordinary answer, not a refusal. Writes
-   nothing. Refuses 1, then 9 with the place 128 * row + column. */
+/* Examines one cell for a divider that adds eight bits: may the digit byte - 2 stand in it? That it may not is an
+   ordinary answer, not a refusal. Writes nothing. Refuses 1, then 9 with the place 128 * row + column. */
 QUENDARIC_ANSWER
 quendaric_cell quendaric_check_cell(uint64_t row, uint64_t column, uint8_t byte);
 
-/* Checks a table. The table passed exactly when the refusal is 0. Writes nothing. Refuses 8, 9, 10; with 10 alone the
-   answer also has count, row, column and witness. */
+/* Does the same for a divider that adds estimate_bits bits, 7 or 8. Refuses 17, 1, 9, in this order. */
+QUENDARIC_ANSWER
+quendaric_cell quendaric_check_cell_for(uint64_t estimate_bits, uint64_t row, uint64_t column, uint8_t byte);
+
+/* Checks a table for a divider that adds eight bits. The table passed exactly when the refusal is 0. It may still be bad
+   in a divider that adds seven: ask quendaric_check_table_for. Writes nothing. Refuses 8, 9, 10; with 10 alone the answer
+   also has count, row, column and witness. */
 QUENDARIC_ANSWER
 quendaric_report quendaric_check_table(const uint8_t *table, size_t length);
+
+/* Does the same for a divider that adds estimate_bits bits, 7 or 8. A table that passes for 7 passes for 8 too. Refuses
+   17, 8, 9, 10, in this order. */
+QUENDARIC_ANSWER
+quendaric_report quendaric_check_table_for(uint64_t estimate_bits, const uint8_t *table, size_t table_length);
 
 /* Returns the six columns at which the digits of a row of the kept table change. Writes nothing. Refuses 1. */
 QUENDARIC_ANSWER
 quendaric_limits quendaric_row_limits(uint64_t row);
+
+/* Does the same for a row of the table that quendaric_make_table_for writes. Refuses 17, 1, in this order. */
+QUENDARIC_ANSWER
+quendaric_limits quendaric_row_limits_for(uint64_t estimate_bits, uint64_t row);
 
 /* Writes the kept table: each cell gets the allowed digit that is nearest zero. It writes the first 2,048 bytes of the
    buffer and leaves later bytes as they are. Do not burn this table into a divider that adds only the top seven bits of
@@ -310,16 +335,30 @@ quendaric_limits quendaric_row_limits(uint64_t row);
 QUENDARIC_ANSWER
 quendaric_made quendaric_make_table(uint8_t *QUENDARIC_RESTRICT buffer, size_t length);
 
+/* Writes the table for a divider that adds estimate_bits bits: 8 gives the kept table, 7 one that passes for either
+   divider. Refuses 17, 7, in this order. */
+QUENDARIC_ANSWER
+quendaric_made quendaric_make_table_for(uint64_t estimate_bits, uint8_t *QUENDARIC_RESTRICT buffer,
+                                        size_t buffer_length);
+
 /* Repairs a table that was read back from a device. A bad cell, or a byte above 4, gets the digit of the kept table;
    every other byte is copied. The call writes the repaired table to the first 2,048 bytes of repaired and to those of
    changed a 1 for each cell that it changed and a 0 for each other; it leaves later bytes as they are. The repaired
-   table passes the check, and no table that passes differs from the one read back in fewer cells. Both hold for this
-   unit's estimate of eight bits: for a divider that adds seven bits a repaired table may be bad. Neither buffer may
-   overlap the table or the other buffer, so a table cannot be repaired in place. Refuses 7, 8, and never 9 or 10. */
+   table passes the check, and no table that passes differs from the one read back in fewer cells. Both hold for a
+   divider that adds eight bits: for one that adds seven a repaired table may be bad. Neither buffer may overlap the
+   table or the other buffer, so a table cannot be repaired in place. Refuses 7, 8, and never 9 or 10. */
 QUENDARIC_ANSWER
 quendaric_repaired quendaric_repair_table(const uint8_t *table, size_t table_length,
                                           uint8_t *QUENDARIC_RESTRICT repaired, size_t repaired_length,
                                           uint8_t *QUENDARIC_RESTRICT changed, size_t changed_length);
+
+/* Does the same for a divider that adds estimate_bits bits, 7 or 8: which cells are bad, the digit that a changed cell
+   gets, and that the repaired table passes with the fewest changes are all for that divider. The digit is that of the
+   table that quendaric_make_table_for writes. Refuses 17, 7, 8, in this order, and never 9 or 10. */
+QUENDARIC_ANSWER
+quendaric_repaired quendaric_repair_table_for(uint64_t estimate_bits, const uint8_t *table, size_t table_length,
+                                              uint8_t *QUENDARIC_RESTRICT repaired, size_t repaired_length,
+                                              uint8_t *QUENDARIC_RESTRICT changed, size_t changed_length);
 
 /* Divides digit by digit through the table: a run. It computes 1 to 28 quotient digits of dividend / divisor, such that
    dividend * 4^(digits - 1) = quotient * divisor + remainder with remainder < divisor. The dividend is below 2^61, and

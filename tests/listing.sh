@@ -1,6 +1,7 @@
 #!/bin/sh
 # The listing program on the inputs that the specification shows, and on what is no table; the maker. Whole outputs,
-# and what is said where not all was read or written, and to arguments; calls that signals interrupt.
+# and what is said where not all was read or written, and to arguments; calls that signals interrupt; all for a divider that adds seven bits and for one
+# that adds eight.
 # Drawn inputs are in tests/host/tests/listing.rs. Run it after `rt check listing maker` has written target/bin/.
 # shellcheck source=tests/cases.sh
 . "$(dirname "$0")/cases.sh"
@@ -38,13 +39,40 @@ loses listing "$kept"
 loses maker /dev/null
 unread listing
 
-use='usage: listing < TABLE'
-misused listing "$use" "$kept"
-misused listing "$use" ''
-misused listing "$use" --help more
-use='usage: maker > TABLE'
-misused maker "$use" made.table
-misused maker "$use" ''
+# for a divider that adds seven bits, and for one that adds eight
+"$root/target/bin/maker" 7 >"$work/found"
+same 'the maker for seven bits' "$root/tables/kept-seven-bits.table"
+"$root/target/bin/maker" 8 >"$work/found"
+same 'the maker for eight bits' "$kept"
+while read -r table seven eight; do
+    for bits in 7 8; do
+        "$root/target/bin/listing" "$bits" <"$root/tables/$table.table" | awk 'END { print NR - 1 }' >"$work/found"
+        if [ "$bits" = 7 ]; then echo "$seven"; else echo "$eight"; fi >"$work/expected"
+        same "$table, for $bits bits" "$work/expected"
+    done
+done <<'TABLES'
+kept 17 0
+kept-seven-bits 0 0
+clarke-zhao-1995 5 0
+pentium-1994 24 5
+TABLES
+"$root/target/bin/listing" 7 <"$kept" | head -n 2 >"$work/found"
+printf '%s\n' "$names" '1 68 0 1224979098644774912 816652732429849942' >"$work/expected"
+same 'the first bad cell of the kept table for seven bits' "$work/expected"
+"$root/target/bin/listing" <"$pentium" >"$work/expected"
+"$root/target/bin/listing" 8 <"$pentium" >"$work/found"
+same 'no argument is eight bits' "$work/expected"
+
+use='usage: listing [7|8] < TABLE'
+for argument in "$kept" '' 6 9 77 07 263; do
+    misused listing "$use" "$argument"
+done
+misused listing "$use" 7 8
+use='usage: maker [7|8] > TABLE'
+for argument in made.table '' 6 9 87; do
+    misused maker "$use" "$argument"
+done
+misused maker "$use" 7 7
 
 interrupts listing "$root/tests/data/all-bad.table"
 interrupts maker /dev/null
@@ -52,4 +80,4 @@ echo 'listing: not all was read' >"$work/expected"
 READS=2000 LD_PRELOAD=$work/interrupted.so "$root/target/bin/listing" <"$kept" >"$work/found" 2>&1
 same 'reads that are interrupted without end' "$work/expected"
 
-ends listing 33
+ends listing 63

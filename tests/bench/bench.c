@@ -41,6 +41,10 @@ static uint64_t run_lent(int i, uint64_t x) { return quendaric_run(table, sizeof
 static uint64_t check(int i, uint64_t x) { (void)i; return quendaric_check_table(table, sizeof table).refusal ^ x; }
 static uint64_t check_bad(int i, uint64_t x) { (void)i; return quendaric_check_table(all_bad, sizeof all_bad).refusal ^ x; }
 static uint64_t check_one(int i, uint64_t x) { (void)i; return quendaric_check_table(one_bad, sizeof one_bad).refusal ^ x; }
+/* for a divider that adds seven bits: the same table, of which 17 cells are bad there */
+static uint64_t check_seven(int i, uint64_t x) { (void)i; return quendaric_check_table_for(7, table, sizeof table).refusal ^ x; }
+static uint64_t check_eight(int i, uint64_t x) { (void)i; return quendaric_check_table_for(8, table, sizeof table).refusal ^ x; }
+static uint64_t repair_seven(int i, uint64_t x) { (void)i; return quendaric_repair_table_for(7, table, sizeof table, repaired, sizeof repaired, changed, sizeof changed).count ^ x; }
 static uint64_t cell_bad(int i, uint64_t x) { return quendaric_check_cell(bad_cell[i].row, bad_cell[i].column, bad_cell[i].byte).divisor ^ x; }
 static uint64_t cell_any(int i, uint64_t x) { return quendaric_check_cell(any_cell[i].row, any_cell[i].column, any_cell[i].byte).divisor ^ x; }
 static uint64_t visits(int i, uint64_t x) { (void)i; return quendaric_count_visits(table, sizeof table, 6, 28, met, QUENDARIC_TABLE_LENGTH).refusal ^ x; }
@@ -108,11 +112,14 @@ static measure measures[] = {
     {"check", "unit, check of a passing table", check, 32, 0, 0},
     {"check-bad", "unit, check of a table whose cells with points are all bad", check_bad, 32, 0, 0},
     {"check-one", "unit, check of a table whose last cell with a point is bad", check_one, 32, 0, 0},
+    {"check-eight", "unit, the same check by the number of bits, 8", check_eight, 32, 0, 0},
+    {"check-seven", "unit, check for seven bits of a table with 17 bad cells", check_seven, 32, 0, 0},
     {"cell-bad", "unit, single cells that are bad", cell_bad, PAIRS, 0, 0},
     {"cell-any", "unit, single cells", cell_any, PAIRS, 0, 0},
     {"make", "unit, the made table", make, 32, 0, 0},
     {"repair", "unit, repair of a passing table", repair, 32, 0, 0},
     {"repair-bad", "unit, repair of a table whose cells with points are all bad", repair_bad, 32, 0, 0},
+    {"repair-seven", "unit, its repair for seven bits", repair_seven, 32, 0, 0},
     {"visits", "unit, visits of 1,024 pairs, 28 digits", visits, 1, 0, 0},
     {"check-plain", "C, count of bad cells, 128-bit numbers", check_plain, 8, 0, 0},
     {"b64-plain", "C, binary64 over the plain recurrence", b64_plain, PAIRS, 0, 0},
@@ -571,10 +578,13 @@ int main(int argc, char **argv) {
   ratio("check of a passing table / C count in 128-bit numbers", "check", "check-plain", 0.15);
   ratio("check, every cell with a point bad / passing", "check-bad", "check", 1.5);
   ratio("check, one bad cell, the last / passing", "check-one", "check", 1.3);
+  ratio("check by the number of bits, 8 / check", "check-eight", "check", 0);
+  ratio("check for seven bits, 17 bad cells / passing", "check-seven", "check", 0);
   ratio("the made table / kept run", "make", "run-kept", 0);
   ratio("packed / the same whole numbers", "packed", "whole-sixteen", 0);
   ratio("repair of a passing table / its check", "repair", "check", 0);
   ratio("repair, every cell with a point bad / its check", "repair-bad", "check-bad", 0);
+  ratio("repair for seven bits, 17 bad cells / of a passing table", "repair-seven", "repair", 0);
   double runs = named("visits")->throughput / (PAIRS * named("run-kept")->throughput);
   printf("%-58s %7.2f %7s   at most 1.5: %s\n", "visits of 1,024 pairs / as many kept runs", runs, "-", runs <= 1.5 ? "met" : "MISSED");
   ratio("comparison of drawn ratios / kept whole numbers", "compare-any", "whole-kept", 0);

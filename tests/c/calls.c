@@ -368,6 +368,109 @@ static void rechecks(const uint8_t *kept) {
   no_mark(quendaric_affected_whole(NULL, 0, 1, 1), QUENDARIC_REFUSED_LENGTH);
 }
 
+/* An answer, every byte of it, and what is wanted. Each of these answers is made of words alone. */
+#define WHOLE(type, call, ...)                                                                                         \
+  do {                                                                                                                 \
+    const type got = call;                                                                                             \
+    const type want = {__VA_ARGS__};                                                                                   \
+    same(#call, (uint64_t)memcmp(&got, &want, sizeof got), 0);                                                         \
+  } while (0)
+
+static void limits_are(quendaric_limits got, uint64_t refusal, int a, int b, int c, int d, int e, int f) {
+  const uint8_t want[6] = {(uint8_t)a, (uint8_t)b, (uint8_t)c, (uint8_t)d, (uint8_t)e, (uint8_t)f};
+  SAME(got.refusal, refusal);
+  SAME(got.place, 0);
+  SAME(memcmp(got.limits, want, 6), 0);
+}
+
+/* The calls for a number of bits that is neither 7 nor 8: 17 before all else, zeros besides, and no byte is written. */
+static void neither(const uint8_t *kept) {
+  static const uint64_t others[] = {0,   1,   6,   9,   16,          70,
+                                    255, 256, 263, 264, 0x100000007, 0x8000000000000000ull, 0x8000000000000008ull, UINT64_MAX};
+  static uint8_t buffer[QUENDARIC_TABLE_LENGTH], changed[QUENDARIC_TABLE_LENGTH];
+  const size_t size = QUENDARIC_TABLE_LENGTH;
+  const uint64_t bits = QUENDARIC_REFUSED_ESTIMATE_BITS;
+  SAME(bits, 17);
+  memset(buffer, untouched, size);
+  memset(changed, untouched, size);
+  for (size_t i = 0; i < sizeof others / sizeof *others; i++) {
+    const uint64_t other = others[i];
+    WHOLE(quendaric_cell, quendaric_check_cell_for(other, 0, 75, 4), bits, 0, 0, 0, 0);
+    WHOLE(quendaric_cell, quendaric_check_cell_for(other, 16, 128, 9), bits, 0, 0, 0, 0);
+    WHOLE(quendaric_report, quendaric_check_table_for(other, kept, size), bits, 0, 0, 0, 0, 0, 0);
+    WHOLE(quendaric_report, quendaric_check_table_for(other, NULL, 0), bits, 0, 0, 0, 0, 0, 0);
+    limits_are(quendaric_row_limits_for(other, 0), bits, 0, 0, 0, 0, 0, 0);
+    limits_are(quendaric_row_limits_for(other, 16), bits, 0, 0, 0, 0, 0, 0);
+    WHOLE(quendaric_made, quendaric_make_table_for(other, buffer, size), bits, 0);
+    WHOLE(quendaric_made, quendaric_make_table_for(other, NULL, 0), bits, 0);
+    WHOLE(quendaric_repaired, quendaric_repair_table_for(other, kept, size, buffer, size, changed, size), bits, 0, 0);
+    WHOLE(quendaric_repaired, quendaric_repair_table_for(other, NULL, 0, NULL, 0, NULL, 0), bits, 0, 0);
+  }
+  SAME(all_untouched(buffer, size) && all_untouched(changed, size), 1);
+}
+
+/* The calls for 7 and for 8. By seven bits the digit 0 of the kept table is bad at byte 196, and it is the first of 17. */
+static void by_bits(const uint8_t *kept) {
+  static uint8_t seven[QUENDARIC_TABLE_LENGTH + 1], repaired[QUENDARIC_TABLE_LENGTH + 1],
+      changed[QUENDARIC_TABLE_LENGTH + 1], bytes[QUENDARIC_TABLE_LENGTH];
+  const size_t size = QUENDARIC_TABLE_LENGTH;
+  const uint64_t divisor = 17ull << 56;
+  const int64_t remainder = 816652732429849942ll;
+  memset(seven, untouched, sizeof seven);
+  memset(repaired, untouched, sizeof repaired);
+  memset(changed, untouched, sizeof changed);
+  WHOLE(quendaric_made, quendaric_make_table_for(7, seven, size - 1), QUENDARIC_REFUSED_ROOM, 0);
+  SAME(all_untouched(seven, sizeof seven), 1);
+  WHOLE(quendaric_made, quendaric_make_table_for(7, seven, size + 1), 0, 0);
+  SAME(seven[size], untouched);
+  WHOLE(quendaric_made, quendaric_make_table_for(8, repaired, size), 0, 0);
+  SAME(memcmp(repaired, kept, size), 0);
+  SAME(seven[196], 3);
+  SAME(kept[196], 2);
+
+  WHOLE(quendaric_report, quendaric_check_table_for(7, seven, size), 0, 0, 0, 0, 0, 0, 0);
+  WHOLE(quendaric_report, quendaric_check_table_for(8, seven, size), 0, 0, 0, 0, 0, 0, 0);
+  WHOLE(quendaric_report, quendaric_check_table_for(8, kept, size), 0, 0, 0, 0, 0, 0, 0);
+  WHOLE(quendaric_report, quendaric_check_table_for(7, kept, size), QUENDARIC_REFUSED_BAD_CELL, 196, 17, 1, 68, divisor,
+        remainder);
+  WHOLE(quendaric_report, quendaric_check_table_for(7, kept, 5), QUENDARIC_REFUSED_LENGTH, 0, 0, 0, 0, 0, 0);
+  memcpy(bytes, kept, size);
+  bytes[1000] = 5;
+  WHOLE(quendaric_report, quendaric_check_table_for(7, bytes, size), QUENDARIC_REFUSED_BYTE, 1000, 0, 0, 0, 0, 0);
+
+  WHOLE(quendaric_cell, quendaric_check_cell_for(7, 1, 68, 2), 0, 0, 0, divisor, remainder);
+  WHOLE(quendaric_cell, quendaric_check_cell_for(7, 1, 68, 3), 0, 0, 1, 0, 0);
+  WHOLE(quendaric_cell, quendaric_check_cell_for(8, 1, 68, 2), 0, 0, 1, 0, 0);
+  WHOLE(quendaric_cell, quendaric_check_cell_for(7, 16, 0, 9), QUENDARIC_REFUSED_CELL, 0, 0, 0, 0);
+  WHOLE(quendaric_cell, quendaric_check_cell_for(7, 3, 5, 9), QUENDARIC_REFUSED_BYTE, 3 * 128 + 5, 0, 0, 0);
+
+  limits_are(quendaric_row_limits_for(7, 0), 0, 40, 51, 59, 68, 76, 87);
+  limits_are(quendaric_row_limits_for(7, 1), 0, 39, 50, 59, 68, 77, 88);
+  limits_are(quendaric_row_limits_for(8, 1), 0, 39, 50, 59, 69, 77, 88);
+  limits_are(quendaric_row_limits_for(7, 16), QUENDARIC_REFUSED_CELL, 0, 0, 0, 0, 0, 0);
+
+  /* a repair of the kept table is the table made for seven bits: it changes 17 cells, and each change is marked */
+  memset(repaired, untouched, sizeof repaired);
+  WHOLE(quendaric_repaired, quendaric_repair_table_for(7, kept, size, repaired, size - 1, changed, size),
+        QUENDARIC_REFUSED_ROOM, 0, 0);
+  WHOLE(quendaric_repaired, quendaric_repair_table_for(7, kept, 5, repaired, size, changed, size),
+        QUENDARIC_REFUSED_LENGTH, 0, 0);
+  SAME(all_untouched(repaired, sizeof repaired) && all_untouched(changed, sizeof changed), 1);
+  WHOLE(quendaric_repaired, quendaric_repair_table_for(7, kept, size, repaired, size + 1, changed, size + 1), 0, 0, 17);
+  SAME(memcmp(repaired, seven, size), 0);
+  for (size_t k = 0; k < size; k++)
+    bytes[k] = kept[k] != seven[k];
+  SAME(memcmp(changed, bytes, size), 0);
+  SAME(repaired[size] == untouched && changed[size] == untouched, 1);
+  WHOLE(quendaric_repaired, quendaric_repair_table_for(8, kept, size, repaired, size, changed, size), 0, 0, 0);
+  SAME(memcmp(repaired, kept, size), 0);
+  memset(bytes, 0, size);
+  SAME(memcmp(changed, bytes, size), 0);
+
+  /* a table for seven bits serves where the unit divides */
+  SAME(quendaric_divide_whole(seven, size, 4195835, 3145727).remainder, 1050108);
+}
+
 static void visits(const uint8_t *kept) {
   static uint32_t counts[QUENDARIC_TABLE_LENGTH + 1];
   const size_t size = QUENDARIC_TABLE_LENGTH;
@@ -495,6 +598,8 @@ int main(void) {
   steps(table);
   repairs(table);
   rechecks(table);
+  neither(table);
+  by_bits(table);
   visits(table);
   refused_runs(table);
   nothing_lent(table);

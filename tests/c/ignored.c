@@ -26,4 +26,9 @@ void ignored(const uint8_t *table, uint8_t *buffer, uint64_t *words, uint32_t *n
   quendaric_compare_ratios(1, 1, 1, 1);
   quendaric_root_whole(1);
   quendaric_root_binary64(1, QUENDARIC_NEAREST);
+  quendaric_check_cell_for(7, 0, 0, 2);
+  quendaric_check_table_for(7, table, 2048);
+  quendaric_row_limits_for(7, 0);
+  quendaric_make_table_for(7, buffer, 2048);
+  quendaric_repair_table_for(7, table, 2048, buffer, 2048, buffer + 2048, 2048);
 }

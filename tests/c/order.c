@@ -33,6 +33,12 @@ static void check_cell(const uint64_t *x, reply *y) {
 static void check_table(const uint64_t *x, reply *y) { REPLY(y, quendaric_check_table(table, x[0])); }
 static void row_limits(const uint64_t *x, reply *y) { REPLY(y, quendaric_row_limits(x[0])); }
 static void make_table(const uint64_t *x, reply *y) { REPLY(y, quendaric_make_table(y->buffer, x[0])); }
+static void check_cell_for(const uint64_t *x, reply *y) {
+  REPLY(y, quendaric_check_cell_for(x[0], x[1], x[2], (uint8_t)x[3]));
+}
+static void check_table_for(const uint64_t *x, reply *y) { REPLY(y, quendaric_check_table_for(x[0], table, x[1])); }
+static void row_limits_for(const uint64_t *x, reply *y) { REPLY(y, quendaric_row_limits_for(x[0], x[1])); }
+static void make_table_for(const uint64_t *x, reply *y) { REPLY(y, quendaric_make_table_for(x[0], y->buffer, x[1])); }
 static void run(const uint64_t *x, reply *y) {
   REPLY(y, quendaric_run(table, x[0], x[1], x[2], x[3], y->buffer, x[4], x[5]));
 }
@@ -89,16 +95,27 @@ static void divide_packed(const uint64_t *x, reply *y) {
 }
 /* Both buffers have one length, as the lists above. Four bytes of the repaired table and then four marks, from 214 on, of a table with one
    bad cell, 215. */
-static void repair_table(const uint64_t *x, reply *y) {
-  static uint8_t read_back[QUENDARIC_TABLE_LENGTH], repaired[QUENDARIC_TABLE_LENGTH + 2],
-      changed[QUENDARIC_TABLE_LENGTH + 2];
+static uint8_t read_back[QUENDARIC_TABLE_LENGTH], repaired[QUENDARIC_TABLE_LENGTH + 2],
+    changed[QUENDARIC_TABLE_LENGTH + 2];
+static void before_repair(void) {
   memcpy(read_back, table, sizeof read_back);
   read_back[215] = 2;
   memset(repaired, 0, sizeof repaired);
   memset(changed, 0, sizeof changed);
-  REPLY(y, quendaric_repair_table(read_back, x[0], repaired, x[1], changed, x[1]));
+}
+static void after_repair(reply *y) {
   memcpy(y->buffer, repaired + 214, 4);
   memcpy(y->buffer + 4, changed + 214, 4);
+}
+static void repair_table(const uint64_t *x, reply *y) {
+  before_repair();
+  REPLY(y, quendaric_repair_table(read_back, x[0], repaired, x[1], changed, x[1]));
+  after_repair(y);
+}
+static void repair_table_for(const uint64_t *x, reply *y) {
+  before_repair();
+  REPLY(y, quendaric_repair_table_for(x[0], read_back, x[1], repaired, x[2], changed, x[2]));
+  after_repair(y);
 }
 /* Of the 2,048 numbers those at 63, 72, 76 and 47 follow the answer. */
 static void count_visits(const uint64_t *x, reply *y) {
@@ -135,6 +152,11 @@ static const struct {
     /* row; the six columns stand in one word, the first lowest */
     {"row_limits", row_limits, 1, {7}, {{0, 0, 0x605247392D1Full}, {0}}},
     {"make_table", make_table, 1, {ROOM}, {{7}, {0}}},
+    /* the same for seven bits, whose number comes first: the digit 0 is not allowed there, and is the first bad one of the table */
+    {"check_cell_for", check_cell_for, 4, {7, 1, 68, 2}, {{0, 0, 0, 17ull << 56, 816652732429849942ull}, {0}}},
+    {"check_table_for", check_table_for, 2, {7, 2048}, {{10, 196, 17, 1, 68, 17ull << 56, 816652732429849942ull}, {0}}},
+    {"row_limits_for", row_limits_for, 2, {7, 1}, {{0, 0, 0x584D443B3227ull}, {0}}},
+    {"make_table_for", make_table_for, 2, {7, ROOM}, {{7}, {0}}},
     /* table length, dividend, divisor, digits, buffer length, place: N * 4^4 = 145 * D + 2208485150033111375 */
     {"run",
      run,
@@ -169,6 +191,7 @@ static const struct {
     {"divide_packed", divide_packed, 2, {0x98, 0x15}, {{0, 0, 0x06ull << 56, 0x08ull << 56}, {0}}},
     /* length of the table, length of the buffers */
     {"repair_table", repair_table, 2, {2048, 2050}, {{0, 0, 1}, {4, 4, 2, 2, 0, 1, 0, 0}}},
+    {"repair_table_for", repair_table_for, 3, {7, 2048, 2050}, {{0, 0, 18}, {4, 4, 2, 2, 0, 1, 0, 0}}},
     /* table length, bits, digits, length of the list */
     {"count_visits", count_visits, 4, {2048, 2, 3, 2049}, {{0, 0, 3, 1, 1, 1}, {0}}},
     /* a, b, c, d: a·d and c·b are what they are with a and d, or c and b exchanged, so a 0 tells these apart, and b and d stand alone */
@@ -185,7 +208,7 @@ static int as_wanted(int i, const uint64_t *argument) {
   reply y;
   memset(&y, 0, sizeof y);
   cases[i].call(argument, &y);
-  if (cases[i].call == row_limits)
+  if (cases[i].call == row_limits || cases[i].call == row_limits_for)
     y.word[2] &= 0xFFFFFFFFFFFFull;
   return memcmp(&y, &cases[i].wanted, sizeof y) == 0;
 }

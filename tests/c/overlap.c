@@ -16,6 +16,8 @@ uint64_t calls(uint8_t *table, uint8_t *bytes, uint8_t *more, uint64_t *list, ui
   refusals += quendaric_average_windows(list, MANY, 9, true, list + MANY, MANY, list + 2 * MANY, MANY).refusal;
   refusals += quendaric_divide_samples(table, SIZE, list, MANY, list, MANY, other, MANY, 0).refusal;
   refusals += quendaric_repair_table(table, SIZE, bytes, SIZE, more, SIZE).refusal;
+  refusals += quendaric_repair_table_for(7, table, SIZE, bytes, SIZE, more, SIZE).refusal;
+  refusals += quendaric_make_table_for(7, table, SIZE).refusal;
   refusals += quendaric_affected_samples(table, SIZE, list, MANY, list, MANY, bytes, SIZE).refusal;
   refusals += quendaric_run(table, SIZE, one, one, 28, bytes, 28, 0).refusal;
   refusals += quendaric_run_kept(one, one, 28, bytes, 28, 0).refusal;
@@ -31,6 +33,9 @@ uint64_t calls(uint8_t *table, uint8_t *bytes, uint8_t *more, uint64_t *list, ui
   refusals += quendaric_repair_table(table, SIZE, table, SIZE, bytes, SIZE).refusal;                  /* overlaps */
   refusals += quendaric_repair_table(table, SIZE, bytes, SIZE, table, SIZE).refusal;                  /* overlaps */
   refusals += quendaric_repair_table(table, SIZE, bytes, SIZE, bytes, SIZE).refusal;                  /* overlaps */
+  refusals += quendaric_repair_table_for(7, table, SIZE, table, SIZE, bytes, SIZE).refusal;           /* overlaps */
+  refusals += quendaric_repair_table_for(7, table, SIZE, bytes, SIZE, table, SIZE).refusal;           /* overlaps */
+  refusals += quendaric_repair_table_for(7, table, SIZE, bytes, SIZE, bytes, SIZE).refusal;           /* overlaps */
   refusals += quendaric_affected_samples(table, SIZE, list, MANY, other, MANY, table, SIZE).refusal;  /* overlaps */
   refusals += quendaric_run(table, SIZE, one, one, 28, table, SIZE, 0).refusal;                       /* overlaps */
   return refusals;

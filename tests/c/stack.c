@@ -58,7 +58,13 @@ static uint64_t bits(void) {
   CALL(affected_whole, QUENDARIC_STACK_AFFECTED, quendaric_affected_whole(read_back, size, x, y).affected)             \
   CALL(count_visits, QUENDARIC_STACK, quendaric_count_visits(lent, size, 1 + a % 2, digits, visits, size).refusal)     \
   CALL(compare_ratios, QUENDARIC_STACK, (uint64_t)quendaric_compare_ratios(x, y, x + a % 2, y + b % 2).order)          \
-  CALL(root_binary64, QUENDARIC_STACK, quendaric_root_binary64(a >> 1, b % 4).pattern)
+  CALL(root_binary64, QUENDARIC_STACK, quendaric_root_binary64(a >> 1, b % 4).pattern)                                 \
+  CALL(check_cell_for, QUENDARIC_STACK, quendaric_check_cell_for(7 + a % 2, a % 16, b % 128, a % 5).allowed)           \
+  CALL(check_table_for, QUENDARIC_STACK, quendaric_check_table_for(7 + a % 2, lent, size).count)                       \
+  CALL(row_limits_for, QUENDARIC_STACK, quendaric_row_limits_for(7 + a % 2, a % 16).limits[0])                         \
+  CALL(make_table_for, QUENDARIC_STACK, quendaric_make_table_for(7 + a % 2, changed, size).refusal)                    \
+  CALL(repair_table_for, QUENDARIC_STACK,                                                                              \
+       quendaric_repair_table_for(7 + a % 2, read_back, size, repaired, size, changed, size).count)
 
 #define NAME(name, promise, call) CALL_##name,
 enum { EACH(NAME) CALLS };

@@ -133,6 +133,8 @@ static uint64_t usual(const char *name) {
     return 1 + below((unsigned)many + 1);
   if (is(name, "bits"))
     return below(64) ? 1 + below(2) : below(8);
+  if (is(name, "estimate_bits"))
+    return below(16) ? 7 + below(2) : below(16);
   if (is(name, "sum"))
     return first = word();
   if (is(name, "carry")) {

@@ -57,6 +57,11 @@ static uint64_t number(uint64_t from) {
   CALL(row_limits, quendaric_row_limits(a % 16).limits[0])                                                             \
   CALL(make_table, quendaric_make_table(table, size).refusal)                                                          \
   CALL(repair_table, quendaric_repair_table(read_back, size, repaired, size, changed, size).count)                     \
+  CALL(check_cell_for, quendaric_check_cell_for(7, a % 16, b % 128, a % 5).allowed)                                    \
+  CALL(check_table_for, quendaric_check_table_for(7, table, size).count)                                               \
+  CALL(row_limits_for, quendaric_row_limits_for(7, a % 16).limits[0])                                                  \
+  CALL(make_table_for, quendaric_make_table_for(7, changed, size).refusal)                                             \
+  CALL(repair_table_for, quendaric_repair_table_for(7, read_back, size, repaired, size, changed, size).count)          \
   CALL(run_of_28, quendaric_run(table, size, dividend, divisor, 28, buffer, room, 0).quotient)                         \
   CALL(run_kept_of_28, quendaric_run_kept(dividend, divisor, 28, buffer, room, 0).quotient)                            \
   CALL(step, quendaric_step(dividend, 0, divisor, table, size).sum)                                                    \

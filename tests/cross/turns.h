@@ -216,6 +216,56 @@ static void turn_root_binary64(void) {
   end(r.refusal, r.place);
 }
 
+static void turn_check_cell_for(void) {
+  const uint64_t estimate_bits = drawn_number("estimate_bits");
+  const uint64_t row = drawn_number("row");
+  const uint64_t column = drawn_number("column");
+  const uint8_t byte = (uint8_t)drawn_number("byte");
+  const quendaric_cell r = quendaric_check_cell_for(estimate_bits, row, column, byte);
+  note(r.allowed);
+  note(r.divisor);
+  note((uint64_t)r.remainder);
+  end(r.refusal, r.place);
+}
+
+static void turn_check_table_for(void) {
+  const uint64_t estimate_bits = drawn_number("estimate_bits");
+  const lent table = drawn_list("table", sizeof(uint8_t), false);
+  const quendaric_report r = quendaric_check_table_for(estimate_bits, table.start, table.length);
+  note(r.count);
+  note(r.row);
+  note(r.column);
+  note(r.divisor);
+  note((uint64_t)r.remainder);
+  end(r.refusal, r.place);
+}
+
+static void turn_row_limits_for(void) {
+  const uint64_t estimate_bits = drawn_number("estimate_bits");
+  const uint64_t row = drawn_number("row");
+  const quendaric_limits r = quendaric_row_limits_for(estimate_bits, row);
+  note_bytes(r.limits, sizeof r.limits);
+  end(r.refusal, r.place);
+}
+
+static void turn_make_table_for(void) {
+  const uint64_t estimate_bits = drawn_number("estimate_bits");
+  const lent buffer = drawn_list("buffer", sizeof(uint8_t), true);
+  const quendaric_made r = quendaric_make_table_for(estimate_bits, buffer.start, buffer.length);
+  end(r.refusal, r.place);
+}
+
+static void turn_repair_table_for(void) {
+  const uint64_t estimate_bits = drawn_number("estimate_bits");
+  const lent table = drawn_list("table", sizeof(uint8_t), false);
+  const lent repaired = drawn_list("repaired", sizeof(uint8_t), true);
+  const lent changed = drawn_list("changed", sizeof(uint8_t), true);
+  const quendaric_repaired r = quendaric_repair_table_for(estimate_bits, table.start, table.length, repaired.start,
+      repaired.length, changed.start, changed.length);
+  note(r.count);
+  end(r.refusal, r.place);
+}
+
 #define EACH_TURN(TURN) \
   TURN(check_cell, SETS) \
   TURN(check_table, TABLE_SETS) \
@@ -237,6 +287,11 @@ static void turn_root_binary64(void) {
   TURN(count_visits, TABLE_SETS) \
   TURN(compare_ratios, SETS) \
   TURN(root_whole, SETS) \
-  TURN(root_binary64, SETS)
+  TURN(root_binary64, SETS) \
+  TURN(check_cell_for, SETS) \
+  TURN(check_table_for, TABLE_SETS) \
+  TURN(row_limits_for, SETS) \
+  TURN(make_table_for, SETS) \
+  TURN(repair_table_for, TABLE_SETS)
 
 typedef char enough_lists[LISTS >= 4 ? 1 : -1];

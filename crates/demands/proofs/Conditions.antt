@@ -28,13 +28,13 @@ use Rattle.demands.specs.Demand1.{Conditions}
 pub conditions : Conditions
 unfolding runRules stepRules visitsRules
 conditions = record {
-  row-column = λ r c b h. ap cellNumbers (ap (answerBy _ _) (refused-at (cell-rules r c b) 0 0 (refl, h)));
-  byte = λ r c b hr hc h. ap cellNumbers (ap (answerBy _ _) (refused-at (cell-rules r c b) 1 _ ((hr, hc), (refl, h))));
-  row = λ r h. ap (answerBy _ _) (refused-at (limits-rules r) 0 0 (refl, h));
-  row-told = λ r h. ap (λ (v : Admission). answerBy limitsZeros (record { refusal = refusal 0 0; limits = limitsOf r }) v .refusal) (clear-admits (limits-rules r) (h, tt));
+  row-column = λ E r c b h. ap cellNumbers (ap (answerBy _ _) (refused-at (cell-rules r c b) 0 0 (refl, h)));
+  byte = λ E r c b hr hc h. ap cellNumbers (ap (answerBy _ _) (refused-at (cell-rules r c b) 1 _ ((hr, hc), (refl, h))));
+  row = λ E r h. ap (answerBy _ _) (refused-at (limits-rules r) 0 0 (refl, h));
+  row-told = λ E r h. ap (λ (v : Admission). answerBy limitsZeros (record { refusal = refusal 0 0; limits = limitsOf E r }) v .refusal) (clear-admits (limits-rules r) (h, tt));
   room = λ s h. ap refusalOf (refused-at (make-rules (length s)) 0 0 (refl, h));
   room-told = λ s h. ap refusalOf (clear-admits (make-rules (length s)) (h, tt));
-  repair-room = λ t rs cs h. ap (answerBy _ _) (refused-at (repair-rules (length t) (length rs) (length cs)) 0 0 (refl, h));
+  repair-room = λ E t rs cs h. ap (answerBy _ _) (refused-at (repair-rules (length t) (length rs) (length cs)) 0 0 (refl, h));
   repair-length = length-refused;
   repair-told = repair-told;
   digits = λ t N D n b place h. ap (answerBy _ _) (refused-at (run-lent N D n (length b) place t) 0 0 (refl, h));

@@ -1,7 +1,12 @@
 -- Demand 1: the answers of all calls are those of their lists of rules.
-use Rattle.laws.proofs.Basics.{_≡_, refl, sym, ap, _∙_, false, List, ⊎-elim, ℕ, _+_, _*_, arith, length}
-use Rattle.selection.specs.Answer.{admissionOf, outcomeNumbers, reportZeros}
+use Rattle.laws.proofs.Basics.{_≡_, refl, sym, ap, subst, _∙_, false, List, _++_, ⊎-elim, ℕ, _+_, _*_, arith, ltb, ltb→lt, length}
+use Rattle.laws.proofs.Tests.{upto-at}
+use Rattle.selection.specs.Answer.{refusal, answerBy, admissionOf, outcomeNumbers, cellZeros, reportNumbers, reportZeros}
+use Rattle.selection.specs.Bits.{bitsRules, estimateOf, forBits, checkTableFor}
+use Rattle.selection.specs.Maker.{limitsZeros}
+use Rattle.selection.specs.Repair.{repairZeros}
 use Rattle.selection.proofs.Refusing.{refusalOf, Wrongs, firstRefusal, rank, RefusedBy, tableRules, clear, first-is, refused-by, refuses, refuses-lent, passed-last}
+use Rattle.selection.specs.declared.Refusal.{Refusal}
 use Rattle.selection.specs.declared.Admission.{Admission}
 use Rattle.selection.specs.Table.{ReportMeaning}
 use Rattle.selection.specs.Computed.{reportOf}
@@ -9,8 +14,11 @@ use Rattle.selection.specs.declared.table.Outcome.{Outcome}
 use Rattle.selection.specs.declared.table.Outcome.the-variants as O
 use Rattle.selection.proofs.Verdicts.{cell-refuses}
 use Rattle.selection.proofs.Rules.{by-number}
+use Rattle.selection.proofs.ForBits.{bits-refused, bits-first, bits-besides, bits-refused-by, bits-refuses, bits-number}
 use Rattle.selection.proofs.MadeTables.{kept-passes, limits-told, make-answer}
-use Rattle.selection.proofs.RepairAnswers.{repairs-right}
+use Rattle.selection.proofs.BiasedPoints.{cell-rules}
+use Rattle.selection.proofs.UniqueMade.{limits-rules, make-rules}
+use Rattle.selection.proofs.RepairAnswers.{repair-rules, repairs-right}
 use Rattle.selection.proofs.Reports.{report-checked, table-rules, admission-rules}
 use Rattle.recurrence.specs.Run.{runRules}
 use Rattle.recurrence.proofs.Refusals.{run-rules, run-lent}
@@ -18,7 +26,7 @@ use Rattle.recurrence.proofs.StepRange.{step-lent}
 use Rattle.recurrence.proofs.VisitCounts.{visits-right}
 use Rattle.division.specs.Whole.{wholeRules}
 use Rattle.division.specs.Rounding.{directionRules}
-use Rattle.demands.specs.Demand1.{CheckRefuses, Demand1}
+use Rattle.demands.specs.Demand1.{Carries, CheckRefuses, ByBits, Demand1}
 use Rattle.demands.proofs.Conditions.{conditions}
 use Rattle.division.proofs.Calls.{whole-rules, whole-lent, binary64-rules, binary64-lent}
 use Rattle.division.proofs.SampleRuns.{samples-lent}
@@ -28,30 +36,55 @@ use Rattle.division.proofs.PackedCalls.{packed-refuses}
 use Rattle.division.proofs.RatioCalls.{ratios-refuse}
 use Rattle.division.proofs.RootCalls.{root-rules}
 use Rattle.exposure.proofs.Averages.{averages-right}
+use Rattle.selection.specs.declared.Estimate.{Estimate}
+use Rattle.selection.specs.declared.Estimate.the-variants.{EightBits}
+
+-- the answer, or what is left in a list, by the number of bits
+by-bits : {X : Type 0} (zeros : Refusal → X) (f : Estimate → X) → ByBits (forBits zeros f) (zeros (refusal 17 0)) f
+by-bits zeros f = record { refused = λ bits. bits-refused bits zeros f; seven = refl; eight = refl }
 
 -- the check, from its report
-module _ (t : List ℕ) where
-  told : {v : Admission} → v ≡ firstRefusal (tableRules t) → RefusedBy (Wrongs (tableRules t)) (refusalOf v)
-  told e = rw e (refused-by (table-rules t))
+module _ (E : Estimate) (t : List ℕ) where
+  told : {v : Admission} → v ≡ firstRefusal (tableRules E t) → RefusedBy (Wrongs (tableRules E t)) (refusalOf v)
+  told e = rw e (refused-by (table-rules E t))
 
-  check-refuses : (m : ℕ) (o : Outcome) → ReportMeaning t m o → admissionOf o ≡ firstRefusal (tableRules t) → CheckRefuses t (outcomeNumbers m o)
+  check-refuses : (m : ℕ) (o : Outcome) → ReportMeaning E t m o → admissionOf o ≡ firstRefusal (tableRules E t) → CheckRefuses (tableRules E t) E t (outcomeNumbers m o)
   check-refuses m O.Passed w e =
-      let none = clear (table-rules t) (sym e) in
+      let none = clear (table-rules E t) (sym e) in
       record { by = told e; besides = λ n p l x. absurd (none n p (x .holds)); carries = λ p x. absurd (none 10 p (x .holds)) }
   check-refuses m (O.Bad b) w e = record {
     by = told e;
-    besides = λ n p l x. absurd (omega (arith, ap (λ (v : Admission). refusalOf v .number) (e ∙ first-is (table-rules t) n p x)));
+    besides = λ n p l x. absurd (l (sym (ap (λ (v : Admission). refusalOf v .number) (e ∙ first-is (table-rules E t) n p x))));
     carries = λ p x.
-        let z : 128 * b .row + b .column ≡ p = ap (λ (v : Admission). refusalOf v .place) (e ∙ first-is (table-rules t) 10 p x) in
+        let z : 128 * b .row + b .column ≡ p = ap (λ (v : Admission). refusalOf v .place) (e ∙ first-is (table-rules E t) 10 p x) in
         record { count = w .1; cell = z; witness = rw z at (w .2 .witness) };
   }
   check-refuses m (O.Refused f) w e = record {
     by = told e;
-    besides = λ n p l x. ap (λ (v : Admission). reportZeros (refusalOf v)) (e ∙ first-is (table-rules t) n p x);
+    besides = λ n p l x. ap (λ (v : Admission). reportZeros (refusalOf v)) (e ∙ first-is (table-rules E t) n p x);
     carries = λ p x.
-        let z : f .number ≡ 10 = ap (λ (v : Admission). refusalOf v .number) (e ∙ first-is (table-rules t) 10 p x) in
+        let z : f .number ≡ 10 = ap (λ (v : Admission). refusalOf v .number) (e ∙ first-is (table-rules E t) 10 p x) in
         absurd (⊎-elim (λ u. omega (arith, u .0)) (⊎-elim (λ u. omega (arith, u .0)) (λ u. u)) (w .0 .holds));
   }
+
+  checked : CheckRefuses (tableRules E t) E t (reportNumbers (reportOf E t))
+  checked = let a = reportOf E t in check-refuses (a .count) (a .outcome) (report-checked E t .means) (admission-rules E t)
+
+-- and for a number of bits
+checked-for : (bits : ℕ) (t : List ℕ) → CheckRefuses (bitsRules bits ++ tableRules (estimateOf bits) t) (estimateOf bits) t (checkTableFor bits t)
+unfolding rank tableRules
+checked-for bits t =
+    let E = estimateOf bits in
+    let c = table-rules E t in
+    let x = checked E t in
+    record {
+      by = bits-refused-by bits c tt reportZeros (reportNumbers (reportOf E t)) (λ x. x .refusal) (λ f. refl) (x .by);
+      besides = λ n p l. bits-besides bits c tt reportZeros (reportNumbers (reportOf E t)) n p (x .besides n p l);
+      carries = λ p y. ⊎-elim
+          (λ e. absurd (omega (arith, bits-number bits e)))
+          (λ z. subst (λ (v : Admission). Carries E t p (answerBy reportZeros (reportNumbers (reportOf E t)) v)) (sym (z .0)) (x .carries p (z .1)))
+          (bits-first bits c tt y);
+    }
 
 pub demand-1 : Demand1
 unfolding rank
@@ -64,15 +97,41 @@ demand-1 =
       order-14 = omega arith;
       order-15 = omega arith;
       order-16 = omega arith;
+      order-17 = λ m h. ltb→lt (rank 17) (rank (m + 1)) (upto-at (λ k. ltb (rank 17) (rank (k + 1))) 16 tt m h);
       conditions = conditions;
+      for-bits = record {
+        check-cell = λ r c b. by-bits cellZeros _;
+        check-table = λ t. by-bits reportZeros _;
+        row-limits = λ r. by-bits limitsZeros _;
+        make-table = λ s. by-bits (λ f. f) _;
+        make-buffer = λ s. by-bits (λ f. s) _;
+        repair = λ t rs cs. by-bits repairZeros _;
+        repaired = λ t rs cs. by-bits (λ f. rs) _;
+        changed = λ t rs cs. by-bits (λ f. cs) _;
+      };
       check-cell = cell-refuses;
-      row-limits = λ r. limits-told r refl .1 .refuses;
-      make-table = λ s. make-answer s _ _ refl refl .2 .refuses;
-      make-buffer = λ s. make-answer s _ _ refl refl .2 .keeps;
-      repair = λ t rs cs. repairs-right t rs cs .refuses;
-      repair-buffers = λ t rs cs. repairs-right t rs cs .keeps;
-      check-table = λ t. let a = reportOf t in check-refuses t (a .count) (a .outcome) (report-checked t .means) (admission-rules t);
-      admit = λ t. refused-by (table-rules t);
+      row-limits = λ E r. limits-told E r refl .1 .refuses;
+      make-table = λ s. make-answer EightBits s _ _ refl refl .2 .refuses;
+      make-buffer = λ E s. make-answer E s _ _ refl refl .2 .keeps;
+      repair = λ E t rs cs. repairs-right E t rs cs .refuses;
+      repair-buffers = λ E t rs cs. repairs-right E t rs cs .keeps;
+      check-table = checked;
+      check-cell-for = λ bits r c b. bits-refuses bits (cell-rules r c b) tt cellZeros _ (λ x. x .refusal) (λ f. refl) (cell-refuses (estimateOf bits) r c b);
+      row-limits-for = λ bits r. bits-refuses bits (limits-rules r) tt limitsZeros _ (λ x. x .refusal) (λ f. refl) (limits-told (estimateOf bits) r refl .1 .refuses);
+      make-table-for = λ bits s.
+          let c = make-rules (length s) in
+          let m = make-answer (estimateOf bits) s _ _ refl refl .2 in
+          record {
+            answer = record { by = bits-refused-by bits c tt (λ f. f) _ (λ x. x) (λ f. refl) (m .refuses); besides = λ n p. bits-besides bits c tt (λ f. f) _ n p (λ x. ap refusalOf (first-is c n p x)) };
+            kept = λ n p. bits-besides bits c tt (λ f. s) _ n p (m .keeps n p);
+          };
+      repair-for = λ bits t rs cs.
+          let c = repair-rules (length t) (length rs) (length cs) in
+          let r = repairs-right (estimateOf bits) t rs cs in
+          record { answer = bits-refuses bits c tt repairZeros _ (λ x. x .refusal) (λ f. refl) (r .refuses); kept = λ n p. bits-besides bits c tt (λ f. rs) _ n p (λ x. r .keeps n p x .0) };
+      repair-marks-for = λ bits t rs cs n p. bits-besides bits (repair-rules (length t) (length rs) (length cs)) tt (λ f. cs) _ n p (λ x. repairs-right (estimateOf bits) t rs cs .keeps n p x .1);
+      check-table-for = checked-for;
+      admit = λ t. refused-by (table-rules EightBits t);
       run = λ t N D n b place. refuses-lent (run-lent N D n (length b) place t) _ _ _ b _ refl (λ f. refl) refl;
       step = λ s k D t. refuses (step-lent s k D t) _ _ _ refl (λ f. refl) refl;
       visits = λ t k n v. visits-right t k n v .refuses;
@@ -80,11 +139,11 @@ demand-1 =
       whole = λ t a b. refuses (whole-lent a b t) _ _ _ refl (λ f. refl) refl;
       binary64 = λ t direction a b. refuses (binary64-lent direction t) _ _ _ refl (λ f. refl) refl;
       samples = λ t direction currents sensitivities given. refuses-lent (samples-lent direction (length currents) (length sensitivities) (length given) t) _ _ _ given _ refl (λ f. refl) refl;
-      recheck = λ t currents sensitivities given. let r = rechecks-right t currents sensitivities given in record { answer = r .refuses; kept = r .keeps };
-      recheck-whole = λ t a b. whole-rechecks-right t a b .refuses;
-      run-kept = λ N D n b place. refuses-lent (run-rules N D n (length b) place) _ _ _ b _ refl (λ f. refl) (passed-last kept-passes (runRules N D n (length b) place));
-      whole-kept = λ a b. refuses (whole-rules a b) _ _ _ refl (λ f. refl) (passed-last kept-passes (wholeRules a b));
-      binary64-kept = λ direction a b. refuses (binary64-rules direction) _ _ _ refl (λ f. refl) (passed-last kept-passes (directionRules direction));
+      recheck = λ E t currents sensitivities given. let r = rechecks-right E t currents sensitivities given in record { answer = r .refuses; kept = r .keeps };
+      recheck-whole = λ E t a b. whole-rechecks-right E t a b .refuses;
+      run-kept = λ N D n b place. refuses-lent (run-rules N D n (length b) place) _ _ _ b _ refl (λ f. refl) (passed-last EightBits (kept-passes EightBits) (runRules N D n (length b) place));
+      whole-kept = λ a b. refuses (whole-rules a b) _ _ _ refl (λ f. refl) (passed-last EightBits (kept-passes EightBits) (wholeRules a b));
+      binary64-kept = λ direction a b. refuses (binary64-rules direction) _ _ _ refl (λ f. refl) (passed-last EightBits (kept-passes EightBits) (directionRules direction));
       packed = packed-refuses;
       compare-ratios = ratios-refuse;
       root-whole = λ a. refuses (root-rules a) _ _ _ refl (λ f. refl) refl;

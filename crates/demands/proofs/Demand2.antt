@@ -13,8 +13,9 @@ use Rattle.division.proofs.SampleRuns.{samples-clear, samples-right, samples-ar
 use Rattle.division.proofs.Answers.{whole-answer, binary64-answer}
 use Rattle.division.proofs.IeeeLaws.{ieee}
 use Rattle.division.proofs.IeeeOne.{ieee-one}
+use Rattle.selection.specs.declared.Estimate.the-variants.{EightBits}
 
-right : (t : List ℕ) → Passes t → RightThrough t
+right : (t : List ℕ) → Passes EightBits t → RightThrough t
 unfolding joined listFrom finiteRounded
 right t p = record {
   whole = λ a b ha pb hb.
@@ -26,11 +27,11 @@ right t p = record {
   samples = λ direction currents sensitivities given h e l.
       let m = samples-right t p direction h currents sensitivities given e l in
       record { meaning = m; only = λ y other n. compensated-one y _ n m };
-  no-samples = λ direction given h. rw (passed-last p (samplesRules direction 0 0 (length given)), samples-clear direction 0 0 (length given) h refl (omega arith)) (refl, refl);
+  no-samples = λ direction given h. rw (passed-last EightBits p (samplesRules direction 0 0 (length given)), samples-clear direction 0 0 (length given) h refl (omega arith)) (refl, refl);
   samples-example =
       let x = samples-are t p 0 (lit≤ tt) (0x7FE0_0000_0000_0000 ∷ 0x0010_0000_0000_0000 ∷ []) (0x3FD0_0000_0000_0000 ∷ 0x4008_0000_0000_0000 ∷ []) (11 ∷ 12 ∷ 13 ∷ []) refl (lit≤ tt) in
       record { answer = x .0; concentrations = x .1 };
 }
 
 pub demand-2 : Demand2
-demand-2 = record { passed = right; kept = right _ kept-passes }
+demand-2 = record { passed = right; kept = right _ (kept-passes EightBits) }

@@ -6,12 +6,13 @@ use Rattle.division.specs.Format.{binary64Values}
 use Rattle.division.specs.Binary64.{binary64Of}
 use Rattle.division.proofs.Answers.{binary64-answer}
 use Rattle.demands.specs.FlagExamples.{FlagExamples}
+use Rattle.selection.specs.declared.Estimate.the-variants.{EightBits}
 
 abbrev Computed : List ℕ → ℕ → ℕ → ℕ → Type 0
 Computed t a b direction = binary64Of t direction a b ≡ binary64Values (quotientOf direction a b)
 
 -- in all four directions
-all : (t : List ℕ) → Passes t → (a b : ℕ) → Computed t a b 0 × Computed t a b 1 × Computed t a b 2 × Computed t a b 3
+all : (t : List ℕ) → Passes EightBits t → (a b : ℕ) → Computed t a b 0 × Computed t a b 1 × Computed t a b 2 × Computed t a b 3
 all t p a b = (binary64-answer t p 0 a b (lit≤ tt), binary64-answer t p 1 a b (lit≤ tt), binary64-answer t p 2 a b (lit≤ tt), binary64-answer t p 3 a b (lit≤ tt))
 
 pub flag-examples : FlagExamples

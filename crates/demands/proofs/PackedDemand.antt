@@ -12,6 +12,7 @@ use Rattle.demands.specs.PackedDemand.{OnePacked, DividesPacked, PackedE
 use Rattle.division.proofs.PackedBytes.{number-below, bytes-back, bytes-packed, number-back}
 use Rattle.division.proofs.PackedCalls.{packed-done}
 use Rattle.laws.specs.Search.{firstFrom}
+use Rattle.selection.specs.declared.Estimate.the-variants.{EightBits}
 
 below : (bs : List ℕ) → Packed bs → packedNumber bs < 10 ^ 16
 below bs p = number-below bs (p .decimal) 8 (omega arith)
@@ -20,12 +21,12 @@ one : (x : ℕ) → x < 10 ^ 16 → OnePacked x
 one x h = record { packed = bytes-packed x; number = number-back x h; only = λ bs p e. sym (bytes-back bs p) ∙ ap packedBytes e }
 
 module _ (xs ys : List ℕ) (px : Packed xs) (py : Packed ys) (some : 0 < packedNumber ys) where
-  whole : Divides (packedNumber xs) (packedNumber ys) (wholeOf madeTable (packedNumber xs) (packedNumber ys))
+  whole : Divides (packedNumber xs) (packedNumber ys) (wholeOf (madeTable EightBits) (packedNumber xs) (packedNumber ys))
   whole = demand-2 .kept .whole (packedNumber xs) (packedNumber ys) (omega (arith, below xs px)) some (omega (arith, below ys py))
 
   divides : DividesPacked xs ys (packedOf xs ys)
   divides =
-      let x = wholeOf madeTable (packedNumber xs) (packedNumber ys) in
+      let x = wholeOf (madeTable EightBits) (packedNumber xs) (packedNumber ys) in
       let q = number-back (x .quotient) (omega (arith, whole .equation, le-mul-of-pos-right (x .quotient) some, below xs px)) in
       let r = number-back (x .remainder) (omega (arith, whole .below, below ys py)) in
       rw (packed-done xs ys (px .decimal) (py .decimal) (λ e. omega arith))

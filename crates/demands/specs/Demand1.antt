@@ -12,7 +12,7 @@ use Rattle.laws.specs.Counting.{Tally}
 use Rattle.selection.specs.Answer.{refusal, refusalOf, cellNumbers, cellZeros, reportNumbers, reportZeros}
 use Rattle.selection.specs.declared.Refusal.{Refusal}
 use Rattle.selection.specs.declared.numbers.ReportNumbers.{ReportNumbers}
-use Rattle.selection.specs.Refusals.{Wrongs, firstRefusal, rank, IsFirstRefusal, RefusedBy, Refuses, RefusesLent}
+use Rattle.selection.specs.Refusals.{Rule, Wrongs, firstRefusal, rank, IsFirstRefusal, RefusedBy, Refuses, RefusesLent}
 use Rattle.selection.specs.Cell.{LeastWitness, cellRules, digit}
 use Rattle.selection.specs.Maker.{limitsRules, limitsZeros, makeRules}
 use Rattle.selection.specs.Table.{BadAt, tableRules}
@@ -35,18 +35,21 @@ use Rattle.division.specs.Ratios.{ratiosRules, comparisonZeros, comparisonNumbe
 use Rattle.division.specs.RootCalls.{rootRules, rootZeros, rootWholeOf, rootBinary64Of}
 use Rattle.exposure.specs.Averages.{averagesRules}
 use Rattle.exposure.specs.Computed.{averagesOf, meansOf, remaindersOf}
+use Rattle.selection.specs.declared.Estimate.{Estimate}
+use Rattle.selection.specs.declared.Estimate.the-variants.{SevenBits, EightBits}
+use Rattle.selection.specs.Bits.{bitsRules, estimateOf, checkCellFor, checkTableFor, rowLimitsFor, makeFor, madeBufferFor, repairFor, repairedFor, changedFor}
 
 -- what the check's refusal 10 at the place p carries: the number of bad cells, the first of them, its witness
-pub record Carries (t : List ℕ) (p : ℕ) (x : ReportNumbers) : Type 0 where
-  pub count : Tally (BadAt t) 2048 (x .count)
+pub record Carries (E : Estimate) (t : List ℕ) (p : ℕ) (x : ReportNumbers) : Type 0 where
+  pub count : Tally (BadAt E t) 2048 (x .count)
   pub cell : 128 * x .row + x .column ≡ p
-  pub witness : LeastWitness (x .row) (x .column) (digit (getD t p 0)) (x .divisor) (x .remainder)
+  pub witness : LeastWitness E (x .row) (x .column) (digit (getD t p 0)) (x .divisor) (x .remainder)
 
--- the check: zeros besides under 8 and 9
-pub record CheckRefuses (t : List ℕ) (x : ReportNumbers) : Type 0 where
-  pub by : RefusedBy (Wrongs (tableRules t)) (x .refusal)
-  pub besides : (n p : ℕ) → n < 10 → IsFirstRefusal (Wrongs (tableRules t)) n p → x ≡ reportZeros (refusal n p)
-  pub carries : (p : ℕ) → IsFirstRefusal (Wrongs (tableRules t)) 10 p → Carries t p x
+-- the check, by a list of rules: zeros besides under all others
+pub record CheckRefuses (rules : List Rule) (E : Estimate) (t : List ℕ) (x : ReportNumbers) : Type 0 where
+  pub by : RefusedBy (Wrongs rules) (x .refusal)
+  pub besides : (n p : ℕ) → (n ≡ 10 → ⊥) → IsFirstRefusal (Wrongs rules) n p → x ≡ reportZeros (refusal n p)
+  pub carries : (p : ℕ) → IsFirstRefusal (Wrongs rules) 10 p → Carries E t p x
 
 -- a run, and its buffer
 abbrev pub RunRefuses : (ℕ → ℕ → Type 0) → List ℕ → ℕ → ℕ → ℕ → List ℕ → ℕ → Type 0
@@ -55,15 +58,15 @@ RunRefuses C t N D n b place = RefusesLent C (λ x. x .refusal) runZeros (runOf 
 -- the caller's conditions once more, in numbers: where one holds and none before it, the call refuses so, whatever else it is handed; and of row limits, the maker, the repair,
 -- the recheck, ratios and the averages, where none holds, that nothing is refused (of the other calls demands 2 and 3, `StepDemand`, `VisitsDemand`, `PackedDemand` and `RootDemand` say it)
 pub record Conditions : Type 0 where
-  pub row-column : (r c b : ℕ) → (15 < r) ⊎ (127 < c) → cellNumbers (cellOf r c b) ≡ cellZeros (refusal 1 0)
-  pub byte : (r c b : ℕ) → r ≤ 15 → c ≤ 127 → 4 < b → cellNumbers (cellOf r c b) ≡ cellZeros (refusal 9 (128 * r + c))
-  pub row : (r : ℕ) → 15 < r → rowLimitsOf r ≡ limitsZeros (refusal 1 0)
-  pub row-told : (r : ℕ) → r ≤ 15 → rowLimitsOf r .refusal ≡ refusal 0 0
+  pub row-column : (E : Estimate) (r c b : ℕ) → (15 < r) ⊎ (127 < c) → cellNumbers (cellOf E r c b) ≡ cellZeros (refusal 1 0)
+  pub byte : (E : Estimate) (r c b : ℕ) → r ≤ 15 → c ≤ 127 → 4 < b → cellNumbers (cellOf E r c b) ≡ cellZeros (refusal 9 (128 * r + c))
+  pub row : (E : Estimate) (r : ℕ) → 15 < r → rowLimitsOf E r ≡ limitsZeros (refusal 1 0)
+  pub row-told : (E : Estimate) (r : ℕ) → r ≤ 15 → rowLimitsOf E r .refusal ≡ refusal 0 0
   pub room : (s : List ℕ) → length s < 2048 → makeOf s ≡ refusal 7 0
   pub room-told : (s : List ℕ) → 2048 ≤ length s → makeOf s ≡ refusal 0 0
-  pub repair-room : (t rs cs : List ℕ) → (length rs < 2048) ⊎ (length cs < 2048) → repairOf t rs cs ≡ repairZeros (refusal 7 0)
-  pub repair-length : (t rs cs : List ℕ) → 2048 ≤ length rs → 2048 ≤ length cs → (length t ≡ 2048 → ⊥) → repairOf t rs cs ≡ repairZeros (refusal 8 0)
-  pub repair-told : (t rs cs : List ℕ) → length t ≡ 2048 → 2048 ≤ length rs → 2048 ≤ length cs → repairOf t rs cs .refusal ≡ refusal 0 0
+  pub repair-room : (E : Estimate) (t rs cs : List ℕ) → (length rs < 2048) ⊎ (length cs < 2048) → repairOf E t rs cs ≡ repairZeros (refusal 7 0)
+  pub repair-length : (E : Estimate) (t rs cs : List ℕ) → 2048 ≤ length rs → 2048 ≤ length cs → (length t ≡ 2048 → ⊥) → repairOf E t rs cs ≡ repairZeros (refusal 8 0)
+  pub repair-told : (E : Estimate) (t rs cs : List ℕ) → length t ≡ 2048 → 2048 ≤ length rs → 2048 ≤ length cs → repairOf E t rs cs .refusal ≡ refusal 0 0
   pub digits : (t : List ℕ) (N D n : ℕ) (b : List ℕ) (place : ℕ) → (n ≡ 0) ⊎ (28 < n) → runOf t N D n b place ≡ runZeros (refusal 2 0)
   pub operands : (t : List ℕ) (N D n : ℕ) (b : List ℕ) (place : ℕ) → 1 ≤ n → n ≤ 28 → (D < 2 ^ 60) ⊎ ((2 ^ 61 ≤ D) ⊎ (2 ^ 61 ≤ N)) → runOf t N D n b place ≡ runZeros (refusal 3 0)
   pub buffer : (t : List ℕ) (N D n : ℕ) (b : List ℕ) (place : ℕ) → Operands N D → 1 ≤ n → n ≤ 28 → length b < place + n → runOf t N D n b place ≡ runZeros (refusal 7 0)
@@ -79,16 +82,16 @@ pub record Conditions : Type 0 where
   pub samples-direction : (t : List ℕ) (d : ℕ) (currents sensitivities given : List ℕ) → 3 < d → samplesOf t d currents sensitivities given ≡ samplesZeros (refusal 6 0)
   pub samples-lengths : (t : List ℕ) (d : ℕ) (currents sensitivities given : List ℕ) → d ≤ 3 → (length currents ≡ length sensitivities → ⊥) → samplesOf t d currents sensitivities given ≡ samplesZeros (refusal 11 0)
   pub samples-room : (t : List ℕ) (d : ℕ) (currents sensitivities given : List ℕ) → d ≤ 3 → length currents ≡ length sensitivities → length given < length currents → samplesOf t d currents sensitivities given ≡ samplesZeros (refusal 7 0)
-  pub recheck-lengths : (t currents sensitivities given : List ℕ) → (length currents ≡ length sensitivities → ⊥) → recheckOf t currents sensitivities given ≡ recheckZeros (refusal 11 0)
-  pub recheck-room : (t currents sensitivities given : List ℕ) → length currents ≡ length sensitivities → length given < length currents → recheckOf t currents sensitivities given ≡ recheckZeros (refusal 7 0)
-  pub recheck-length : (t currents sensitivities given : List ℕ) → length currents ≡ length sensitivities → length currents ≤ length given → (length t ≡ 2048 → ⊥)
-      → recheckOf t currents sensitivities given ≡ recheckZeros (refusal 8 0)
-  pub recheck-told : (t currents sensitivities given : List ℕ) → length currents ≡ length sensitivities → length currents ≤ length given → length t ≡ 2048
-      → recheckOf t currents sensitivities given .refusal ≡ refusal 0 0
-  pub recheck-large : (t : List ℕ) (a b : ℕ) → (2 ^ 60 ≤ a) ⊎ (2 ^ 60 ≤ b) → recheckWholeOf t a b ≡ recheckWholeZeros (refusal 4 0)
-  pub recheck-by-zero : (t : List ℕ) (a b : ℕ) → a < 2 ^ 60 → b ≡ 0 → recheckWholeOf t a b ≡ recheckWholeZeros (refusal 5 0)
-  pub recheck-whole-length : (t : List ℕ) (a b : ℕ) → a < 2 ^ 60 → 0 < b → b < 2 ^ 60 → (length t ≡ 2048 → ⊥) → recheckWholeOf t a b ≡ recheckWholeZeros (refusal 8 0)
-  pub recheck-whole-told : (t : List ℕ) (a b : ℕ) → a < 2 ^ 60 → 0 < b → b < 2 ^ 60 → length t ≡ 2048 → recheckWholeOf t a b .refusal ≡ refusal 0 0
+  pub recheck-lengths : (E : Estimate) (t currents sensitivities given : List ℕ) → (length currents ≡ length sensitivities → ⊥) → recheckOf E t currents sensitivities given ≡ recheckZeros (refusal 11 0)
+  pub recheck-room : (E : Estimate) (t currents sensitivities given : List ℕ) → length currents ≡ length sensitivities → length given < length currents → recheckOf E t currents sensitivities given ≡ recheckZeros (refusal 7 0)
+  pub recheck-length : (E : Estimate) (t currents sensitivities given : List ℕ) → length currents ≡ length sensitivities → length currents ≤ length given → (length t ≡ 2048 → ⊥)
+      → recheckOf E t currents sensitivities given ≡ recheckZeros (refusal 8 0)
+  pub recheck-told : (E : Estimate) (t currents sensitivities given : List ℕ) → length currents ≡ length sensitivities → length currents ≤ length given → length t ≡ 2048
+      → recheckOf E t currents sensitivities given .refusal ≡ refusal 0 0
+  pub recheck-large : (E : Estimate) (t : List ℕ) (a b : ℕ) → (2 ^ 60 ≤ a) ⊎ (2 ^ 60 ≤ b) → recheckWholeOf E t a b ≡ recheckWholeZeros (refusal 4 0)
+  pub recheck-by-zero : (E : Estimate) (t : List ℕ) (a b : ℕ) → a < 2 ^ 60 → b ≡ 0 → recheckWholeOf E t a b ≡ recheckWholeZeros (refusal 5 0)
+  pub recheck-whole-length : (E : Estimate) (t : List ℕ) (a b : ℕ) → a < 2 ^ 60 → 0 < b → b < 2 ^ 60 → (length t ≡ 2048 → ⊥) → recheckWholeOf E t a b ≡ recheckWholeZeros (refusal 8 0)
+  pub recheck-whole-told : (E : Estimate) (t : List ℕ) (a b : ℕ) → a < 2 ^ 60 → 0 < b → b < 2 ^ 60 → length t ≡ 2048 → recheckWholeOf E t a b .refusal ≡ refusal 0 0
   pub packed-dividend : (xs ys : List ℕ) (p : ℕ) → p < 8 → (9 < getD xs p 0 / 16) ⊎ (9 < getD xs p 0 % 16) → ((i : ℕ) → i < p → (9 < getD xs i 0 / 16) ⊎ (9 < getD xs i 0 % 16) → ⊥)
       → packedOf xs ys ≡ packedZeros (refusal 15 p)
   pub packed-divisor : (xs ys : List ℕ) (p : ℕ) → Decimal xs → p < 8 → (9 < getD ys p 0 / 16) ⊎ (9 < getD ys p 0 % 16) → ((i : ℕ) → i < p → (9 < getD ys i 0 / 16) ⊎ (9 < getD ys i 0 % 16) → ⊥)
@@ -129,41 +132,67 @@ pub record ZerosBesides : Type 0 where
   pub samples : (f : Refusal) → samplesZeros f ≡ record { refusal = f; flags = 0; count = 0 }
   pub root : (f : Refusal) → rootZeros f ≡ record { refusal = f; root = 0; remainder = 0 }
 
+-- f is a call's answer, or what it leaves in a lent list, by the number of bits: `none` where that is neither 7 nor 8, else what g is for the estimate
+pub record ByBits {X : Type 0} (f : ℕ → X) (none : X) (g : Estimate → X) : Type 0 where
+  pub refused : (bits : ℕ) → (bits < 7) ⊎ (8 < bits) → f bits ≡ none
+  pub seven : f 7 ≡ g SevenBits
+  pub eight : f 8 ≡ g EightBits
+
+-- the calls for a number of bits, in numbers: refusal 17 comes before all else, whatever else is handed, with zeros besides, and each lent list keeps its contents
+pub record ForBits : Type 0 where
+  pub check-cell : (r c b : ℕ) → ByBits (λ bits. checkCellFor bits r c b) (record { refusal = record { number = 17; place = 0 }; allowed = 0; divisor = 0; remainder = pos 0 }) (λ E. cellNumbers (cellOf E r c b))
+  pub check-table : (t : List ℕ) → ByBits (λ bits. checkTableFor bits t) (record { refusal = record { number = 17; place = 0 }; count = 0; row = 0; column = 0; divisor = 0; remainder = pos 0 }) (λ E. reportNumbers (reportOf E t))
+  pub row-limits : (r : ℕ) → ByBits (λ bits. rowLimitsFor bits r) (record { refusal = record { number = 17; place = 0 }; limits = 0 ∷ 0 ∷ 0 ∷ 0 ∷ 0 ∷ 0 ∷ [] }) (λ E. rowLimitsOf E r)
+  pub make-table : (s : List ℕ) → ByBits (λ bits. makeFor bits s) (record { number = 17; place = 0 }) (λ E. makeOf s)
+  pub make-buffer : (s : List ℕ) → ByBits (λ bits. madeBufferFor bits s) s (λ E. madeBuffer E s)
+  pub repair : (t rs cs : List ℕ) → ByBits (λ bits. repairFor bits t rs cs) (record { refusal = record { number = 17; place = 0 }; count = 0 }) (λ E. repairOf E t rs cs)
+  pub repaired : (t rs cs : List ℕ) → ByBits (λ bits. repairedFor bits t rs cs) rs (λ E. repairedOf E t rs cs)
+  pub changed : (t rs cs : List ℕ) → ByBits (λ bits. changedFor bits t rs cs) cs (λ E. changedOf E t rs cs)
+
 pub record Demand1 : Type 0 where
   pub zeros : ZerosBesides
-  -- the order is that of the numbers, from 1 to 10; 11 comes after 6 and before 7, 12 before 13 and that before 7, 14 after 3 and before 8, 15 before 5, 16 after 2 and before 7
+  -- the order is that of the numbers, from 1 to 10; 11 comes after 6 and before 7, 12 before 13 and that before 7, 14 after 3 and before 8, 15 before 5, 16 after 2 and before 7, 17 before all
   pub order : (m n : ℕ) → m < n → n < 10 → rank (m + 1) < rank (n + 1)
   pub order-11 : (rank 6 < rank 11) × (rank 11 < rank 7)
   pub order-12 : (rank 12 < rank 13) × (rank 13 < rank 7)
   pub order-14 : (rank 3 < rank 14) × (rank 14 < rank 8)
   pub order-15 : rank 15 < rank 5
   pub order-16 : (rank 2 < rank 16) × (rank 16 < rank 7)
+  pub order-17 : (m : ℕ) → m < 16 → rank 17 < rank (m + 1)
   pub conditions : Conditions
-  pub check-cell : (r c b : ℕ) → Refuses (Wrongs (cellRules r c b)) (λ x. x .refusal) cellZeros (cellNumbers (cellOf r c b))
-  pub row-limits : (r : ℕ) → Refuses (Wrongs (limitsRules r)) (λ x. x .refusal) limitsZeros (rowLimitsOf r)
+  pub for-bits : ForBits
+  pub check-cell : (E : Estimate) (r c b : ℕ) → Refuses (Wrongs (cellRules r c b)) (λ x. x .refusal) cellZeros (cellNumbers (cellOf E r c b))
+  pub row-limits : (E : Estimate) (r : ℕ) → Refuses (Wrongs (limitsRules r)) (λ x. x .refusal) limitsZeros (rowLimitsOf E r)
   pub make-table : (s : List ℕ) → RefusedBy (Wrongs (makeRules (length s))) (makeOf s)
-  pub make-buffer : (s : List ℕ) (n p : ℕ) → IsFirstRefusal (Wrongs (makeRules (length s))) n p → madeBuffer s ≡ s
-  pub repair : (t rs cs : List ℕ) → Refuses (Wrongs (repairRules (length t) (length rs) (length cs))) (λ x. x .refusal) repairZeros (repairOf t rs cs)
-  pub repair-buffers : (t rs cs : List ℕ) (n p : ℕ) → IsFirstRefusal (Wrongs (repairRules (length t) (length rs) (length cs))) n p → (repairedOf t rs cs ≡ rs) × (changedOf t rs cs ≡ cs)
-  pub check-table : (t : List ℕ) → CheckRefuses t (reportNumbers (reportOf t))
+  pub make-buffer : (E : Estimate) (s : List ℕ) (n p : ℕ) → IsFirstRefusal (Wrongs (makeRules (length s))) n p → madeBuffer E s ≡ s
+  pub repair : (E : Estimate) (t rs cs : List ℕ) → Refuses (Wrongs (repairRules (length t) (length rs) (length cs))) (λ x. x .refusal) repairZeros (repairOf E t rs cs)
+  pub repair-buffers : (E : Estimate) (t rs cs : List ℕ) (n p : ℕ) → IsFirstRefusal (Wrongs (repairRules (length t) (length rs) (length cs))) n p → (repairedOf E t rs cs ≡ rs) × (changedOf E t rs cs ≡ cs)
+  pub check-table : (E : Estimate) (t : List ℕ) → CheckRefuses (tableRules E t) E t (reportNumbers (reportOf E t))
+  -- the same calls for a number of bits: 17, then as above
+  pub check-cell-for : (bits r c b : ℕ) → Refuses (Wrongs (bitsRules bits ++ cellRules r c b)) (λ x. x .refusal) cellZeros (checkCellFor bits r c b)
+  pub row-limits-for : (bits r : ℕ) → Refuses (Wrongs (bitsRules bits ++ limitsRules r)) (λ x. x .refusal) limitsZeros (rowLimitsFor bits r)
+  pub make-table-for : (bits : ℕ) (s : List ℕ) → RefusesLent (Wrongs (bitsRules bits ++ makeRules (length s))) (λ x. x) (λ f. f) (makeFor bits s) s (madeBufferFor bits s)
+  pub repair-for : (bits : ℕ) (t rs cs : List ℕ) → RefusesLent (Wrongs (bitsRules bits ++ repairRules (length t) (length rs) (length cs))) (λ x. x .refusal) repairZeros (repairFor bits t rs cs) rs (repairedFor bits t rs cs)
+  pub repair-marks-for : (bits : ℕ) (t rs cs : List ℕ) (n p : ℕ) → IsFirstRefusal (Wrongs (bitsRules bits ++ repairRules (length t) (length rs) (length cs))) n p → changedFor bits t rs cs ≡ cs
+  pub check-table-for : (bits : ℕ) (t : List ℕ) → CheckRefuses (bitsRules bits ++ tableRules (estimateOf bits) t) (estimateOf bits) t (checkTableFor bits t)
   -- what the calls below make of a table that they are lent
-  pub admit : (t : List ℕ) → RefusedBy (Wrongs (tableRules t)) (refusalOf (firstRefusal (tableRules t)))
-  pub run : (t : List ℕ) (N D n : ℕ) (b : List ℕ) (place : ℕ) → RunRefuses (Wrongs (runRules N D n (length b) place ++ tableRules t)) t N D n b place
-  pub step : (s k D : ℕ) (t : List ℕ) → Refuses (Wrongs (stepRules s k D ++ tableRules t)) (λ x. x .refusal) stepZeros (stepOf s k D t)
-  pub visits : (t : List ℕ) (k n : ℕ) (v : List ℕ) → RefusedBy (Wrongs (visitsRules k n (length v) ++ tableRules t)) (visitsAnswer t k n v)
-  pub visits-list : (t : List ℕ) (k n : ℕ) (v : List ℕ) (m p : ℕ) → IsFirstRefusal (Wrongs (visitsRules k n (length v) ++ tableRules t)) m p → visitsLeft t k n v ≡ v
-  pub whole : (t : List ℕ) (a b : ℕ) → Refuses (Wrongs (wholeRules a b ++ tableRules t)) (λ x. x .refusal) wholeZeros (wholeOf t a b)
-  pub binary64 : (t : List ℕ) (direction a b : ℕ) → Refuses (Wrongs (directionRules direction ++ tableRules t)) (λ x. x .refusal) binary64Zeros (binary64Of t direction a b)
+  pub admit : (t : List ℕ) → RefusedBy (Wrongs (tableRules EightBits t)) (refusalOf (firstRefusal (tableRules EightBits t)))
+  pub run : (t : List ℕ) (N D n : ℕ) (b : List ℕ) (place : ℕ) → RunRefuses (Wrongs (runRules N D n (length b) place ++ tableRules EightBits t)) t N D n b place
+  pub step : (s k D : ℕ) (t : List ℕ) → Refuses (Wrongs (stepRules s k D ++ tableRules EightBits t)) (λ x. x .refusal) stepZeros (stepOf s k D t)
+  pub visits : (t : List ℕ) (k n : ℕ) (v : List ℕ) → RefusedBy (Wrongs (visitsRules k n (length v) ++ tableRules EightBits t)) (visitsAnswer t k n v)
+  pub visits-list : (t : List ℕ) (k n : ℕ) (v : List ℕ) (m p : ℕ) → IsFirstRefusal (Wrongs (visitsRules k n (length v) ++ tableRules EightBits t)) m p → visitsLeft t k n v ≡ v
+  pub whole : (t : List ℕ) (a b : ℕ) → Refuses (Wrongs (wholeRules a b ++ tableRules EightBits t)) (λ x. x .refusal) wholeZeros (wholeOf t a b)
+  pub binary64 : (t : List ℕ) (direction a b : ℕ) → Refuses (Wrongs (directionRules direction ++ tableRules EightBits t)) (λ x. x .refusal) binary64Zeros (binary64Of t direction a b)
   pub samples : (t : List ℕ) (direction : ℕ) (currents sensitivities given : List ℕ)
-      → RefusesLent (Wrongs (samplesRules direction (length currents) (length sensitivities) (length given) ++ tableRules t)) (λ x. x .refusal) samplesZeros (samplesOf t direction currents sensitivities given) given (concentrationsOf t direction currents sensitivities given)
+      → RefusesLent (Wrongs (samplesRules direction (length currents) (length sensitivities) (length given) ++ tableRules EightBits t)) (λ x. x .refusal) samplesZeros (samplesOf t direction currents sensitivities given) given (concentrationsOf t direction currents sensitivities given)
   -- a table as it was burned: no byte of it is refused
-  pub recheck : (t currents sensitivities given : List ℕ)
-      → RefusesLent (Wrongs (recheckRules (length t) (length currents) (length sensitivities) (length given))) (λ x. x .refusal) recheckZeros (recheckOf t currents sensitivities given) given (affectedOf t currents sensitivities given)
-  pub recheck-whole : (t : List ℕ) (a b : ℕ) → Refuses (Wrongs (recheckWholeRules (length t) a b)) (λ x. x .refusal) recheckWholeZeros (recheckWholeOf t a b)
+  pub recheck : (E : Estimate) (t currents sensitivities given : List ℕ)
+      → RefusesLent (Wrongs (recheckRules (length t) (length currents) (length sensitivities) (length given))) (λ x. x .refusal) recheckZeros (recheckOf E t currents sensitivities given) given (affectedOf E t currents sensitivities given)
+  pub recheck-whole : (E : Estimate) (t : List ℕ) (a b : ℕ) → Refuses (Wrongs (recheckWholeRules (length t) a b)) (λ x. x .refusal) recheckWholeZeros (recheckWholeOf E t a b)
   -- over the kept table no table is refused
-  pub run-kept : (N D n : ℕ) (b : List ℕ) (place : ℕ) → RunRefuses (Wrongs (runRules N D n (length b) place)) madeTable N D n b place
-  pub whole-kept : (a b : ℕ) → Refuses (Wrongs (wholeRules a b)) (λ x. x .refusal) wholeZeros (wholeOf madeTable a b)
-  pub binary64-kept : (direction a b : ℕ) → Refuses (Wrongs (directionRules direction)) (λ x. x .refusal) binary64Zeros (binary64Of madeTable direction a b)
+  pub run-kept : (N D n : ℕ) (b : List ℕ) (place : ℕ) → RunRefuses (Wrongs (runRules N D n (length b) place)) (madeTable EightBits) N D n b place
+  pub whole-kept : (a b : ℕ) → Refuses (Wrongs (wholeRules a b)) (λ x. x .refusal) wholeZeros (wholeOf (madeTable EightBits) a b)
+  pub binary64-kept : (direction a b : ℕ) → Refuses (Wrongs (directionRules direction)) (λ x. x .refusal) binary64Zeros (binary64Of (madeTable EightBits) direction a b)
   -- packed numbers are divided over the kept table
   pub packed : (xs ys : List ℕ) → Refuses (Wrongs (packedRules xs ys)) (λ x. x .refusal) packedZeros (packedOf xs ys)
   -- ratios are compared over the kept table

@@ -14,6 +14,7 @@ use Rattle.division.specs.declared.whole.WholeAnswer.{WholeAnswer}
 use Rattle.division.specs.declared.format.Binary64Result.{Binary64Result}
 use Rattle.division.specs.declared.format.Binary64Answer.{Binary64Answer}
 use Rattle.division.specs.declared.samples.SamplesAnswer.{SamplesAnswer}
+use Rattle.selection.specs.declared.Estimate.the-variants.{EightBits}
 
 -- the answer is no refusal; a = Q·b + R with R below b for its quotient Q and its remainder R, and for no others
 pub record Divides (a b : ℕ) (x : WholeAnswer) : Type 0 where
@@ -49,5 +50,5 @@ pub record RightThrough (t : List ℕ) : Type 0 where
   pub samples-example : SamplesExample t
 
 pub record Demand2 : Type 0 where
-  pub passed : (t : List ℕ) → Passes t → RightThrough t
-  pub kept : RightThrough madeTable
+  pub passed : (t : List ℕ) → Passes EightBits t → RightThrough t
+  pub kept : RightThrough (madeTable EightBits)

@@ -10,12 +10,14 @@ use Rattle.selection.specs.Cell.{IsCell}
 use Rattle.selection.specs.Computed.{cellOf}
 use Rattle.selection.specs.Demand.{RefusedExactly, CellTold}
 use Rattle.selection.specs.declared.table.Report.{Report}
-use Rattle.recurrence.specs.Recurrence.{Operands}
+use Rattle.recurrence.specs.Recurrence.{Operands, resultOf}
 use Rattle.recurrence.specs.Run.{runOf}
-use Rattle.recurrence.specs.Demand.{RunClaim}
+use Rattle.recurrence.specs.Demand.{RunsRight, RunClaim}
 use Rattle.division.specs.Whole.{wholeOf}
 use Rattle.division.specs.Binary64.{binary64Of}
 use Rattle.division.specs.Samples.{samplesOf, concentrationsOf}
+use Rattle.selection.specs.declared.Estimate.{Estimate}
+use Rattle.selection.specs.declared.Estimate.the-variants.{EightBits}
 
 -- through two tables the same answers, for every argument, refusals included
 pub record SameThrough (t u : List ℕ) : Type 0 where
@@ -27,14 +29,17 @@ pub record SameThrough (t u : List ℕ) : Type 0 where
 
 pub record Demand3 : Type 0 where
   -- all n steps of every run of a caller through a table that passes, together
-  pub runs : (t : List ℕ) → Passes t → (N D n : ℕ) (b : List ℕ) (place : ℕ) → Operands N D → 1 ≤ n → n ≤ 28 → place + n ≤ length b → RunClaim t N D n b place
+  pub runs : (t : List ℕ) → Passes EightBits t → (N D n : ℕ) (b : List ℕ) (place : ℕ) → Operands N D → 1 ≤ n → n ≤ 28 → place + n ≤ length b → RunClaim t N D n b place
+  -- all n steps of a divider with either estimate through a table that passes for it, together, whatever n; and in either divider, through every such table, the same result
+  pub steps : (E : Estimate) (t : List ℕ) (N D n : ℕ) → Passes E t → Operands N D → 1 ≤ n → RunsRight E t N D n
+  pub results : (E F : Estimate) (t u : List ℕ) (N D n : ℕ) → Passes E t → Passes F u → Operands N D → 1 ≤ n → resultOf E t N D n ≡ resultOf F u N D n
   -- the same answers through any two tables that pass
-  pub same : (t u : List ℕ) → Passes t → Passes u → SameThrough t u
+  pub same : (t u : List ℕ) → Passes EightBits t → Passes EightBits u → SameThrough t u
   -- the check refuses exactly when some point leads out of the range
-  pub refused : (t : List ℕ) → Table t → (a : Report) → Checked t a → RefusedExactly t (reportNumbers a)
+  pub refused : (E : Estimate) (t : List ℕ) → Table t → (a : Report) → Checked E t a → RefusedExactly E t (reportNumbers a)
   -- every table has one answer, which is no refusal exactly if it passes, and some table does
-  pub answered : (t : List ℕ) → (a : Report) × Checked t a × ((b : Report) → Checked t b → b ≡ a)
-  pub passed : (t : List ℕ) (a : Report) → Checked t a → (reportNumbers a .refusal ≡ refusal 0 0) ↔ Passes t
+  pub answered : (E : Estimate) (t : List ℕ) → (a : Report) × Checked E t a × ((b : Report) → Checked E t b → b ≡ a)
+  pub passed : (E : Estimate) (t : List ℕ) (a : Report) → Checked E t a → (reportNumbers a .refusal ≡ refusal 0 0) ↔ Passes E t
   -- a single cell tells whether its digit is allowed
-  pub cells : (r c b : ℕ) → IsCell r c b → CellTold r c b (cellNumbers (cellOf r c b))
-  pub some : (t : List ℕ) × Passes t
+  pub cells : (E : Estimate) (r c b : ℕ) → IsCell r c b → CellTold E r c b (cellNumbers (cellOf E r c b))
+  pub some : (E : Estimate) → (t : List ℕ) × Passes E t

@@ -22,6 +22,8 @@ use Rattle.demands.specs.AveragesDemand.{AveragesDemand, ReversalDemand,
 use Rattle.demands.specs.BenchCases.{BenchCases}
 use Rattle.demands.specs.RootExamples.{RootExamples}
 use Rattle.demands.specs.FlagExamples.{FlagExamples}
+use Rattle.selection.specs.declared.Estimate.{Estimate}
+use Rattle.selection.specs.declared.Estimate.the-variants.{EightBits}
 
 pub record Demands : Type 0 where
   pub demand-1 : Demand1
@@ -32,8 +34,8 @@ pub record Demands : Type 0 where
   pub ratio-demand : RatioDemand
   pub averages-demand : AveragesDemand
   pub reversal-demand : ReversalDemand
-  pub repair-demand : RepairDemand
-  pub recheck-demand : RecheckDemand
+  pub repair-demand : (E : Estimate) → RepairDemand E
+  pub recheck-demand : (E : Estimate) → RecheckDemand E
   pub burned-tables : BurnedTables
   pub pair-demand : PairDemand
   pub step-demand : StepDemand
@@ -42,8 +44,8 @@ pub record Demands : Type 0 where
   pub ieee-754 : Ieee754
   pub root-ordered : RootOrder
   -- worked in numbers
-  pub made-table-is : MadeTable madeTable
-  pub bench-cases : (t : List ℕ) → MadeTable t → BenchCases t
+  pub made-table-is : (E : Estimate) → MadeTable E (madeTable E)
+  pub bench-cases : (t : List ℕ) → MadeTable EightBits t → BenchCases t
   pub root-examples : RootExamples
   pub flag-examples : FlagExamples
   pub averages-example : AveragesExample

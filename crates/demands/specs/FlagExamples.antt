@@ -6,6 +6,7 @@ use Rattle.selection.specs.Table.{Passes}
 use Rattle.division.specs.Binary64.{binary64Of}
 use Rattle.division.specs.declared.format.Binary64Answer.{Binary64Answer}
 use Rattle.demands.specs.RootExamples.{answered}
+use Rattle.selection.specs.declared.Estimate.the-variants.{EightBits}
 
 -- the same answer in all four directions
 abbrev pub InAll : List ℕ → ℕ → ℕ → Binary64Answer → Type 0
@@ -27,4 +28,4 @@ pub record FlagsThrough (t : List ℕ) : Type 0 where
   pub invalid : InAll t 0 0 (answered 0x7FF8_0000_0000_0000 16)
 
 pub record FlagExamples : Type 0 where
-  pub passed : (t : List ℕ) → Passes t → FlagsThrough t
+  pub passed : (t : List ℕ) → Passes EightBits t → FlagsThrough t

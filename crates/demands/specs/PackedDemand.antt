@@ -7,6 +7,7 @@ use Rattle.selection.specs.Computed.{madeTable}
 use Rattle.division.specs.Whole.{wholeOf}
 use Rattle.division.specs.Packed.{packedNumber, Packed, packedBytes, packedOf}
 use Rattle.division.specs.declared.packed.PackedAnswer.{PackedAnswer}
+use Rattle.selection.specs.declared.Estimate.the-variants.{EightBits}
 
 -- x has one set of bytes
 pub record OnePacked (x : ℕ) : Type 0 where
@@ -46,5 +47,5 @@ pub record PackedDemand : Type 0 where
   pub divides : (xs ys : List ℕ) → Packed xs → Packed ys → 0 < packedNumber ys → DividesPacked xs ys (packedOf xs ys)
   -- whole-number division refuses nothing of their numbers: 10^16 is below 2^60, so that 4 never arises
   pub room : 10 ^ 16 < 2 ^ 60
-  pub admitted : (xs ys : List ℕ) → Packed xs → Packed ys → 0 < packedNumber ys → wholeOf madeTable (packedNumber xs) (packedNumber ys) .refusal ≡ refusal 0 0
+  pub admitted : (xs ys : List ℕ) → Packed xs → Packed ys → 0 < packedNumber ys → wholeOf (madeTable EightBits) (packedNumber xs) (packedNumber ys) .refusal ≡ refusal 0 0
   pub examples : PackedExamples

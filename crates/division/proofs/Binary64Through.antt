@@ -12,6 +12,7 @@ use Rattle.division.proofs.Binary64Names.{magnitude, field, fraction, s
 use Rattle.division.proofs.Sticky.{sticky-cross, cut-high, cut-low}
 use Rattle.division.proofs.Quotient.{ScaledTo, AlignedTo, aligned-is}
 use Rattle.division.proofs.Classes.{quotient-operands}
+use Rattle.selection.specs.declared.Estimate.{Estimate}
 
 pub significand-right : (p : ℕ) → FiniteNonzero p → ScaledTo (magnitude p) (significandOf p)
 significand-right p u = ⊎-elim
@@ -26,18 +27,6 @@ significand-right p u = ⊎-elim
     let e : field p + 51 ≡ (field p - 1) + 52 = omega arith in
     rw (ne-eqb (field p) 0 (omega arith)) (record { bits = record { low = omega arith; high = omega arith; small = omega arith }; same = rw (e, pow-add 2 (field p - 1) 52, mul-assoc) }))
     (eq-zero-or-pos (field p))
-
--- the run of 28 digits gives the quotient with 54 bits after the point
-pub ratio-right : (t : List ℕ) (a b : ℕ) → Passes t → 2 ^ 52 ≤ a → a < 2 ^ 53 → 2 ^ 52 ≤ b → b < 2 ^ 53
-    → (ratioThrough t a b ≡ sticky (a * 2 ^ 54) b) × (resultOf t (a * 256) (b * 256) 28 .quotient < 2 ^ 55) × (2 ^ 54 ≤ ratioThrough t a b) × (ratioThrough t a b < 2 ^ 56)
-unfolding ratioThrough
-ratio-right t a b p la ha lb hb =
-    let e = result-divides t (a * 256) (b * 256) 28 p (record { dividend = omega arith; least = omega arith; most = omega arith }) (omega arith) in
-    let M = a * 256 * 4 ^ 27 in
-    let D = b * 256 in
-    let low = le-div-iff-mul-le {k = D} {x = 2 ^ 53} {y = M} (omega arith) .1 (omega arith) in
-    let high = div-lt-iff-lt-mul {k = D} {x = M} {y = 2 ^ 55} (omega arith) .1 (omega arith) in
-    rw e (sticky-cross M D (a * 2 ^ 54) b (omega arith) (omega arith) (omega arith), high, omega arith, omega arith)
 
 pub aligned-right : (w up down : ℕ) → 2 ^ 54 ≤ w → w < 2 ^ 56 → up ≤ 3118 → down ≤ 2097 → AlignedTo w up down (alignedOf w up down)
 aligned-right w up down lw hw hu hd =
@@ -56,15 +45,29 @@ pub rounded-same : (k : ByClass) {x y : Binary64Result} → (k ≡ Undecided →
 rounded-same (Decided z) f = refl
 rounded-same Undecided f = f refl
 
-pub binary64-through : (t : List ℕ) (direction a b : ℕ) → Passes t → binary64Through t direction a b ≡ quotientOf direction a b
-unfolding roundedQuotient
-binary64-through t direction a b p = rounded-same (byClass a b) (λ e.
-    let u = quotient-operands a b e in
-    let x = significandOf a in
-    let y = significandOf b in
-    let sx = significand-right a (u .0) in
-    let sy = significand-right b (u .1) in
-    let w = ratio-right t (x .sig) (y .sig) p (sx .bits .low) (sx .bits .high) (sy .bits .low) (sy .bits .high) in
-    let q = ratioThrough t (x .sig) (y .sig) in
-    sym (aligned-is direction (signOf a b) (magnitude a) (magnitude b) q x y (alignedOf q (x .exp + 1021) (y .exp)) (u .1 .some) sx sy (w .0)
-    (aligned-right q (x .exp + 1021) (y .exp) (w .2) (w .3) (omega (arith, sx .bits .small)) (sy .bits .small))))
+-- in a divider with the estimate E
+module _ (E : Estimate) where
+  -- the run of 28 digits gives the quotient with 54 bits after the point
+  pub ratio-right : (t : List ℕ) (a b : ℕ) → Passes E t → 2 ^ 52 ≤ a → a < 2 ^ 53 → 2 ^ 52 ≤ b → b < 2 ^ 53
+      → (ratioThrough E t a b ≡ sticky (a * 2 ^ 54) b) × (resultOf E t (a * 256) (b * 256) 28 .quotient < 2 ^ 55) × (2 ^ 54 ≤ ratioThrough E t a b) × (ratioThrough E t a b < 2 ^ 56)
+  unfolding ratioThrough
+  ratio-right t a b p la ha lb hb =
+      let e = result-divides E t (a * 256) (b * 256) 28 p (record { dividend = omega arith; least = omega arith; most = omega arith }) (omega arith) in
+      let M = a * 256 * 4 ^ 27 in
+      let D = b * 256 in
+      let low = le-div-iff-mul-le {k = D} {x = 2 ^ 53} {y = M} (omega arith) .1 (omega arith) in
+      let high = div-lt-iff-lt-mul {k = D} {x = M} {y = 2 ^ 55} (omega arith) .1 (omega arith) in
+      rw e (sticky-cross M D (a * 2 ^ 54) b (omega arith) (omega arith) (omega arith), high, omega arith, omega arith)
+
+  pub binary64-through : (t : List ℕ) (direction a b : ℕ) → Passes E t → binary64Through E t direction a b ≡ quotientOf direction a b
+  unfolding roundedQuotient
+  binary64-through t direction a b p = rounded-same (byClass a b) (λ e.
+      let u = quotient-operands a b e in
+      let x = significandOf a in
+      let y = significandOf b in
+      let sx = significand-right a (u .0) in
+      let sy = significand-right b (u .1) in
+      let w = ratio-right t (x .sig) (y .sig) p (sx .bits .low) (sx .bits .high) (sy .bits .low) (sy .bits .high) in
+      let q = ratioThrough E t (x .sig) (y .sig) in
+      sym (aligned-is direction (signOf a b) (magnitude a) (magnitude b) q x y (alignedOf q (x .exp + 1021) (y .exp)) (u .1 .some) sx sy (w .0)
+      (aligned-right q (x .exp + 1021) (y .exp) (w .2) (w .3) (omega (arith, sx .bits .small)) (sy .bits .small))))

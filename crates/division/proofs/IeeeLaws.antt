@@ -9,6 +9,7 @@ use Rattle.division.proofs.Answers.{binary64-answer}
 use Rattle.division.proofs.Classes.{nonzero-operand, nan-case, invalid-case, by-zero-case, infinite-case, zero-case, quotient-case}
 use Rattle.division.proofs.RoundedOne.{magnitude-under}
 use Rattle.division.proofs.Quotient.{rounded-quotient}
+use Rattle.selection.specs.declared.Estimate.the-variants.{EightBits}
 
 -- finite magnitudes are below 2^1024
 pub magnitude-below : (p : ℕ) → field p < 2047 → magnitude p < 2 ^ 2098
@@ -33,5 +34,5 @@ ieee direction a b = record {
 }
 
 -- and so through every table that passes
-pub ieee-through : (t : List ℕ) → Passes t → (direction a b : ℕ) → direction ≤ 3 → let x = binary64Of t direction a b in Ieee direction a b (record { pattern = x .pattern; flags = x .flags })
+pub ieee-through : (t : List ℕ) → Passes EightBits t → (direction a b : ℕ) → direction ≤ 3 → let x = binary64Of t direction a b in Ieee direction a b (record { pattern = x .pattern; flags = x .flags })
 ieee-through t p direction a b h = rw (binary64-answer t p direction a b h) (ieee direction a b)

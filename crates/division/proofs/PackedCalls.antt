@@ -8,6 +8,7 @@ use Rattle.selection.specs.Computed.{madeTable}
 use Rattle.division.specs.Whole.{wholeOf}
 use Rattle.division.specs.declared.packed.PackedAnswer.{PackedAnswer}
 use Rattle.division.specs.Packed.{packedNumber, Decimal, operandByte, Above9, isAbove9, firstAbove9, packedRules, packedZeros, packedValues, packedOf}
+use Rattle.selection.specs.declared.Estimate.the-variants.{EightBits}
 
 decimal-none : {bs : List ℕ} → Decimal bs → (i : ℕ) → i < 8 → Above9 (getD bs i 0) → ⊥
 decimal-none d i h = ⊎-elim (λ x. omega (arith, d .high i h)) (λ x. omega (arith, d .low i h))
@@ -40,7 +41,7 @@ module _ (xs ys : List ℕ) where
   -- ---- the answer: the two refusals, and none
 
   abbrev answer : Admission → PackedAnswer
-  answer = answerBy packedZeros (packedValues (wholeOf madeTable (packedNumber xs) (packedNumber ys)))
+  answer = answerBy packedZeros (packedValues (wholeOf (madeTable EightBits) (packedNumber xs) (packedNumber ys)))
 
   pub byte-refused : (p : ℕ) → p ≡ firstAbove9 xs ys → p < 16 → packedOf xs ys ≡ packedZeros (refusal 15 p)
   byte-refused p e h = ap answer (refused-at packed-rules 0 p (found (λ i. isAbove9 (operandByte xs ys i)) 16 above-decides e h))
@@ -49,13 +50,13 @@ module _ (xs ys : List ℕ) where
     pub zero-refused : packedNumber ys ≡ 0 → packedOf xs ys ≡ packedZeros (refusal 5 0)
     zero-refused h = ap answer (refused-at packed-rules 1 0 (not-found (λ i. isAbove9 (operandByte xs ys i)) 16 above-decides none, (refl, h)))
 
-    pub none-refused : (packedNumber ys ≡ 0 → ⊥) → packedOf xs ys ≡ packedValues (wholeOf madeTable (packedNumber xs) (packedNumber ys))
+    pub none-refused : (packedNumber ys ≡ 0 → ⊥) → packedOf xs ys ≡ packedValues (wholeOf (madeTable EightBits) (packedNumber xs) (packedNumber ys))
     none-refused h = ap answer (clear-admits packed-rules (not-found (λ i. isAbove9 (operandByte xs ys i)) 16 above-decides none, (h, tt)))
 
   -- ---- for demand 1
 
   pub packed-refuses : Refuses (Wrongs (packedRules xs ys)) (λ x. x .refusal) packedZeros (packedOf xs ys)
-  packed-refuses = refuses packed-rules (λ x. x .refusal) packedZeros (packedValues (wholeOf madeTable (packedNumber xs) (packedNumber ys))) refl (λ f. refl) refl
+  packed-refuses = refuses packed-rules (λ x. x .refusal) packedZeros (packedValues (wholeOf (madeTable EightBits) (packedNumber xs) (packedNumber ys))) refl (λ f. refl) refl
 
   pub packed-dividend : (p : ℕ) → p < 8 → Above9 (getD xs p 0) → ((i : ℕ) → i < p → Above9 (getD xs i 0) → ⊥) → packedOf xs ys ≡ packedZeros (refusal 15 p)
   packed-dividend p h a before = ap answer (refused-at packed-rules 0 p (omega arith, record { here = rw (dividend-byte p h) a; before = λ i l x. before i l (rw (dividend-byte i (omega arith)) at x) }))
@@ -66,5 +67,5 @@ module _ (xs ys : List ℕ) where
   pub packed-by-zero : Decimal xs → Decimal ys → packedNumber ys ≡ 0 → packedOf xs ys ≡ packedZeros (refusal 5 0)
   packed-by-zero dx dy h = ap answer (refused-at packed-rules 1 0 (decimal-past dx dy, (refl, h)))
 
-  pub packed-done : Decimal xs → Decimal ys → (packedNumber ys ≡ 0 → ⊥) → packedOf xs ys ≡ packedValues (wholeOf madeTable (packedNumber xs) (packedNumber ys))
+  pub packed-done : Decimal xs → Decimal ys → (packedNumber ys ≡ 0 → ⊥) → packedOf xs ys ≡ packedValues (wholeOf (madeTable EightBits) (packedNumber xs) (packedNumber ys))
   packed-done dx dy h = ap answer (clear-admits packed-rules (decimal-past dx dy, (h, tt)))

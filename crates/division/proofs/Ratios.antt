@@ -9,6 +9,7 @@ use Rattle.division.specs.Ratios.{Ratios, Round, FoundIn, comparisonOf}
 use Rattle.division.specs.declared.whole.WholeResult.{WholeResult}
 use Rattle.division.specs.declared.ratio.Comparison.the-variants.{Less, Equal, Greater}
 use Rattle.division.proofs.WholeThrough.{whole-divides}
+use Rattle.selection.specs.declared.Estimate.the-variants.{EightBits}
 
 -- ---- how two numbers compare
 
@@ -97,12 +98,12 @@ found-in-87 a b c d r =
     found-within 87 a b c d (r .b-some) (r .d-some) (inl (lt-trans (r .b-below) most)) (inl (lt-trans (r .d-below) most))
 
 -- ---- a round of the code: x and y are the divisions of n by m and of p by q
-module _ (n m p q : ℕ) (x y : WholeResult) (r : Ratios n m p q) (ex : x ≡ wholeThrough madeTable n m) (ey : y ≡ wholeThrough madeTable p q) where
+module _ (n m p q : ℕ) (x y : WholeResult) (r : Ratios n m p q) (ex : x ≡ wholeThrough EightBits (madeTable EightBits) n m) (ey : y ≡ wholeThrough EightBits (madeTable EightBits) p q) where
   first : x ≡ record { quotient = n / m; remainder = n % m }
-  first = ex ∙ whole-divides madeTable n m kept-passes (r .a-below) (r .b-some) (r .b-below)
+  first = ex ∙ whole-divides EightBits (madeTable EightBits) n m (kept-passes EightBits) (r .a-below) (r .b-some) (r .b-below)
 
   second : y ≡ record { quotient = p / q; remainder = p % q }
-  second = ey ∙ whole-divides madeTable p q kept-passes (r .c-below) (r .d-some) (r .d-below)
+  second = ey ∙ whole-divides EightBits (madeTable EightBits) p q (kept-passes EightBits) (r .c-below) (r .d-some) (r .d-below)
 
   pub code-round : Round (x .quotient) (x .remainder) (y .quotient) (y .remainder) (comparisonOf (n * q) (p * m)) (comparisonOf (q * x .remainder) (m * y .remainder) ≡ comparisonOf (n * q) (p * m))
   code-round = rw (first, second) (round-of n m p q (r .b-some) (r .d-some))

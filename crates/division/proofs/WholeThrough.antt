@@ -10,6 +10,7 @@ use Rattle.selection.specs.Table.{Passes}
 use Rattle.recurrence.specs.Recurrence.{resultOf}
 use Rattle.recurrence.proofs.RunDemand.{result-divides}
 use Rattle.division.specs.WholeSteps.{digitsAfter, shiftedRun, shiftedThrough, wholeThrough}
+use Rattle.selection.specs.declared.Estimate.{Estimate}
 
 -- above a number below 2^60 there are four zeros at least; moved up by all of them but three, or by less, it stays in the dividend's span
 pub room-above : (a : ℕ) → a < 2 ^ 60 → (4 ≤ leadingZeros 64 a) × ((m : ℕ) → m ≤ shiftTo 60 a → a * 2 ^ m < 2 ^ 61)
@@ -24,23 +25,25 @@ after-bounds a s h l =
     let r = room-above a h in
     (omega (arith, r .0), omega (arith, r .0), r .1 (s - 2 * digitsAfter a s) (omega (arith, r .0)))
 
--- the run of a·2^(s − 2k) by b·2^s, k + 1 digits, gives a / b and (a % b)·2^s
-pub whole-through : (t : List ℕ) (a b : ℕ) → Passes t → a < 2 ^ 60 → 0 < b → b < 2 ^ 60
-    → let s = shiftTo 60 b in let k = digitsAfter a s in
-    resultOf t (a * 2 ^ (s - 2 * k)) (b * 2 ^ s) (k + 1) ≡ record { quotient = a / b; remainder = a % b * 2 ^ s; count = k + 1 }
-whole-through t a b p ha pb hb =
-    let s = shiftTo 60 b in
-    let k = digitsAfter a s in
-    let l = lifted 60 b (lit< tt) pb hb in
-    let bounds = after-bounds a s ha (l .1) in
-    let e = result-divides t (a * 2 ^ (s - 2 * k)) (b * 2 ^ s) (k + 1) p (record { dividend = bounds .2; least = l .2; most = l .3 }) (omega arith) in
-    let i : k + 1 - 1 ≡ k = omega arith in
-    let j : s - 2 * k + (k + k) ≡ s = omega (arith, bounds .1) in
-    let m : a * 2 ^ (s - 2 * k) * 4 ^ (k + 1 - 1) ≡ a * 2 ^ s = rw (i, mul-assoc, four-pow k, ← pow-add 2 (s - 2 * k) (k + k), j) in
-    let free = scaled a {k = 2 ^ s} pb (pow-pos s) in
-    rw (e, m, free .0, free .1)
+-- in a divider with the estimate E
+module _ (E : Estimate) where
+  -- the run of a·2^(s − 2k) by b·2^s, k + 1 digits, gives a / b and (a % b)·2^s
+  pub whole-through : (t : List ℕ) (a b : ℕ) → Passes E t → a < 2 ^ 60 → 0 < b → b < 2 ^ 60
+      → let s = shiftTo 60 b in let k = digitsAfter a s in
+      resultOf E t (a * 2 ^ (s - 2 * k)) (b * 2 ^ s) (k + 1) ≡ record { quotient = a / b; remainder = a % b * 2 ^ s; count = k + 1 }
+  whole-through t a b p ha pb hb =
+      let s = shiftTo 60 b in
+      let k = digitsAfter a s in
+      let l = lifted 60 b (lit< tt) pb hb in
+      let bounds = after-bounds a s ha (l .1) in
+      let e = result-divides E t (a * 2 ^ (s - 2 * k)) (b * 2 ^ s) (k + 1) p (record { dividend = bounds .2; least = l .2; most = l .3 }) (omega arith) in
+      let i : k + 1 - 1 ≡ k = omega arith in
+      let j : s - 2 * k + (k + k) ≡ s = omega (arith, bounds .1) in
+      let m : a * 2 ^ (s - 2 * k) * 4 ^ (k + 1 - 1) ≡ a * 2 ^ s = rw (i, mul-assoc, four-pow k, ← pow-add 2 (s - 2 * k) (k + k), j) in
+      let free = scaled a {k = 2 ^ s} pb (pow-pos s) in
+      rw (e, m, free .0, free .1)
 
--- so the call's quotient and remainder are a / b and a % b
-pub whole-divides : (t : List ℕ) (a b : ℕ) → Passes t → a < 2 ^ 60 → 0 < b → b < 2 ^ 60 → wholeThrough t a b ≡ record { quotient = a / b; remainder = a % b }
-unfolding shiftedThrough shiftedRun
-whole-divides t a b p ha pb hb = rw (whole-through t a b p ha pb hb, mul-div-cancel (a % b) (pow-pos (shiftTo 60 b)))
+  -- so the call's quotient and remainder are a / b and a % b
+  pub whole-divides : (t : List ℕ) (a b : ℕ) → Passes E t → a < 2 ^ 60 → 0 < b → b < 2 ^ 60 → wholeThrough E t a b ≡ record { quotient = a / b; remainder = a % b }
+  unfolding shiftedThrough shiftedRun
+  whole-divides t a b p ha pb hb = rw (whole-through t a b p ha pb hb, mul-div-cancel (a % b) (pow-pos (shiftTo 60 b)))

@@ -8,7 +8,8 @@ use Rattle.division.specs.Format.{binary64Zeros, binary64Values}
 use Rattle.division.specs.Rounding.{directionRules}
 use Rattle.division.specs.Binary64Steps.{binary64Through}
 use Rattle.division.specs.declared.format.Binary64Answer.{Binary64Answer}
+use Rattle.selection.specs.declared.Estimate.the-variants.{EightBits}
 
 -- the answer: 6, then 8, 9, 10, the table's, for every pair of operands
 abbrev pub binary64Of : List ℕ → ℕ → ℕ → ℕ → Binary64Answer
-binary64Of t direction a b = answerBy binary64Zeros (binary64Values (binary64Through t direction a b)) (firstRefusal (directionRules direction ++ tableRules t))
+binary64Of t direction a b = answerBy binary64Zeros (binary64Values (binary64Through EightBits t direction a b)) (firstRefusal (directionRules direction ++ tableRules EightBits t))

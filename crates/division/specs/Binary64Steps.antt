@@ -1,5 +1,5 @@
--- Binary64 division through a table, step by step: the significands' quotient is the run's, its digits the table's. No step need be believed: `binary64-through`
--- shows that through every table that passes they give `quotientOf`, and `ieee` what that means.
+-- Binary64 division through a table, step by step: the significands' quotient is the run's, its digits the table's. Through a table that passes no step need be believed: `binary64-through`
+-- shows that they give `quotientOf`, and `ieee` what that means. Of a burned table they say what a divider does, and the recheck's claims rest on them.
 use mathlib.Core.Path.{_≡_}
 use mathlib.Core.Bool.{Bool, cond}
 use mathlib.Core.List.{List}
@@ -15,20 +15,12 @@ use Rattle.division.specs.Computed.{roundedResult, byClass, orRounded}
 use Rattle.division.specs.declared.format.Scaled.{Scaled}
 use Rattle.division.specs.declared.format.Binary64Result.{Binary64Result}
 use Rattle.division.specs.declared.binary64.Aligned.{Aligned}
+use Rattle.selection.specs.declared.Estimate.{Estimate}
+use Rattle.selection.specs.declared.Estimate.the-variants.{EightBits}
 
 -- a quotient with its sticky bit: twice the whole part, and 1 more where something is left
 abbrev pub sticky : ℕ → ℕ → ℕ
 sticky n u = 2 * (n / u) + min 1 (n % u)
-
--- the quotient of two significands through the table t, 28 digits, with its sticky bit
-unfoldable pub ratioThrough : List ℕ → ℕ → ℕ → ℕ
-ratioThrough t a b = let r = resultOf t (a * 256) (b * 256) 28 in 2 * r .quotient + min 1 (r .remainder)
-
--- r is that quotient through every table that passes and has these bytes for the row of b * 256, and it has 55 or 56 bits
-pub record RatioOf (bytes : List ℕ) (a b r : ℕ) : Type 0 where
-  pub through : (t : List ℕ) → Passes t → bytes ≡ rowBytes t (row (b * 256)) → r ≡ ratioThrough t a b
-  pub low : 2 ^ 54 ≤ r
-  pub high : r < 2 ^ 56
 
 -- that quotient at the exponent which its size gives, or at the least exponent: quarters of a unit, the lowest bit sticky
 abbrev pub alignedOf : ℕ → ℕ → ℕ → Aligned
@@ -43,10 +35,22 @@ roundedQuotient direction s w up down =
     let at = alignedOf w up down in
     roundedResult (modeOf direction s) s (at .exponent) (at .quarters / 4) (at .quarters % 4)
 
--- the quotient of two significands with their exponents
-abbrev pub scaledThrough : List ℕ → ℕ → Bool → Scaled → Scaled → Binary64Result
-scaledThrough t direction s x y = roundedQuotient direction s (ratioThrough t (x .sig) (y .sig)) (x .exp + 1021) (y .exp)
+-- in a divider with the estimate E
+module _ (E : Estimate) where
+  -- the quotient of two significands through the table t, 28 digits, with its sticky bit
+  unfoldable pub ratioThrough : List ℕ → ℕ → ℕ → ℕ
+  ratioThrough t a b = let r = resultOf E t (a * 256) (b * 256) 28 in 2 * r .quotient + min 1 (r .remainder)
 
--- a / b, its significands' quotient by the digits of the table t
-abbrev pub binary64Through : List ℕ → ℕ → ℕ → ℕ → Binary64Result
-binary64Through t direction a b = orRounded (scaledThrough t direction (signOf a b) (significandOf a) (significandOf b)) (byClass a b)
+  -- the quotient of two significands with their exponents
+  abbrev pub scaledThrough : List ℕ → ℕ → Bool → Scaled → Scaled → Binary64Result
+  scaledThrough t direction s x y = roundedQuotient direction s (ratioThrough t (x .sig) (y .sig)) (x .exp + 1021) (y .exp)
+
+  -- a / b, its significands' quotient by the digits of the table t
+  abbrev pub binary64Through : List ℕ → ℕ → ℕ → ℕ → Binary64Result
+  binary64Through t direction a b = orRounded (scaledThrough t direction (signOf a b) (significandOf a) (significandOf b)) (byClass a b)
+
+-- r is that quotient through every table that passes and has these bytes for the row of b * 256, and it has 55 or 56 bits
+pub record RatioOf (bytes : List ℕ) (a b r : ℕ) : Type 0 where
+  pub through : (t : List ℕ) → Passes EightBits t → bytes ≡ rowBytes t (row (b * 256)) → r ≡ ratioThrough EightBits t a b
+  pub low : 2 ^ 54 ≤ r
+  pub high : r < 2 ^ 56

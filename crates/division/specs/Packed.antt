@@ -15,6 +15,7 @@ use Rattle.selection.specs.declared.Refusal.{Refusal}
 use Rattle.division.specs.Whole.{zeroDivisor, wholeOf}
 use Rattle.division.specs.declared.whole.WholeAnswer.{WholeAnswer}
 use Rattle.division.specs.declared.packed.PackedAnswer.{PackedAnswer}
+use Rattle.selection.specs.declared.Estimate.the-variants.{EightBits}
 
 -- ---- bytes and numbers
 
@@ -79,4 +80,4 @@ abbrev pub packedValues : WholeAnswer → PackedAnswer
 packedValues x = record { refusal = refusal 0 0; quotient = packedBytes (x .quotient); remainder = packedBytes (x .remainder) }
 
 abbrev pub packedOf : List ℕ → List ℕ → PackedAnswer
-packedOf xs ys = answerBy packedZeros (packedValues (wholeOf madeTable (packedNumber xs) (packedNumber ys))) (firstRefusal (packedRules xs ys))
+packedOf xs ys = answerBy packedZeros (packedValues (wholeOf (madeTable EightBits) (packedNumber xs) (packedNumber ys))) (firstRefusal (packedRules xs ys))

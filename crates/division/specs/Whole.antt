@@ -8,6 +8,7 @@ use Rattle.selection.specs.declared.Refusal.{Refusal}
 use Rattle.division.specs.WholeSteps.{wholeThrough}
 use Rattle.division.specs.declared.whole.WholeResult.{WholeResult}
 use Rattle.division.specs.declared.whole.WholeAnswer.{WholeAnswer}
+use Rattle.selection.specs.declared.Estimate.the-variants.{EightBits}
 
 -- where the operands of whole-number division end, those of ratios and of a whole root too
 abbrev pub operandEnd : ℕ
@@ -35,4 +36,4 @@ wholeValues x = record { refusal = refusal 0 0; quotient = x .quotient; remainde
 
 -- the answer: then 8, 9, 10, the table's
 abbrev pub wholeOf : List ℕ → ℕ → ℕ → WholeAnswer
-wholeOf t a b = answerBy wholeZeros (wholeValues (wholeThrough t a b)) (firstRefusal (wholeRules a b ++ tableRules t))
+wholeOf t a b = answerBy wholeZeros (wholeValues (wholeThrough EightBits t a b)) (firstRefusal (wholeRules a b ++ tableRules EightBits t))

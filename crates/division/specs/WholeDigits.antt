@@ -5,6 +5,7 @@ use Prim.Native.Nat.{ℕ, _+_, _-_, _*_, _/_, _^_, _≤_, _<_}
 use lib.Count.{leadingZeros}
 use Rattle.recurrence.specs.Recurrence.{resultOf}
 use Rattle.division.specs.WholeSteps.{wholeRun, wholeThrough}
+use Rattle.selection.specs.declared.Estimate.the-variants.{EightBits}
 
 -- how many bits a number below 2^64 has; 0 has none
 abbrev pub bits : ℕ → ℕ
@@ -16,8 +17,8 @@ pub record TakesDigits (a b n : ℕ) : Type 0 where
   pub dividend : ℕ
   pub divisor : ℕ
   pub shift : ℕ
-  pub run : (t : List ℕ) → wholeRun t a b ≡ resultOf t dividend divisor n
-  pub answer : (t : List ℕ) → wholeThrough t a b ≡ record { quotient = wholeRun t a b .quotient; remainder = wholeRun t a b .remainder / 2 ^ shift }
+  pub run : (t : List ℕ) → wholeRun EightBits t a b ≡ resultOf EightBits t dividend divisor n
+  pub answer : (t : List ℕ) → wholeThrough EightBits t a b ≡ record { quotient = wholeRun EightBits t a b .quotient; remainder = wholeRun EightBits t a b .remainder / 2 ^ shift }
 
 pub record WholeDigits : Type 0 where
   -- a is below 2^(bits a), and below no smaller power of two

@@ -9,6 +9,7 @@ ghost use Rattle.selection.specs.Refusals.{firstRefusal};
 ghost use Rattle.recurrence.specs.Row.{Row};
 ghost use Rattle.division.specs.WholeSteps.{DivisorShift, DigitCount, shiftedRun, shiftedThrough, wholeThrough};
 ghost use Rattle.division.specs.Whole.{wholeRules, wholeZeros, wholeValues, wholeOf};
+ghost use Rattle.selection.specs.declared.Estimate.the-variants.{EightBits};
 use recurrence::RunResult;
 use selection::Admission;
 use selection::NO_REFUSAL;
@@ -54,7 +55,7 @@ pub(crate) fn digits_after(a: u64, s: u32) -> u32
 // The run of a by a divisor moved up by s bits to d, through its row in a table that passes.
 fn shifted_run(row: &[u8], a: u64, d: u64, s: u32) -> RunResult
     requires { ⌜ (Row d (now row)) × (a < 2 ^ 60) × (2 ^ 60 ≤ d) × (d < 2 ^ 61) × (s ≤ 60) ⌝ }
-    ensures { λ r. ⌜ ((t : List ℕ) → Passes t → now (row .entry) ≡ rowBytes t (Cell.row d) → r ≡ shiftedRun t a d s) ⌝ }
+    ensures { λ r. ⌜ ((t : List ℕ) → Passes EightBits t → now (row .entry) ≡ rowBytes t (Cell.row d) → r ≡ shiftedRun EightBits t a d s) ⌝ }
 {
     let after = digits_after(a, s);
     let n = a << (s - 2 * after);
@@ -66,7 +67,7 @@ fn shifted_run(row: &[u8], a: u64, d: u64, s: u32) -> RunResult
 // Its quotient, and its remainder moved down again.
 fn shifted(row: &[u8], a: u64, d: u64, s: u32) -> WholeResult
     requires { ⌜ (Row d (now row)) × (a < 2 ^ 60) × (2 ^ 60 ≤ d) × (d < 2 ^ 61) × (s ≤ 60) ⌝ }
-    ensures { λ r. ⌜ ((t : List ℕ) → Passes t → now (row .entry) ≡ rowBytes t (Cell.row d) → r ≡ shiftedThrough t a d s) ⌝ }
+    ensures { λ r. ⌜ ((t : List ℕ) → Passes EightBits t → now (row .entry) ≡ rowBytes t (Cell.row d) → r ≡ shiftedThrough EightBits t a d s) ⌝ }
 {
     let ran = shifted_run(row, a, d, s);
     WholeResult {
@@ -77,8 +78,8 @@ fn shifted(row: &[u8], a: u64, d: u64, s: u32) -> WholeResult
 
 // a / b through a table that passes.
 fn divide(table: &[u8], a: u64, b: u64) -> WholeResult
-    requires { ⌜ (Passes (now table)) × (a < 2 ^ 60) × (0 < b) × (b < 2 ^ 60) ⌝ }
-    ensures { λ r. ⌜ r ≡ wholeThrough (now (table .entry)) a b ⌝ }
+    requires { ⌜ (Passes EightBits (now table)) × (a < 2 ^ 60) × (0 < b) × (b < 2 ^ 60) ⌝ }
+    ensures { λ r. ⌜ r ≡ wholeThrough EightBits (now (table .entry)) a b ⌝ }
 {
     let s = shift_of(b);
     let d = b << s;
@@ -88,7 +89,7 @@ fn divide(table: &[u8], a: u64, b: u64) -> WholeResult
 // The same through the kept table.
 pub(crate) fn divide_kept(a: u64, b: u64) -> WholeResult
     requires { ⌜ (a < 2 ^ 60) × (0 < b) × (b < 2 ^ 60) ⌝ }
-    ensures { λ r. ⌜ r ≡ wholeThrough madeTable a b ⌝ }
+    ensures { λ r. ⌜ r ≡ wholeThrough EightBits (madeTable EightBits) a b ⌝ }
 {
     let s = shift_of(b);
     let d = b << s;
@@ -147,7 +148,7 @@ pub fn divide_whole(table: &[u8], a: u64, b: u64) -> WholeAnswer
 
 // The same through the kept table, which is known to pass: it is neither checked nor copied.
 pub fn divide_whole_kept(a: u64, b: u64) -> WholeAnswer
-    ensures { λ r. ⌜ r ≡ wholeOf madeTable a b ⌝ }
+    ensures { λ r. ⌜ r ≡ wholeOf (madeTable EightBits) a b ⌝ }
 {
     let admission = refusal_of(a, b);
     match admission {

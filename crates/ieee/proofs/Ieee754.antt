@@ -31,6 +31,7 @@ use Rattle.ieee.proofs.ExactQuotients.{exact-quotient, over-one, over-i
 use Rattle.ieee.proofs.Signalling.{signals, silent-nan}
 use Rattle.ieee.proofs.SignSymmetry.{negated-neg, dividend-negated, divisor-negated}
 use Rattle.ieee.proofs.BiggerStays.{bigger-stays}
+use Rattle.selection.specs.declared.Estimate.the-variants.{EightBits}
 
 -- an answer without a refusal is its pattern and flags
 abbrev told : Binary64Answer → Binary64Result
@@ -49,7 +50,7 @@ sided-span : (s : Bool) → cond s 2 3 ≤ 3
 sided-span true = omega arith
 sided-span false = omega arith
 
-module _ (t : List ℕ) (p : Passes t) where
+module _ (t : List ℕ) (p : Passes EightBits t) where
   means : (direction a b : ℕ) → direction ≤ 3 → Ieee direction a b (told (binary64Of t direction a b))
   means = ieee-through t p
 
@@ -113,4 +114,4 @@ unfolding ofBits
 thirds = record { under = tt; not-over = λ h. h; over = tt; not-under = λ h. h; minus-under = tt; minus-not-under = λ h. h }
 
 pub ieee-754 : Ieee754
-ieee-754 = record { named = named; thirds = thirds; passed = through; kept = through _ kept-passes }
+ieee-754 = record { named = named; thirds = thirds; passed = through; kept = through _ (kept-passes EightBits) }

@@ -19,6 +19,7 @@ use Rattle.division.proofs.IeeeLaws.{ieee-through}
 use Rattle.ieee.specs.LanguageQuotient.{valueOf, languageQuotient, LanguageQuotient}
 use Rattle.ieee.proofs.LanguageRounding.{quotient-bits}
 use Rattle.ieee.proofs.LanguageReading.{Number, Nonzero, Reads, finite, read}
+use Rattle.selection.specs.declared.Estimate.the-variants.{EightBits}
 
 -- ---- two finite values
 
@@ -106,7 +107,7 @@ special-quotient direction a b u z = by-class direction a b u (λ h k.
     absurd (⊎-elim (λ (e : num (valueOf a) ≡ 0). omega (arith, counted a h)) (λ (e : num (valueOf b) ≡ 0). omega (arith, counted b k)) z))
 
 -- ---- and so through every table that passes
-pub language-quotient : (t : List ℕ) → Passes t → LanguageQuotient t
+pub language-quotient : (t : List ℕ) → Passes EightBits t → LanguageQuotient t
 language-quotient t p =
     let nearest : (a b : ℕ) → binary64Of t 0 a b .pattern ≡ languageQuotient a b = λ a b. nearest-quotient a b (ieee-through t p 0 a b (omega arith)) in
     record {

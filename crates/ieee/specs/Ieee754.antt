@@ -19,6 +19,7 @@ use Rattle.division.specs.Binary64.{binary64Of}
 use Rattle.division.specs.Samples.{concentrationsOf}
 use Rattle.ieee.specs.LanguageQuotient.{valueOf, one, LanguageQuotient}
 use Rattle.ieee.specs.Directions.{signIn, quotientSign, AtMostQuotient, AtLeastQuotient, IsQuotient, FiniteOver, Pinned, negated, mirrored}
+use Rattle.selection.specs.declared.Estimate.the-variants.{EightBits}
 
 -- what an answer's pattern stands for
 abbrev pub answerValue : List ℕ → ℕ → ℕ → ℕ → Float
@@ -96,5 +97,5 @@ pub record Thirds : Type 0 where
 pub record Ieee754 : Type 0 where
   pub named : NamedPatterns
   pub thirds : Thirds
-  pub passed : (t : List ℕ) → Passes t → IeeeThrough t
-  pub kept : IeeeThrough madeTable
+  pub passed : (t : List ℕ) → Passes EightBits t → IeeeThrough t
+  pub kept : IeeeThrough (madeTable EightBits)

@@ -15,17 +15,21 @@ use Rattle.listing.specs.Example.{Example}
 use Rattle.listing.specs.declared.Line.the-variants.{Nothing, Cell}
 use Rattle.listing.proofs.Lines.{listed-one}
 use Rattle.listing.proofs.Listings.{table-text}
+use Rattle.selection.specs.declared.Estimate.the-variants.{EightBits}
+
+abbrev exampleLine : List ℕ
+exampleLine = ascii "1 87 0 1242993497154256896 3314649325744685056\n"
 
 -- a cell whose digit is allowed has no line
-quiet : {t : List ℕ} → Table t → (k : ℕ) → k < 2048 → Allows (k / 128) (k % 128) (digit (getD t k 0)) → lineOf t k ≡ Nothing
-quiet h k b a = sym (listed-one h b (record { means = a }))
+quiet : {t : List ℕ} → Table t → (k : ℕ) → k < 2048 → Allows EightBits (k / 128) (k % 128) (digit (getD t k 0)) → lineOf EightBits t k ≡ Nothing
+quiet h k b a = sym (listed-one EightBits h b (record { means = a }))
 
-no-lines : (t : List ℕ) (n : ℕ) → ((k : ℕ) → k < n → lineOf t k ≡ Nothing) → linesUpto t n ≡ []
+no-lines : (t : List ℕ) (n : ℕ) → ((k : ℕ) → k < n → lineOf EightBits t k ≡ Nothing) → linesUpto EightBits t n ≡ []
 unfolding linesUpto
 no-lines t zero f = refl
 no-lines t (suc n) f = rw (no-lines t n (λ k l. f k (omega arith)), f n (omega arith))
 
-one-line : (t : List ℕ) (m n : ℕ) → m < n → ((k : ℕ) → k < n → k ≢ m → lineOf t k ≡ Nothing) → linesUpto t n ≡ lineText (lineOf t m)
+one-line : (t : List ℕ) (m n : ℕ) → m < n → ((k : ℕ) → k < n → k ≢ m → lineOf EightBits t k ≡ Nothing) → linesUpto EightBits t n ≡ lineText (lineOf EightBits t m)
 unfolding linesUpto
 one-line t m zero l f = absurd (omega arith)
 one-line t m (suc n) l f =
@@ -33,20 +37,17 @@ one-line t m (suc n) l f =
     (λ b. rw (one-line t m n b (λ k c x. f k (omega arith) x), f n (omega arith) (λ x. omega arith)) (append-nil _))
     (eq-or-lt-of-le {n = m} {m = n} (omega arith))
 
-passed-prints : (t : List ℕ) → Passes t → listingOf t ≡ names
-passed-prints t p = table-text t (p .table) ∙ ap (λ (y : List ℕ). names ++ y) (no-lines t 2048 (λ k l. quiet (p .table) k l (p .allowed k l)))
+passed-prints : (t : List ℕ) → Passes EightBits t → listingOf EightBits t ≡ names
+passed-prints t p = table-text EightBits t (p .table) ∙ ap (λ (y : List ℕ). names ++ y) (no-lines t 2048 (λ k l. quiet (p .table) k l (p .allowed k l)))
 
-abbrev exampleLine : List ℕ
-exampleLine = ascii "1 87 0 1242993497154256896 3314649325744685056\n"
-
-only-line : (t : List ℕ) → getD t 215 0 ≡ 2 → lineText (lineOf t 215) ≡ exampleLine
+only-line : (t : List ℕ) → getD t 215 0 ≡ 2 → lineText (lineOf EightBits t 215) ≡ exampleLine
 unfolding lineOf digit decimalUpto decimalOf
 only-line t e =
-    ap (λ (b : ℕ). lineText (lineFrom t 215 (cellOf 1 87 b))) e
+    ap (λ (b : ℕ). lineText (lineFrom t 215 (cellOf EightBits 1 87 b))) e
     ∙ ap (λ (b : ℕ). lineText (Cell 1 87 (digit b) (record { divisor = 1242993497154256896; remainder = pos 3314649325744685056 }))) e
 
 -- a table that passes, with 2 for its byte 215
-module _ (t : List ℕ) (p : Passes t) where
+module _ (t : List ℕ) (p : Passes EightBits t) where
   abbrev changed : List ℕ
   changed = set t 215 2
 
@@ -59,11 +60,11 @@ module _ (t : List ℕ) (p : Passes t) where
   changed-table : Table changed
   changed-table = record { size = simp length-set (p .table .size); digits = λ k. ⊎-elim (λ e. rw e (omega (arith, at-215))) (λ x. omega (arith, elsewhere k x, p .table .digits k)) (same-or-other k 215) }
 
-  whole : listingOf changed ≡ names ++ exampleLine
+  whole : listingOf EightBits changed ≡ names ++ exampleLine
   whole =
-      table-text changed changed-table
+      table-text EightBits changed changed-table
       ∙ ap (λ (y : List ℕ). names ++ y) (one-line changed 215 2048 (omega arith) (λ k l x. quiet changed-table k l (rw (elsewhere k x) (p .allowed k l))) ∙ only-line changed at-215)
 
 pub example : Example
 unfolding allowsOf madeOf listFrom madeTable
-example = record { byte = refl; whole = whole madeTable kept-passes; passed = passed-prints }
+example = record { byte = refl; whole = whole (madeTable EightBits) (kept-passes EightBits); passed = passed-prints }

@@ -17,55 +17,58 @@ use Rattle.io.specs.Counts.{Counts}
 use Rattle.printing.proofs.Texts.{appended-size, appended-take, appended-drop, counts}
 use Rattle.listing.specs.Listing.{Lists, ListsRead, names, linesUpto, tableText, textFor, listingOf}
 use Rattle.listing.proofs.Lines.{lines-right, lines-one}
+use Rattle.selection.specs.declared.Estimate.{Estimate}
 
--- by the check's answer, the text is the listing in the specification's words
-module _ (t : List ℕ) where
-  table-lists : Table t → Lists t (tableText t)
-  table-lists h = record { table = λ _. record { rest = linesUpto t 2048; lines = lines-right h 2048 (omega arith); whole = refl }; refused = λ f g. no-table h g }
+-- in a divider with the estimate E
+module _ (E : Estimate) where
+  -- by the check's answer, the text is the listing in the specification's words
+  module _ (t : List ℕ) where
+    table-lists : Table t → Lists E t (tableText E t)
+    table-lists h = record { table = λ _. record { rest = linesUpto E t 2048; lines = lines-right E h 2048 (omega arith); whole = refl }; refused = λ f g. no-table h g }
 
-  answer-lists : (n : ℕ) (o : Outcome) → ReportMeaning t n o → Lists t (textFor t o)
-  answer-lists n O.Passed w = table-lists (w .0 .table)
-  answer-lists n (O.Bad b) w = table-lists (w .0)
-  answer-lists n (O.Refused f) w = record { table = λ h. no-table h (w .0); refused = λ g v. ap refusalText (refusal-one (form-rules t) f g (w .0) v) }
+    answer-lists : (n : ℕ) (o : Outcome) → ReportMeaning E t n o → Lists E t (textFor E t o)
+    answer-lists n O.Passed w = table-lists (w .0 .table)
+    answer-lists n (O.Bad b) w = table-lists (w .0)
+    answer-lists n (O.Refused f) w = record { table = λ h. no-table h (w .0); refused = λ g v. ap refusalText (refusal-one (form-rules t) f g (w .0) v) }
 
-  pub lists : Lists t (listingOf t)
+    pub lists : Lists E t (listingOf E t)
+    unfolding listingOf
+    lists = answer-lists (reportOf E t .count) (reportOf E t .outcome) (report-checked E t .means)
+
+    table-one : {x : List ℕ} → Lists E t x → Table t → x ≡ tableText E t
+    table-one l h = let p = l .table h in p .whole ∙ ap (λ (y : List ℕ). names ++ y) (lines-one E h (omega arith) (p .lines))
+
+    answer-one : {x : List ℕ} → Lists E t x → (n : ℕ) (o : Outcome) → ReportMeaning E t n o → x ≡ textFor E t o
+    answer-one l n O.Passed w = table-one l (w .0 .table)
+    answer-one l n (O.Bad b) w = table-one l (w .0)
+    answer-one l n (O.Refused f) w = l .refused f (w .0)
+
+    pub lists-one : {x : List ℕ} → Lists E t x → x ≡ listingOf E t
+    unfolding listingOf
+    lists-one l = answer-one l (reportOf E t .count) (reportOf E t .outcome) (report-checked E t .means)
+
+    pub table-text : Table t → listingOf E t ≡ tableText E t
+    table-text h = table-one lists h
+
+  -- input of another length gets the two lines of refusal 8
+  wrong-length : (t : List ℕ) → length t ≢ 2048 → listingOf E t ≡ refusalText (refusal 8 0)
+  unfolding listingOf reportOf
+  wrong-length t h = rw (ne-eqb (length t) 2048 h)
+
+  -- more than 2,048 bytes of the input settle what is printed for all of it
+  settled : (t : List ℕ) (n : ℕ) → 2048 < n → listingOf E (take n t) ≡ listingOf E t
+  settled t n h =
+      ⊎-elim (λ l. ap (listingOf E) (take-all n t l))
+      (λ (l : n < length t). wrong-length (take n t) (λ e. omega (arith, simp length-take at e)) ∙ sym (wrong-length t (λ e. omega arith)))
+      (le-or-lt (length t) n)
+
+  pub lists-read : {s x : List ℕ} {n : ℕ} → 2048 < length s → x ≡ listingOf E (take n s) → ListsRead E s n x
+  lists-read {s} h e = record { lists = λ t g. rw (e, g, settled t (length s) h) (lists t) }
+
+  -- the text for the check's answer, from the start of the buffer on: what the code of `listing` asks
+  pub printed : (t : List ℕ) {s s' : List ℕ} {r : ℕ} {a : Report} {o : Outcome} → a ≡ reportOf E t → a .outcome ≡ o → Appended s 0 (textFor E t o) s' r → r ≤ length s → ((take r s' ≡ listingOf E t) × Lists E t (take r s')) × ((drop r s' ≡ drop r s) × Counts r s')
   unfolding listingOf
-  lists = answer-lists (reportOf t .count) (reportOf t .outcome) (report-checked t .means)
-
-  table-one : {x : List ℕ} → Lists t x → Table t → x ≡ tableText t
-  table-one l h = let p = l .table h in p .whole ∙ ap (λ (y : List ℕ). names ++ y) (lines-one h (omega arith) (p .lines))
-
-  answer-one : {x : List ℕ} → Lists t x → (n : ℕ) (o : Outcome) → ReportMeaning t n o → x ≡ textFor t o
-  answer-one l n O.Passed w = table-one l (w .0 .table)
-  answer-one l n (O.Bad b) w = table-one l (w .0)
-  answer-one l n (O.Refused f) w = l .refused f (w .0)
-
-  pub lists-one : {x : List ℕ} → Lists t x → x ≡ listingOf t
-  unfolding listingOf
-  lists-one l = answer-one l (reportOf t .count) (reportOf t .outcome) (report-checked t .means)
-
-  pub table-text : Table t → listingOf t ≡ tableText t
-  table-text h = table-one lists h
-
--- input of another length gets the two lines of refusal 8
-wrong-length : (t : List ℕ) → length t ≢ 2048 → listingOf t ≡ refusalText (refusal 8 0)
-unfolding listingOf reportOf
-wrong-length t h = rw (ne-eqb (length t) 2048 h)
-
--- more than 2,048 bytes of the input settle what is printed for all of it
-settled : (t : List ℕ) (n : ℕ) → 2048 < n → listingOf (take n t) ≡ listingOf t
-settled t n h =
-    ⊎-elim (λ l. ap listingOf (take-all n t l))
-    (λ (l : n < length t). wrong-length (take n t) (λ e. omega (arith, simp length-take at e)) ∙ sym (wrong-length t (λ e. omega arith)))
-    (le-or-lt (length t) n)
-
-pub lists-read : {s x : List ℕ} {n : ℕ} → 2048 < length s → x ≡ listingOf (take n s) → ListsRead s n x
-lists-read {s} h e = record { lists = λ t g. rw (e, g, settled t (length s) h) (lists t) }
-
--- the text for the check's answer, from the start of the buffer on: what the code of `listing` asks
-pub printed : (t : List ℕ) {s s' : List ℕ} {r : ℕ} {a : Report} {o : Outcome} → a ≡ reportOf t → a .outcome ≡ o → Appended s 0 (textFor t o) s' r → r ≤ length s → ((take r s' ≡ listingOf t) × Lists t (take r s')) × ((drop r s' ≡ drop r s) × Counts r s')
-unfolding listingOf
-printed t e f a h =
-    let size = appended-size a h in
-    let text = appended-take a ∙ ap (textFor t) (sym f ∙ ap (λ (x : Report). x .outcome) e) in
-    ((text, rw text (lists t)), (rw add-zero at (appended-drop a 0), counts _ (omega arith)))
+  printed t e f a h =
+      let size = appended-size a h in
+      let text = appended-take a ∙ ap (textFor E t) (sym f ∙ ap (λ (x : Report). x .outcome) e) in
+      ((text, rw text (lists t)), (rw add-zero at (appended-drop a 0), counts _ (omega arith)))

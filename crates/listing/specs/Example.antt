@@ -7,10 +7,11 @@ use Rattle.selection.specs.Computed.{madeTable}
 use Rattle.selection.specs.Table.{Passes}
 use Rattle.printing.specs.Text.{ascii}
 use Rattle.listing.specs.Listing.{listingOf}
+use Rattle.selection.specs.declared.Estimate.the-variants.{EightBits}
 
 pub record Example : Type 0 where
   -- the made table's byte 215 is 4; changed to 2, the table prints whole
-  pub byte : getD madeTable 215 0 ≡ 4
-  pub whole : listingOf (set madeTable 215 2) ≡ ascii "row column digit divisor remainder\n1 87 0 1242993497154256896 3314649325744685056\n"
+  pub byte : getD (madeTable EightBits) 215 0 ≡ 4
+  pub whole : listingOf EightBits (set (madeTable EightBits) 215 2) ≡ ascii "row column digit divisor remainder\n1 87 0 1242993497154256896 3314649325744685056\n"
   -- a passed table prints the first line alone
-  pub passed : (t : List ℕ) → Passes t → listingOf t ≡ ascii "row column digit divisor remainder\n"
+  pub passed : (t : List ℕ) → Passes EightBits t → listingOf EightBits t ≡ ascii "row column digit divisor remainder\n"

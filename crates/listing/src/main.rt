@@ -1,4 +1,4 @@
-// The listing program: the bad cells of a table that is read from standard input.
+// The listing program: the bad cells of a table that is read from standard input, in a divider that adds as many bits as the argument says, 7 or 8 (8 where there is none).
 ghost use Prim.Native.Nat.{_+_, _*_, _≤_, _<_};
 ghost use mathlib.Core.Path.{_≡_};
 ghost use lib.ListN.{length, take, drop};
@@ -9,12 +9,15 @@ ghost use Rattle.listing.specs.Listing.{Listed, Lists, ListsRead, lineOf
 use libc::STDERR_FILENO;
 use libc::STDIN_FILENO;
 use libc::STDOUT_FILENO;
+use printing::argument::Asked;
+use printing::argument::estimate_asked;
 use printing::input::read_input;
 use printing::output::write_output;
 use printing::text::append;
 use printing::text::append_number;
 use printing::text::append_signed;
 use selection::CellVerdict;
+use selection::Estimate;
 use selection::Witness;
 use selection::table::Outcome;
 
@@ -31,14 +34,14 @@ const INPUT: usize = 2049;
 const ROOM: usize = 219171;
 
 // The line of cell k.
-fn line_of(table: &[u8], k: usize) -> Line
+fn line_of(estimate: Estimate, table: &[u8], k: usize) -> Line
     requires { ⌜ Table (now table) × (k < 2048) ⌝ }
-    ensures { λ r. ⌜ (r ≡ lineOf (now (table .entry)) k) × Listed (now (table .entry)) k r ⌝ }
+    ensures { λ r. ⌜ (r ≡ lineOf estimate (now (table .entry)) k) × Listed estimate (now (table .entry)) k r ⌝ }
 {
     let row = (k / 128) as u64;
     let column = (k % 128) as u64;
     let byte = table[k];
-    match selection::check_cell(row, column, byte) {
+    match selection::check_cell(estimate, row, column, byte) {
         CellVerdict::Allowed => Line::Nothing,
         CellVerdict::Disallowed(witness) => Line::Cell(
             row,
@@ -78,59 +81,71 @@ fn append_line(out: &mut [u8], at: usize, line: Line) -> usize
 }
 
 // The lines of all cells, in index order.
-fn append_lines(out: &mut [u8], at: usize, table: &[u8]) -> usize
+fn append_lines(estimate: Estimate, out: &mut [u8], at: usize, table: &[u8]) -> usize
     requires { ⌜ Table (now table) × (at + 107 * 2048 ≤ length (now out)) ⌝ }
-    ensures { λ r. ⌜ Appended (now (out .entry)) at (linesUpto (now (table .entry)) 2048) (now (out .exit)) r ⌝ }
+    ensures { λ r. ⌜ Appended (now (out .entry)) at (linesUpto estimate (now (table .entry)) 2048) (now (out .exit)) r ⌝ }
     ensures { λ r. ⌜ r ≤ at + 107 * 2048 ⌝ }
 {
     let mut next = at;
     for k in 0..2048 {
-        next = append_line(out, next, line_of(table, k));
+        next = append_line(out, next, line_of(estimate, table, k));
     }
     next
 }
 
-fn append_table(out: &mut [u8], table: &[u8]) -> usize
+fn append_table(estimate: Estimate, out: &mut [u8], table: &[u8]) -> usize
     requires { ⌜ Table (now table) × (219171 ≤ length (now out)) ⌝ }
-    ensures { λ r. ⌜ Appended (now (out .entry)) 0 (tableText (now (table .entry))) (now (out .exit)) r ⌝ }
+    ensures { λ r. ⌜ Appended (now (out .entry)) 0 (tableText estimate (now (table .entry))) (now (out .exit)) r ⌝ }
     ensures { λ r. ⌜ r ≤ 219171 ⌝ }
 {
     let next = append(out, 0, b"row column digit divisor remainder\n");
-    append_lines(out, next, table)
+    append_lines(estimate, out, next, table)
 }
 
 // All that is printed. The check tells a table, passed or bad, from what gets the two lines of a refusal.
-fn listing(bytes: &[u8], out: &mut [u8; ROOM]) -> usize
-    ensures { λ r. ⌜ (take r (now (out .exit)) ≡ listingOf (now (bytes .entry))) × Lists (now (bytes .entry)) (take r (now (out .exit))) ⌝ }
+fn listing(estimate: Estimate, bytes: &[u8], out: &mut [u8; ROOM]) -> usize
+    ensures { λ r. ⌜ (take r (now (out .exit)) ≡ listingOf estimate (now (bytes .entry))) × Lists estimate (now (bytes .entry)) (take r (now (out .exit))) ⌝ }
     ensures { λ r. ⌜ drop r (now (out .exit)) ≡ drop r (now (out .entry)) ⌝ }
     ensures { λ r. ⌜ Counts r (now (out .exit)) ⌝ }
 {
-    let report = selection::table::check_table(bytes);
+    let report = selection::table::check_table(estimate, bytes);
     let outcome = report.outcome;
     match outcome {
-        Outcome::Passed => append_table(out, bytes),
-        Outcome::Bad(_) => append_table(out, bytes),
+        Outcome::Passed => append_table(estimate, out, bytes),
+        Outcome::Bad(_) => append_table(estimate, out, bytes),
         Outcome::Refused(refusal) => printing::text::append_refusal(out, 0, refusal),
     }
 }
 
 // The same for what was read of standard input: `count` bytes, all of it or as much as there is room for.
-fn listing_of_input(bytes: &[u8; INPUT], count: usize, out: &mut [u8; ROOM]) -> usize
+fn listing_of_input(
+    estimate: Estimate,
+    bytes: &[u8; INPUT],
+    count: usize,
+    out: &mut [u8; ROOM],
+) -> usize
     requires { ⌜ Counts count (now bytes) ⌝ }
-    ensures { λ r. ⌜ ListsRead (now (bytes .entry)) count (take r (now (out .exit))) ⌝ }
+    ensures { λ r. ⌜ (ListsRead estimate) (now (bytes .entry)) count (take r (now (out .exit))) ⌝ }
     ensures { λ r. ⌜ drop r (now (out .exit)) ≡ drop r (now (out .entry)) ⌝ }
     ensures { λ r. ⌜ Counts r (now (out .exit)) ⌝ }
 {
     let all: &[u8] = bytes;
-    listing(&all[..count], out)
+    listing(estimate, &all[..count], out)
+}
+
+// What the first argument asks for. A longer one does not fit, and is none.
+fn argument() -> Asked {
+    let mut word = [0u8; 1];
+    let length = os::arg(1, &mut word);
+    estimate_asked(os::arg_count(), &word[..length])
 }
 
 // A read or a write that fails is told: a table that is read in part would look too short, and a lost line would make a bad cell look allowed.
 fn main() {
-    if 1 < os::arg_count() {
-        write_output(STDERR_FILENO, b"usage: listing < TABLE\n");
+    let Asked::Of(estimate) = argument() else {
+        write_output(STDERR_FILENO, b"usage: listing [7|8] < TABLE\n");
         return;
-    }
+    };
     let mut bytes = [0u8; INPUT];
     let input = read_input(STDIN_FILENO, &mut bytes);
     if input.failed {
@@ -138,7 +153,7 @@ fn main() {
         return;
     }
     let mut out = [0u8; ROOM];
-    let end = listing_of_input(&bytes, input.count, &mut out);
+    let end = listing_of_input(estimate, &bytes, input.count, &mut out);
     if write_output(STDOUT_FILENO, &out[..end]) != end {
         write_output(STDERR_FILENO, b"listing: not all was written\n");
     }

@@ -1,26 +1,36 @@
-// The table maker as a program: writes the made table's 2,048 bytes to standard output.
+// The table maker as a program: writes the made table's 2,048 bytes to standard output, for a divider that adds as many bits as the argument says, 7 or 8 (8 where there is none).
 ghost use mathlib.Core.Path.{_≡_};
 ghost use Rattle.selection.specs.Computed.{madeTable};
 use libc::STDERR_FILENO;
 use libc::STDOUT_FILENO;
+use printing::argument::Asked;
+use printing::argument::estimate_asked;
 use printing::output::write_output;
+use selection::Estimate;
 
 const TABLE: usize = 2048;
 
-fn made() -> [u8; TABLE]
-    ensures { λ r. ⌜ r ≡ madeTable ⌝ }
+fn made(estimate: Estimate) -> [u8; TABLE]
+    ensures { λ r. ⌜ r ≡ madeTable estimate ⌝ }
 {
     let mut table = [0u8; TABLE];
-    selection::maker::make_table(&mut table);
+    selection::maker::make_table(estimate, &mut table);
     table
 }
 
+// What the first argument asks for. A longer one does not fit, and is none.
+fn argument() -> Asked {
+    let mut word = [0u8; 1];
+    let length = os::arg(1, &mut word);
+    estimate_asked(os::arg_count(), &word[..length])
+}
+
 fn main() {
-    if 1 < os::arg_count() {
-        write_output(STDERR_FILENO, b"usage: maker > TABLE\n");
+    let Asked::Of(estimate) = argument() else {
+        write_output(STDERR_FILENO, b"usage: maker [7|8] > TABLE\n");
         return;
-    }
-    if write_output(STDOUT_FILENO, &made()) != TABLE {
+    };
+    if write_output(STDOUT_FILENO, &made(estimate)) != TABLE {
         write_output(STDERR_FILENO, b"maker: not all was written\n");
     }
 }

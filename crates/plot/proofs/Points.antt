@@ -3,7 +3,9 @@ use Rattle.laws.proofs.Basics.{sym, true, false, true≢false, ℕ, _≤_, _<_,
 use Rattle.laws.proofs.Diff.{diffs, by-diff}
 use Rattle.selection.specs.Cell.{Keeps, Allows, digit}
 use Rattle.selection.proofs.BiasedPoints.{of-point}
+use Rattle.selection.proofs.Search.{span-most}
 use Rattle.plot.specs.Plot.{HasPoint, Broken, PointIs, DrawnIs}
+use Rattle.selection.specs.declared.Estimate.{Estimate}
 
 -- 3(P + 2D) ≤ 2D and -2D ≤ 3(P - 2D)
 keeps-not-both : (D : ℕ) → 0 < D → (P : ℤ) → Keeps (digit 0) D P → Keeps (digit 4) D P → ⊥
@@ -12,16 +14,18 @@ keeps-not-both D h =
     by-diff (λ P. Keeps (digit 0) D P → Keeps (digit 4) D P → ⊥) (λ a b low high.
     omega (arith, simp diffs at (low .high), simp diffs at (high .low)))
 
-pub no-point : {r c : ℕ} → Allows r c (digit 0) → Allows r c (digit 4) → HasPoint r c → ⊥
-no-point low high p = keeps-not-both (p .divisor) (omega (arith, p .point .row .from)) (p .remainder) (low _ _ (p .point)) (high _ _ (p .point))
+-- in a divider with the estimate E
+module _ (E : Estimate) where
+  pub no-point : {r c : ℕ} → Allows E r c (digit 0) → Allows E r c (digit 4) → HasPoint E r c → ⊥
+  no-point low high p = keeps-not-both (p .divisor) (omega (arith, p .point .row .from)) (p .remainder) (low _ _ (p .point)) (high _ _ (p .point))
 
--- a point lies in the columns 20 to 106
-pub has-point-columns : {r c : ℕ} → r ≤ 15 → c ≤ 127 → HasPoint r c → (20 ≤ c) × (c ≤ 106)
-has-point-columns hr hc p = let b = of-point (omega arith) hr hc (p .point) .point in (omega (arith, b), omega (arith, b))
+  -- a point lies in the columns 20 to 106
+  pub has-point-columns : {r c : ℕ} → r ≤ 15 → c ≤ 127 → HasPoint E r c → (20 ≤ c) × (c ≤ 106)
+  has-point-columns hr hc p = let most = span-most E in let b = of-point E hr hc (p .point) .point in (omega (arith, b), omega (arith, b))
+
+  -- a witness is a point
+  pub point-yes : {r c b : ℕ} → Broken E r c b → PointIs E r c true
+  point-yes w = record { yes = λ e. record { divisor = w .divisor; remainder = w .remainder; point = w .against .point }; no = λ e. absurd (true≢false e) }
 
 pub drawn-no : {c : ℕ} → c ≤ 127 → (20 ≤ c → c ≤ 106 → ⊥) → DrawnIs c false
-drawn-no h n = record { yes = λ e. absurd (true≢false (sym e)); no = λ e r hr p. let l = has-point-columns hr h p in n (l .0) (l .1) }
-
--- a witness is a point
-pub point-yes : {r c b : ℕ} → Broken r c b → PointIs r c true
-point-yes w = record { yes = λ e. record { divisor = w .divisor; remainder = w .remainder; point = w .against .point }; no = λ e. absurd (true≢false e) }
+drawn-no h n = record { yes = λ e. absurd (true≢false (sym e)); no = λ e E r hr p. let l = has-point-columns E hr h p in n (l .0) (l .1) }

@@ -5,6 +5,7 @@ use Prim.Native.Nat.{ℕ, _+_, _/_, _%_, _≤_, _<_}
 use lib.ListN.{getD}
 use Rattle.plot.specs.Plot.{PointIs}
 use Rattle.plot.specs.declared.visits.Visited.{Visited}
+use Rattle.selection.specs.declared.Estimate.the-variants.{EightBits}
 
 -- from how many visits on a cell has the shade s
 abbrev pub shadeFrom : ℕ → ℕ
@@ -20,5 +21,5 @@ pub record ShadeIs (n s : ℕ) : Type 0 where
 pub record VisitsAt (v : List ℕ) (k : ℕ) (x : Visited) : Type 0 where
   pub row : x .row ≡ k / 128
   pub column : x .column ≡ k % 128
-  pub point : PointIs (k / 128) (k % 128) (x .in_range)
+  pub point : PointIs EightBits (k / 128) (k % 128) (x .in_range)
   pub visits : x .visits ≡ getD v k 0

@@ -8,6 +8,7 @@ use crate::cells::is_drawn;
 use crate::picture;
 use crate::print::print_number;
 use crate::print::print_text;
+use selection::Estimate;
 
 const BITS: u64 = 6;
 
@@ -30,7 +31,7 @@ fn visited_at(visits: &[u32], k: usize) -> Visited
     Visited {
         row,
         column,
-        in_range: has_point(row, column),
+        in_range: has_point(Estimate::EightBits, row, column),
         visits: visits[k],
     }
 }

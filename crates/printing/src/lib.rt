@@ -1,4 +1,5 @@
 // Text in a lent buffer, reading into one and writing what one holds, for the programs.
+pub mod argument;
 pub mod input;
 pub mod output;
 pub mod text;

@@ -1,6 +1,7 @@
 // The C interface: thin exports of the three layers and of the averages. A slice is a pointer and a length; an answer comes back as the layer's own struct.
 ghost use mathlib.Core.Path.{_≡_};
 ghost use Rattle.selection.specs.Answer.{cellNumbers, reportNumbers};
+ghost use Rattle.selection.specs.Bits.{checkCellFor, checkTableFor, rowLimitsFor, makeFor, madeBufferFor, repairFor, repairedFor, changedFor};
 ghost use Rattle.selection.specs.Computed.{cellOf, reportOf, rowLimitsOf, makeOf, madeBuffer, madeTable, repairOf, repairedOf, changedOf};
 ghost use Rattle.recurrence.specs.Run.{runOf, bufferOf};
 ghost use Rattle.recurrence.specs.Step.{stepOf};
@@ -14,6 +15,7 @@ ghost use Rattle.division.specs.Packed.{packedOf};
 ghost use Rattle.division.specs.Ratios.{comparedOf, comparisonNumbers};
 ghost use Rattle.division.specs.RootCalls.{rootWholeOf, rootBinary64Of};
 ghost use Rattle.exposure.specs.Computed.{averagesOf, meansOf, remaindersOf};
+ghost use Rattle.selection.specs.declared.Estimate.the-variants.{EightBits};
 use division::format::Binary64Answer;
 use division::packed::PackedAnswer;
 use division::ratio::ComparisonNumbers;
@@ -24,6 +26,7 @@ use division::samples::SamplesAnswer;
 use division::whole::WholeAnswer;
 use recurrence::RunAnswer;
 use recurrence::step::StepAnswer;
+use selection::Estimate;
 use selection::Refusal;
 use selection::maker::RowLimits;
 use selection::numbers::CellNumbers;
@@ -33,33 +36,33 @@ use selection::repair::RepairAnswer;
 // A single cell: is the digit of this byte allowed?
 #[no_mangle]
 pub extern "C" fn quendaric_check_cell(row: u64, column: u64, byte: u8) -> CellNumbers
-    ensures { λ r. ⌜ r ≡ cellNumbers (cellOf row column byte) ⌝ }
+    ensures { λ r. ⌜ r ≡ cellNumbers (cellOf EightBits row column byte) ⌝ }
 {
-    selection::numbers::cell_numbers(row, column, byte)
+    selection::numbers::cell_numbers(Estimate::EightBits, row, column, byte)
 }
 
 // A table: passed, or its first bad cell.
 #[no_mangle]
 pub extern "C" fn quendaric_check_table(table: &[u8]) -> ReportNumbers
-    ensures { λ r. ⌜ r ≡ reportNumbers (reportOf (now (table .entry))) ⌝ }
+    ensures { λ r. ⌜ r ≡ reportNumbers (reportOf EightBits (now (table .entry))) ⌝ }
 {
-    selection::numbers::table_numbers(table)
+    selection::numbers::table_numbers(Estimate::EightBits, table)
 }
 
 // The columns at which the digits of a made row change.
 #[no_mangle]
 pub extern "C" fn quendaric_row_limits(row: u64) -> RowLimits
-    ensures { λ r. ⌜ r ≡ rowLimitsOf row ⌝ }
+    ensures { λ r. ⌜ r ≡ rowLimitsOf EightBits row ⌝ }
 {
-    selection::maker::row_limits(row)
+    selection::maker::row_limits(Estimate::EightBits, row)
 }
 
 // The made table, to the first 2,048 bytes of the buffer.
 #[no_mangle]
 pub extern "C" fn quendaric_make_table(buffer: &mut [u8]) -> Refusal
-    ensures { λ r. ⌜ (r ≡ makeOf (now (buffer .entry))) × (now (buffer .exit) ≡ madeBuffer (now (buffer .entry))) ⌝ }
+    ensures { λ r. ⌜ (r ≡ makeOf (now (buffer .entry))) × (now (buffer .exit) ≡ madeBuffer EightBits (now (buffer .entry))) ⌝ }
 {
-    selection::maker::make_table(buffer)
+    selection::maker::make_table(Estimate::EightBits, buffer)
 }
 
 // A run through a lent table, its digits into the buffer from a place on.
@@ -86,7 +89,7 @@ pub extern "C" fn quendaric_run_kept(
     buffer: &mut [u8],
     place: usize,
 ) -> RunAnswer
-    ensures { λ r. ⌜ (r ≡ runOf madeTable dividend divisor digits (now (buffer .entry)) place) × (now (buffer .exit) ≡ bufferOf madeTable dividend divisor digits (now (buffer .entry)) place) ⌝ }
+    ensures { λ r. ⌜ (r ≡ runOf (madeTable EightBits) dividend divisor digits (now (buffer .entry)) place) × (now (buffer .exit) ≡ bufferOf (madeTable EightBits) dividend divisor digits (now (buffer .entry)) place) ⌝ }
 {
     recurrence::run_kept(dividend, divisor, digits, buffer, place)
 }
@@ -110,7 +113,7 @@ pub extern "C" fn quendaric_divide_whole(table: &[u8], a: u64, b: u64) -> WholeA
 // The same through the kept table.
 #[no_mangle]
 pub extern "C" fn quendaric_divide_whole_kept(a: u64, b: u64) -> WholeAnswer
-    ensures { λ r. ⌜ r ≡ wholeOf madeTable a b ⌝ }
+    ensures { λ r. ⌜ r ≡ wholeOf (madeTable EightBits) a b ⌝ }
 {
     division::whole::divide_whole_kept(a, b)
 }
@@ -131,7 +134,7 @@ pub extern "C" fn quendaric_divide_binary64(
 // The same through the kept table.
 #[no_mangle]
 pub extern "C" fn quendaric_divide_binary64_kept(a: u64, b: u64, direction: u64) -> Binary64Answer
-    ensures { λ r. ⌜ r ≡ binary64Of madeTable direction a b ⌝ }
+    ensures { λ r. ⌜ r ≡ binary64Of (madeTable EightBits) direction a b ⌝ }
 {
     division::binary64::divide_binary64_kept(a, b, direction)
 }
@@ -157,9 +160,9 @@ pub extern "C" fn quendaric_repair_table(
     repaired: &mut [u8],
     changed: &mut [u8],
 ) -> RepairAnswer
-    ensures { λ r. ⌜ (r ≡ repairOf (now (table .entry)) (now (repaired .entry)) (now (changed .entry))) × (now (repaired .exit) ≡ repairedOf (now (table .entry)) (now (repaired .entry)) (now (changed .entry))) × (now (changed .exit) ≡ changedOf (now (table .entry)) (now (repaired .entry)) (now (changed .entry))) ⌝ }
+    ensures { λ r. ⌜ (r ≡ repairOf EightBits (now (table .entry)) (now (repaired .entry)) (now (changed .entry))) × (now (repaired .exit) ≡ repairedOf EightBits (now (table .entry)) (now (repaired .entry)) (now (changed .entry))) × (now (changed .exit) ≡ changedOf EightBits (now (table .entry)) (now (repaired .entry)) (now (changed .entry))) ⌝ }
 {
-    selection::repair::repair_table(table, repaired, changed)
+    selection::repair::repair_table(Estimate::EightBits, table, repaired, changed)
 }
 
 // Which samples a table as it was burned has affected.
@@ -170,17 +173,23 @@ pub extern "C" fn quendaric_affected_samples(
     sensitivities: &[u64],
     affected: &mut [u8],
 ) -> AffectedAnswer
-    ensures { λ r. ⌜ (r ≡ recheckOf (now (table .entry)) (now (currents .entry)) (now (sensitivities .entry)) (now (affected .entry))) × (now (affected .exit) ≡ affectedOf (now (table .entry)) (now (currents .entry)) (now (sensitivities .entry)) (now (affected .entry))) ⌝ }
+    ensures { λ r. ⌜ (r ≡ recheckOf EightBits (now (table .entry)) (now (currents .entry)) (now (sensitivities .entry)) (now (affected .entry))) × (now (affected .exit) ≡ affectedOf EightBits (now (table .entry)) (now (currents .entry)) (now (sensitivities .entry)) (now (affected .entry))) ⌝ }
 {
-    division::recheck::affected_samples(table, currents, sensitivities, affected)
+    division::recheck::affected_samples(
+        Estimate::EightBits,
+        table,
+        currents,
+        sensitivities,
+        affected,
+    )
 }
 
 // Whether it has affected a division of whole numbers.
 #[no_mangle]
 pub extern "C" fn quendaric_affected_whole(table: &[u8], a: u64, b: u64) -> AffectedWholeAnswer
-    ensures { λ r. ⌜ r ≡ recheckWholeOf (now (table .entry)) a b ⌝ }
+    ensures { λ r. ⌜ r ≡ recheckWholeOf EightBits (now (table .entry)) a b ⌝ }
 {
-    division::recheck::affected_whole(table, a, b)
+    division::recheck::affected_whole(Estimate::EightBits, table, a, b)
 }
 
 // Mean and remainder of every full window of so many readings, the oldest window first, into two lists. The readings come oldest or newest first.
@@ -240,4 +249,56 @@ pub extern "C" fn quendaric_root_binary64(a: u64, direction: u64) -> Binary64Ans
     ensures { λ r. ⌜ r ≡ rootBinary64Of direction a ⌝ }
 {
     division::root::root_binary64(a, direction)
+}
+
+// ---- The calls on tables for a divider that adds so many bits of each remainder word, 7 or 8. The calls above are those for 8.
+
+// A single cell.
+#[no_mangle]
+pub extern "C" fn quendaric_check_cell_for(
+    estimate_bits: u64,
+    row: u64,
+    column: u64,
+    byte: u8,
+) -> CellNumbers
+    ensures { λ r. ⌜ r ≡ checkCellFor «estimate_bits» row column byte ⌝ }
+{
+    selection::bits::check_cell_for(estimate_bits, row, column, byte)
+}
+
+// A table.
+#[no_mangle]
+pub extern "C" fn quendaric_check_table_for(estimate_bits: u64, table: &[u8]) -> ReportNumbers
+    ensures { λ r. ⌜ r ≡ checkTableFor «estimate_bits» (now (table .entry)) ⌝ }
+{
+    selection::bits::check_table_for(estimate_bits, table)
+}
+
+// The columns at which the digits of a made row change.
+#[no_mangle]
+pub extern "C" fn quendaric_row_limits_for(estimate_bits: u64, row: u64) -> RowLimits
+    ensures { λ r. ⌜ r ≡ rowLimitsFor «estimate_bits» row ⌝ }
+{
+    selection::bits::row_limits_for(estimate_bits, row)
+}
+
+// The made table, to the first 2,048 bytes of the buffer.
+#[no_mangle]
+pub extern "C" fn quendaric_make_table_for(estimate_bits: u64, buffer: &mut [u8]) -> Refusal
+    ensures { λ r. ⌜ (r ≡ makeFor «estimate_bits» (now (buffer .entry))) × (now (buffer .exit) ≡ madeBufferFor «estimate_bits» (now (buffer .entry))) ⌝ }
+{
+    selection::bits::make_table_for(estimate_bits, buffer)
+}
+
+// A repaired table, and its marks.
+#[no_mangle]
+pub extern "C" fn quendaric_repair_table_for(
+    estimate_bits: u64,
+    table: &[u8],
+    repaired: &mut [u8],
+    changed: &mut [u8],
+) -> RepairAnswer
+    ensures { λ r. ⌜ (r ≡ repairFor «estimate_bits» (now (table .entry)) (now (repaired .entry)) (now (changed .entry))) × (now (repaired .exit) ≡ repairedFor «estimate_bits» (now (table .entry)) (now (repaired .entry)) (now (changed .entry))) × (now (changed .exit) ≡ changedFor «estimate_bits» (now (table .entry)) (now (repaired .entry)) (now (changed .entry))) ⌝ }
+{
+    selection::bits::repair_table_for(estimate_bits, table, repaired, changed)
 }

@@ -13,6 +13,7 @@ use Rattle.recurrence.proofs.Steps.{biased}
 use Rattle.recurrence.proofs.Digits.{divisor-after}
 use Rattle.recurrence.proofs.Invariant.{Invariant, quarter}
 use Rattle.recurrence.proofs.Pair.{word-one}
+use Rattle.selection.specs.declared.Estimate.{Estimate}
 
 -- quotient and remainder of M by D
 abbrev pub divided : ℕ → ℕ → ℕ → RunResult
@@ -69,36 +70,38 @@ sign-at-most : (S D M : ℕ) (p : State) → biased p + 4 * (S * D) ≡ M + 2 ^ 
 sign-at-most zero D M p e = omega arith
 sign-at-most (suc S) D M p e = omega arith
 
-module _ (t : List ℕ) (N D n S : ℕ) (k : Invariant t N D n S) where
-  pub end-remainder : 1 ≤ n → endRemainder t N D n ≡ diff (N * 4 ^ (n - 1)) (S * D)
-  unfolding endRemainder
-  end-remainder h = rw (k .makes) (simp diffs (omega arith))
+-- in a divider with the estimate E
+module _ (E : Estimate) where
+  module _ (t : List ℕ) (N D n S : ℕ) (k : Invariant E t N D n S) where
+    pub end-remainder : 1 ≤ n → endRemainder E t N D n ≡ diff (N * 4 ^ (n - 1)) (S * D)
+    unfolding endRemainder
+    end-remainder h = rw (k .makes) (simp diffs (omega arith))
 
-  corrected-run : 1 ≤ n → let r = bySign S D (wordOf (after t N D n)) n in Corrected S (N * 4 ^ (n - 1)) D (r .quotient) (r .remainder)
-  corrected-run h =
-      let p = after t N D n in
-      -- the word is the remainder, and 2^64 more where the sign is set
-      let b : wordOf p + 2 ^ 63 ≡ biased p + wordOf p / 2 ^ 63 * 2 ^ 64 = omega arith in
-      let v = divisor-after t N D n in
-      by-word S D (wordOf p) (N * 4 ^ (n - 1)) (omega (arith, k .in-range .least)) (omega (arith, k .in-range .most)) (omega arith) (sign-at-most S D _ p (k .meets))
-      (omega (arith, k .meets, quarter N n h)) (omega (arith, k .in-range .below)) (omega (arith, k .in-range .above))
+    corrected-run : 1 ≤ n → let r = bySign S D (wordOf (after E t N D n)) n in Corrected S (N * 4 ^ (n - 1)) D (r .quotient) (r .remainder)
+    corrected-run h =
+        let p = after E t N D n in
+        -- the word is the remainder, and 2^64 more where the sign is set
+        let b : wordOf p + 2 ^ 63 ≡ biased p + wordOf p / 2 ^ 63 * 2 ^ 64 = omega arith in
+        let v = divisor-after E t N D n in
+        by-word S D (wordOf p) (N * 4 ^ (n - 1)) (omega (arith, k .in-range .least)) (omega (arith, k .in-range .most)) (omega arith) (sign-at-most S D _ p (k .meets))
+        (omega (arith, k .meets, quarter N n h)) (omega (arith, k .in-range .below)) (omega (arith, k .in-range .above))
 
-  -- it is the answer that S and the end remainder form
-  pub result-by-sign : 1 ≤ n → bySign S D (wordOf (after t N D n)) n ≡ resultOf t N D n
-  unfolding resultOf
-  result-by-sign h =
-      let c = corrected-run h in
-      rw (k .makes, end-remainder h)
-      (sym (ap₂ (λ (a b : ℤ). record { quotient = natAbs a; remainder = natAbs b; count = n }) (c .quotient) (c .remainder)))
+    -- it is the answer that S and the end remainder form
+    pub result-by-sign : 1 ≤ n → bySign S D (wordOf (after E t N D n)) n ≡ resultOf E t N D n
+    unfolding resultOf
+    result-by-sign h =
+        let c = corrected-run h in
+        rw (k .makes, end-remainder h)
+        (sym (ap₂ (λ (a b : ℤ). record { quotient = natAbs a; remainder = natAbs b; count = n }) (c .quotient) (c .remainder)))
 
-  -- and the code's, which chooses the quotient
-  pub result-from-word : 1 ≤ n → n ≤ longest → PairOf (value (digits t N D n)) (after t N D n)
-      → resultFromWord (after t N D n .value) (after t N D n .decremented) (after t N D n .divisor) (wordOf (after t N D n)) n ≡ resultOf t N D n
-  result-from-word h m c =
-      let p = after t N D n in
-      let f : S < 2 ^ 64 = omega (arith, k .size, pow-le-pow-right {n = 4} (omega arith) {i = n} {j = 31} m) in
-      let e : S ≡ p .value = word-one S (p .value) f (rw (k .makes) at (c .value)) in
-      rw (divisor-after, by-choice S (p .value) (p .decremented) (wordOf p) (omega arith) (sign-at-most S D _ p (k .meets)) e (c .one-apart) (c .decremented .word)) (result-by-sign h)
+    -- and the code's, which chooses the quotient
+    pub result-from-word : 1 ≤ n → n ≤ longest → PairOf (value (digits E t N D n)) (after E t N D n)
+        → resultFromWord (after E t N D n .value) (after E t N D n .decremented) (after E t N D n .divisor) (wordOf (after E t N D n)) n ≡ resultOf E t N D n
+    result-from-word h m c =
+        let p = after E t N D n in
+        let f : S < 2 ^ 64 = omega (arith, k .size, pow-le-pow-right {n = 4} (omega arith) {i = n} {j = 31} m) in
+        let e : S ≡ p .value = word-one S (p .value) f (rw (k .makes) at (c .value)) in
+        rw (divisor-after E, by-choice S (p .value) (p .decremented) (wordOf p) (omega arith) (sign-at-most S D _ p (k .meets)) e (c .one-apart) (c .decremented .word)) (result-by-sign h)
 
-  pub corrected-result : 1 ≤ n → Corrected S (N * 4 ^ (n - 1)) D (resultOf t N D n .quotient) (resultOf t N D n .remainder)
-  corrected-result h = rw (← result-by-sign h) (corrected-run h)
+    pub corrected-result : 1 ≤ n → Corrected S (N * 4 ^ (n - 1)) D (resultOf E t N D n .quotient) (resultOf E t N D n .remainder)
+    corrected-result h = rw (← result-by-sign h) (corrected-run h)

@@ -6,17 +6,7 @@ use Rattle.laws.proofs.Diff.{diff, diffs, by-diff}
 use Rattle.selection.specs.Cell.{digit}
 use Rattle.selection.proofs.BiasedPoints.{digit-diff}
 use Rattle.recurrence.specs.Recurrence.{cellAt, nextOf, after, digitOf, digits, value}
-
--- no step changes the divisor
-pub divisor-after : (t : List ℕ) (N D i : ℕ) → after t N D i .divisor ≡ D
-unfolding after nextOf
-divisor-after t N D zero = refl
-divisor-after t N D (suc i) = divisor-after t N D i
-
--- each digit is the table's at the cell of the state that the steps have reached
-pub digit-at : (t : List ℕ) (N D n i : ℕ) → i < n → getD (digits t N D n) i 0 ≡ getD t (cellAt (after t N D i)) 0
-unfolding after nextOf
-digit-at t N D n i h = list-value (digitOf t N D) 0 n i h
+use Rattle.selection.specs.declared.Estimate.{Estimate}
 
 -- ---- a digit more: S′ = 4S + q
 
@@ -27,3 +17,16 @@ value-append (x ∷ ds) d =
     let e : 4 ^ length (ds ++ (d ∷ [])) ≡ 4 ^ length ds * 4 = ap (λ (n : ℕ). 4 ^ n) (length-append ds (d ∷ []) ∙ omega arith) ∙ pow-suc 4 (length ds) in
     rw (e, value-append ds d, digit-diff x, digit-diff d)
     (by-diff (λ v. pos (4 ^ length ds * 4) *ℤ diff x 2 +ℤ (pos 4 *ℤ v +ℤ diff d 2) ≡ pos 4 *ℤ (pos (4 ^ length ds) *ℤ diff x 2 +ℤ v) +ℤ diff d 2) (λ a b. simp diffs (omega arith)) (value ds))
+
+-- in a divider with the estimate E
+module _ (E : Estimate) where
+  -- no step changes the divisor
+  pub divisor-after : (t : List ℕ) (N D i : ℕ) → after E t N D i .divisor ≡ D
+  unfolding after nextOf
+  divisor-after t N D zero = refl
+  divisor-after t N D (suc i) = divisor-after t N D i
+
+  -- each digit is the table's at the cell of the state that the steps have reached
+  pub digit-at : (t : List ℕ) (N D n i : ℕ) → i < n → getD (digits E t N D n) i 0 ≡ getD t (cellAt E (after E t N D i)) 0
+  unfolding after nextOf
+  digit-at t N D n i h = list-value (digitOf E t N D) 0 n i h

@@ -9,6 +9,7 @@ use Rattle.selection.proofs.BiasedPoints.{digit-diff}
 use Rattle.recurrence.specs.Recurrence.{State, Operands, cellAt, stepBy, nextOf, after, digitOf, digits, value}
 use Rattle.recurrence.proofs.Steps.{biased, InRange, AllowedAt, table-digit-allowed, step-law, step-in-range}
 use Rattle.recurrence.proofs.Digits.{divisor-after, value-append}
+use Rattle.selection.specs.declared.Estimate.{Estimate}
 
 -- 4S + q is not negative, since the digit is allowed
 enough : (S d D u M : ℕ) → 0 < D → u + 4 * (S * D) ≡ M + 2 ^ 63 → 3 * u + 4 * D ≤ 3 * (d * D) + 3 * 2 ^ 63 → 2 ≤ 4 * S + d
@@ -33,29 +34,31 @@ quad N i = rw (pow-suc, mul-assoc)
 pub quarter : (N n : ℕ) → 1 ≤ n → N * 4 ^ n ≡ N * 4 ^ (n - 1) * 4
 quarter N n h = ap (λ (m : ℕ). N * 4 ^ m) (omega arith) ∙ quad N (n - 1)
 
-pub record Invariant (t : List ℕ) (N D i S : ℕ) : Type 0 where
-  pub in-range : InRange (after t N D i)
-  pub makes : value (digits t N D i) ≡ pos S
-  pub meets : biased (after t N D i) + 4 * (S * D) ≡ N * 4 ^ i + 2 ^ 63
-  pub size : S < 4 ^ i
+-- in a divider with the estimate E
+module _ (E : Estimate) where
+  pub record Invariant (t : List ℕ) (N D i S : ℕ) : Type 0 where
+    pub in-range : InRange (after E t N D i)
+    pub makes : value (digits E t N D i) ≡ pos S
+    pub meets : biased (after E t N D i) + 4 * (S * D) ≡ N * 4 ^ i + 2 ^ 63
+    pub size : S < 4 ^ i
 
-module _ (t : List ℕ) (N D : ℕ) (ok : Passes t) where
-  invariant-next : (i S : ℕ) → Invariant t N D i S → Invariant t N D (suc i) (4 * S + getD t (cellAt (after t N D i)) 0 - 2)
-  unfolding after nextOf
-  invariant-next i S h =
-      let p = after t N D i in
-      let d = getD t (cellAt p) 0 in
-      let f = table-digit-allowed t p ok (h .in-range) in
-      let m = step-meets d p S (N * 4 ^ i) (divisor-after t N D i) (h .in-range) f (h .meets) in
-      record {
-        in-range = step-in-range d p (h .in-range) f;
-        makes = ap value (list-snoc (digitOf t N D) i) ∙ value-append (digits t N D i) d ∙ rw (h .makes, digit-diff d) (simp diffs (omega (arith, m .0)));
-        meets = m .1 ∙ ap (λ (x : ℕ). x + 2 ^ 63) (sym (quad N i));
-        size = omega (arith, f .byte, h .size);
-      }
+  module _ (t : List ℕ) (N D : ℕ) (ok : Passes E t) where
+    invariant-next : (i S : ℕ) → Invariant t N D i S → Invariant t N D (suc i) (4 * S + getD t (cellAt E (after E t N D i)) 0 - 2)
+    unfolding after nextOf
+    invariant-next i S h =
+        let p = after E t N D i in
+        let d = getD t (cellAt E p) 0 in
+        let f = table-digit-allowed E t p ok (h .in-range) in
+        let m = step-meets d p S (N * 4 ^ i) (divisor-after E t N D i) (h .in-range) f (h .meets) in
+        record {
+          in-range = step-in-range d p (h .in-range) f;
+          makes = ap value (list-snoc (digitOf E t N D) i) ∙ value-append (digits E t N D i) d ∙ rw (h .makes, digit-diff d) (simp diffs (omega (arith, m .0)));
+          meets = m .1 ∙ ap (λ (x : ℕ). x + 2 ^ 63) (sym (quad N i));
+          size = omega (arith, f .byte, h .size);
+        }
 
-  pub invariant-after : Operands N D → (i : ℕ) → (S : ℕ) × Invariant t N D i S
-  unfolding after value listFrom
-  invariant-after o zero =
-      (0, record { in-range = record { least = o .least; most = o .most; above = omega arith; below = omega arith }; makes = refl; meets = omega arith; size = omega arith })
-  invariant-after o (suc i) = (_, invariant-next i (invariant-after o i .0) (invariant-after o i .1))
+    pub invariant-after : Operands N D → (i : ℕ) → (S : ℕ) × Invariant t N D i S
+    unfolding after value listFrom
+    invariant-after o zero =
+        (0, record { in-range = record { least = o .least; most = o .most; above = omega arith; below = omega arith }; makes = refl; meets = omega arith; size = omega arith })
+    invariant-after o (suc i) = (_, invariant-next i (invariant-after o i .0) (invariant-after o i .1))

@@ -6,33 +6,37 @@ use Rattle.recurrence.specs.Recurrence.{nextOf, after, digitOf, digits}
 use Rattle.recurrence.specs.FastRun.{withColumn, stateOf}
 use Rattle.recurrence.specs.declared.state.RunState.{RunState}
 use Rattle.recurrence.proofs.Digits.{divisor-after}
+use Rattle.selection.specs.declared.Estimate.{Estimate}
+use Rattle.selection.specs.declared.Estimate.the-variants.{EightBits}
+
+-- in a divider with the estimate E
+module _ (E : Estimate) where
+  -- one turn of either loop, that of the digits and that of the visits
+  pub stands-next : (t : List ℕ) (N D i : ℕ) {p q : RunState} → p ≡ withColumn (after E t N D i) → q ≡ withColumn (nextOf E t (stateOf p)) → q ≡ withColumn (after E t N D (i + 1))
+  unfolding after
+  stands-next t N D i s e = e ∙ rw (s, add-one) refl
+
+  pub stands-divisor : (t : List ℕ) (N D i : ℕ) {p : RunState} → p ≡ withColumn (after E t N D i) → p .divisor ≡ D
+  stands-divisor t N D i s = rw (s, divisor-after E) refl
 
 pub record Reached (t : List ℕ) (N D : ℕ) (out₀ out : List ℕ) (state : RunState) (i : ℕ) : Type 0 where
   pub within : i ≤ length out₀
-  pub stands : state ≡ withColumn (after t N D i)
-  pub wrote : out ≡ filled (digitOf t N D) i out₀
-
--- one turn of either loop, that of the digits and that of the visits
-pub stands-next : (t : List ℕ) (N D i : ℕ) {p q : RunState} → p ≡ withColumn (after t N D i) → q ≡ withColumn (nextOf t (stateOf p)) → q ≡ withColumn (after t N D (i + 1))
-unfolding after
-stands-next t N D i s e = e ∙ rw (s, add-one) refl
-
-pub stands-divisor : (t : List ℕ) (N D i : ℕ) {p : RunState} → p ≡ withColumn (after t N D i) → p .divisor ≡ D
-stands-divisor t N D i s = rw (s, divisor-after) refl
+  pub stands : state ≡ withColumn (after EightBits t N D i)
+  pub wrote : out ≡ filled (digitOf EightBits t N D) i out₀
 
 module _ {t : List ℕ} {N D : ℕ} {out₀ out : List ℕ} {p : RunState} {i : ℕ} (r : Reached t N D out₀ out p i) where
   pub reached-length : length out ≡ length out₀
-  reached-length = let h = r .within in rw (r .wrote) (fill-length (digitOf t N D) out₀ i h)
+  reached-length = let h = r .within in rw (r .wrote) (fill-length (digitOf EightBits t N D) out₀ i h)
 
-  pub move : {q : RunState} → i < length out → q ≡ withColumn (nextOf t (stateOf p)) → Reached t N D out₀ (set out i (q .digit)) q (i + 1)
+  pub move : {q : RunState} → i < length out → q ≡ withColumn (nextOf EightBits t (stateOf p)) → Reached t N D out₀ (set out i (q .digit)) q (i + 1)
   move {q} l e =
       let h : i < length out₀ = omega (arith, reached-length) in
-      let f = stands-next t N D i (r .stands) e in
-      let d : q .digit ≡ digitOf t N D i = rw (f, add-one) refl in
-      record { within = omega arith; stands = f; wrote = rw (d, r .wrote) (fill-more (digitOf t N D) out₀ i h) }
+      let f = stands-next EightBits t N D i (r .stands) e in
+      let d : q .digit ≡ digitOf EightBits t N D i = rw (f, add-one) refl in
+      record { within = omega arith; stands = f; wrote = rw (d, r .wrote) (fill-more (digitOf EightBits t N D) out₀ i h) }
 
   -- every byte is written
-  pub done : length out ≤ i → (i ≡ length out₀) × (out ≡ digits t N D i)
+  pub done : length out ≤ i → (i ≡ length out₀) × (out ≡ digits EightBits t N D i)
   done h =
       let e : i ≡ length out₀ = omega (arith, r .within, reached-length) in
-      (e, r .wrote ∙ fill-all (digitOf t N D) out₀ i (omega arith))
+      (e, r .wrote ∙ fill-all (digitOf EightBits t N D) out₀ i (omega arith))

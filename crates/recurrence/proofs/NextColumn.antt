@@ -12,6 +12,7 @@ use Rattle.recurrence.specs.FastRun.{withColumn, topBitsOf, divisorMulti
 use Rattle.recurrence.specs.declared.state.RunState.{RunState}
 use Rattle.recurrence.proofs.CarrySave.{tops, majority}
 use Rattle.recurrence.proofs.Pair.{by-digit}
+use Rattle.selection.specs.declared.Estimate.the-variants.{EightBits}
 
 shifted : (n : ℕ) → n * 4 % 2 ^ 64 / 2 ^ 56 ≡ n / 2 ^ 54 % 256
 shifted n = omega arith
@@ -42,7 +43,7 @@ quarter-mod a b x = rw (add-mod-mod, mod-sum a b (x + 256) 512) (half (a + b + x
 -- the code's column: it needs the tops of the words and of the multiple, and neither of the next words
 ahead : (a b x k l : ℕ) → k ≤ 1 → l / 2 ^ 55 ≡ topBitsOf x
     → ((bitAnd (a % 2 ^ 62) (2 ^ 64 - 2 ^ 53) + bitAnd (b % 2 ^ 62) (2 ^ 64 - 2 ^ 53)) % 2 ^ 64 * 4 % 2 ^ 64 + l) % 2 ^ 64 / 2 ^ 57
-    ≡ column (sum3 a b x * 4 % 2 ^ 64) ((maj3 a b x * 2 + k) * 4 % 2 ^ 64)
+    ≡ column EightBits (sum3 a b x * 4 % 2 ^ 64) ((maj3 a b x * 2 + k) * 4 % 2 ^ 64)
 ahead a b x k l h e =
     let s = sum3 a b x in
     let c = maj3 a b x * 2 + k in

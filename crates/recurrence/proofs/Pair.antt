@@ -11,6 +11,7 @@ use Rattle.recurrence.specs.Recurrence.{State, cellAt, appended, stepBy,
 use Rattle.recurrence.specs.OnTheFly.{WordOf, PairOf, Appends, Renews}
 use Rattle.recurrence.specs.FastRun.{renewed}
 use Rattle.recurrence.proofs.Digits.{value-append}
+use Rattle.selection.specs.declared.Estimate.{Estimate}
 
 -- ---- words modulo 2^64
 
@@ -73,29 +74,31 @@ pair-next d p S h c =
       one-apart = same-mod _ _ (2 ^ 64) 0 ((w * 4 + (d + 1)) / 2 ^ 64) (omega arith);
     })
 
--- ---- through every table of digit bytes
-
--- of every state, whatever its two numbers are
-pub renews-next : (t : List ℕ) → ((k : ℕ) → getD t k 0 ≤ 4) → (p : State) → Renews p (nextOf t p)
-unfolding nextOf
-renews-next t small p =
-    let d = getD t (cellAt p) 0 in
-    let c = by-digit (p .value) (p .decremented) d (small (cellAt p)) in
-    record { value = rw (c .value) (appends p (d + 2)); decremented = rw (c .decremented) (appends p (d + 1)) }
-
-pub pair-after : (t : List ℕ) (N D : ℕ) → ((k : ℕ) → getD t k 0 ≤ 4) → (i : ℕ) → PairOf (value (digits t N D i)) (after t N D i)
-unfolding after nextOf value listFrom
-pair-after t N D small zero = record {
-  value = record { word = omega arith; times = pos 0; is = refl };
-  decremented = record { word = omega arith; times = pos 0 -ℤ pos 1; is = refl };
-  one-apart = refl;
-}
-pair-after t N D small (suc i) =
-    let p = after t N D i in
-    let d = getD t (cellAt p) 0 in
-    rw (ap value (list-snoc (digitOf t N D) i) ∙ value-append (digits t N D i) d) (pair-next d p (value (digits t N D i)) (small (cellAt p)) (pair-after t N D small i))
-
 -- the corrected quotient is one of the two numbers, chosen by the sign
 pub chosen : (Q : ℕ) (S R : ℤ) (p : State) → Q < 2 ^ 64 → pos Q ≡ correctedQuotient S R → PairOf S p → Q ≡ cond (nonNeg R) (p .value) (p .decremented)
 chosen Q S (pos R) p h e c = word-one Q (p .value) h (rw e (c .value))
 chosen Q S (negsuc R) p h e c = word-one Q (p .decremented) h (rw e (c .decremented))
+
+-- in a divider with the estimate E
+module _ (E : Estimate) where
+  -- ---- through every table of digit bytes
+
+  -- of every state, whatever its two numbers are
+  pub renews-next : (t : List ℕ) → ((k : ℕ) → getD t k 0 ≤ 4) → (p : State) → Renews p (nextOf E t p)
+  unfolding nextOf
+  renews-next t small p =
+      let d = getD t (cellAt E p) 0 in
+      let c = by-digit (p .value) (p .decremented) d (small (cellAt E p)) in
+      record { value = rw (c .value) (appends p (d + 2)); decremented = rw (c .decremented) (appends p (d + 1)) }
+
+  pub pair-after : (t : List ℕ) (N D : ℕ) → ((k : ℕ) → getD t k 0 ≤ 4) → (i : ℕ) → PairOf (value (digits E t N D i)) (after E t N D i)
+  unfolding after nextOf value listFrom
+  pair-after t N D small zero = record {
+    value = record { word = omega arith; times = pos 0; is = refl };
+    decremented = record { word = omega arith; times = pos 0 -ℤ pos 1; is = refl };
+    one-apart = refl;
+  }
+  pair-after t N D small (suc i) =
+      let p = after E t N D i in
+      let d = getD t (cellAt E p) 0 in
+      rw (ap value (list-snoc (digitOf E t N D) i) ∙ value-append (digits E t N D i) d) (pair-next d p (value (digits E t N D i)) (small (cellAt E p)) (pair-after t N D small i))

@@ -9,12 +9,13 @@ use Rattle.recurrence.specs.Recurrence.{State}
 use Rattle.recurrence.specs.Row.{Row}
 use Rattle.recurrence.specs.FastRun.{withColumn, divisorMultiples, allTopBits, DigitBytes, StepReady}
 use Rattle.recurrence.specs.declared.state.RunState.{RunState}
+use Rattle.selection.specs.declared.Estimate.the-variants.{EightBits}
 
-pub row-of : {t : List ℕ} {D : ℕ} {bytes : List ℕ} → Passes t → bytes ≡ rowBytes t (row D) → Row D bytes
+pub row-of : {t : List ℕ} {D : ℕ} {bytes : List ℕ} → Passes EightBits t → bytes ≡ rowBytes t (row D) → Row D bytes
 row-of {t} p e = record { table = t; passes = p; is = e }
 
-pub row-of-kept : {D : ℕ} {bytes : List ℕ} → bytes ≡ rowBytes madeTable (row D) → Row D bytes
-row-of-kept e = row-of kept-passes e
+pub row-of-kept : {D : ℕ} {bytes : List ℕ} → bytes ≡ rowBytes (madeTable EightBits) (row D) → Row D bytes
+row-of-kept e = row-of (kept-passes EightBits) e
 
 -- its byte at a column is the table's in that cell
 pub row-at : (t : List ℕ) (r c : ℕ) → c < 128 → getD (rowBytes t r) c 0 ≡ getD t (128 * r + c) 0

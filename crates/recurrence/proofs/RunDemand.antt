@@ -14,7 +14,7 @@ use Rattle.selection.specs.Word.{Within}
 use Rattle.recurrence.specs.Recurrence.{Operands, residue, cellAt, nextOf, after, digitOf, digits, value, endRemainder, correctedQuotient, correctedRemainder, resultOf}
 use Rattle.recurrence.specs.Run.{longest, mostDigits, runRules, written, runZeros, runValues, runOf}
 use Rattle.recurrence.specs.OnTheFly.{PairDemand, PairExample}
-use Rattle.recurrence.specs.Demand.{RunAnswered, RunClaim}
+use Rattle.recurrence.specs.Demand.{RunAnswered, RunsRight, RunClaim}
 use Rattle.recurrence.specs.declared.RunAnswer.{RunAnswer}
 use Rattle.recurrence.proofs.Steps.{residue-biased, range-of, table-digit-allowed, step-residue}
 use Rattle.recurrence.proofs.Digits.{divisor-after, digit-at}
@@ -22,84 +22,103 @@ use Rattle.recurrence.proofs.Invariant.{invariant-after, quarter}
 use Rattle.recurrence.proofs.Pair.{renews-next, pair-after, chosen}
 use Rattle.recurrence.proofs.Correction.{divided, end-remainder, result-by-sign, corrected-result}
 use Rattle.recurrence.proofs.Refusals.{spans, no-refusal, same-through}
-
--- after i steps the remainder is in range
-pub range : (t : List ℕ) (N D : ℕ) → Passes t → Operands N D → (i : ℕ) → Within 8 D (pos 3 *ℤ residue (after t N D i))
-range t N D p o i = rw (divisor-after t N D i) at (range-of (after t N D i) (invariant-after t N D p o i .1 .in-range))
-
--- ---- after the last of n steps
-
-module _ (t : List ℕ) (N D n : ℕ) (p : Passes t) (o : Operands N D) (h : 1 ≤ n) where
-  -- quotient and remainder are those of N·4^(n−1) by D
-  pub result-divides : resultOf t N D n ≡ divided (N * 4 ^ (n - 1)) D n
-  unfolding resultOf
-  result-divides =
-      let c = corrected-result t N D n _ (invariant-after t N D p o n .1) h in
-      let k = quotient (c .divides) (c .below) in
-      rw (k .0, k .1)
-
-  -- and they are the numbers that S and the end remainder form, neither of them negative
-  pub result-formed : (pos (resultOf t N D n .quotient) ≡ correctedQuotient (value (digits t N D n)) (endRemainder t N D n)) × (pos (resultOf t N D n .remainder) ≡ correctedRemainder (endRemainder t N D n) D)
-  result-formed =
-      let k = invariant-after t N D p o n .1 in
-      let c = corrected-result t N D n _ k h in
-      rw (k .makes, end-remainder t N D n _ k h) (sym (c .quotient), sym (c .remainder))
-
-  -- the quotient is the number of the last pair that the end remainder's sign chooses
-  quotient-chosen : n ≤ longest → resultOf t N D n .quotient ≡ cond (nonNeg (endRemainder t N D n)) (after t N D n .value) (after t N D n .decremented)
-  quotient-chosen m =
-      let k = invariant-after t N D p o n .1 in
-      let f : resultOf t N D n .quotient < 2 ^ 64 = rw (← result-by-sign t N D n _ k h) (omega (arith, k .size, pow-le-pow-right {n = 4} (omega arith) {i = n} {j = 31} m)) in
-      chosen _ (value (digits t N D n)) (endRemainder t N D n) (after t N D n) f (result-formed .0) (pair-after t N D (p .table .digits) n)
-
-  -- the end remainder is a quarter of the last remainder
-  close : Within 2 D (pos 3 *ℤ endRemainder t N D n)
-  close =
-      let k = invariant-after t N D p o n .1 in
-      let v = divisor-after t N D n in
-      let q = quarter N n h in
-      rw (end-remainder t N D n _ k h)
-      (record { low = simp diffs (omega (arith, k .in-range .above, k .meets)); high = simp diffs (omega (arith, k .in-range .below, k .meets)) })
-
-pub run-claim : (t : List ℕ) → Passes t → (N D n : ℕ) (b : List ℕ) (place : ℕ) → Operands N D → 1 ≤ n → n ≤ mostDigits → place + n ≤ length b → RunClaim t N D n b place
-unfolding resultOf after nextOf
-run-claim t p N D n b place o h l r =
-    let g = passed-last p (runRules N D n (length b) place) ∙ no-refusal N D n (length b) place o h l r in
-    let c = corrected-result t N D n _ (invariant-after t N D p o n .1) h in
-    let f = result-formed t N D n p o h in
-    record {
-      written = ap (answerBy (λ f. b) (written b place (digits t N D n) n)) g;
-      many = list-length (digitOf t N D) 0 n;
-      selected = λ i m. digit-at t N D n i m ∙ ap (λ (x : ℕ). getD t (128 * row x + column (after t N D i .sum) (after t N D i .carry)) 0) (divisor-after t N D i);
-      -- the next remainder is 4 (P - q D)
-      step = λ i m.
-          let s = after t N D i in
-          let g = invariant-after t N D p o i .1 .in-range in
-          rw (digit-at t N D n i m) (step-residue _ s g (table-digit-allowed t s p g) ∙ ap (λ (x : ℕ). pos 4 *ℤ (residue s -ℤ digit (getD t (cellAt s) 0) *ℤ pos x)) (divisor-after t N D i));
-      -- the two words' signed sum is the true remainder
-      exact = λ i m. let k = invariant-after t N D p o i .1 in residue-biased (after t N D i) ∙ rw (k .makes) (simp diffs (omega (arith, k .meets)));
-      range = λ i m. range t N D p o i;
-      pair = λ i m. pair-after t N D (p .table .digits) i;
-      renews = λ i m. renews-next t (p .table .digits) (after t N D i);
-      close = close t N D n p o h;
-      answer = subst (RunAnswered t N D n) (sym (ap (answerBy runZeros (runValues (resultOf t N D n))) g))
-          (record { done = refl; count = refl; quotient = f .0; chosen = quotient-chosen t N D n p o h (omega arith); remainder = f .1; divides = c .divides; below = c .below });
-    }
-
-pub pair-demand : PairDemand
-pair-demand = record {
-  start = λ N D. (refl, refl);
-  renews = λ t p. renews-next t (p .table .digits);
-  pair = λ t p N D. pair-after t N D (p .table .digits);
-  chosen = λ t p N D n o h l. quotient-chosen t N D n p o h l;
-}
+use Rattle.selection.specs.declared.Estimate.{Estimate}
+use Rattle.selection.specs.declared.Estimate.the-variants.{EightBits}
 
 pub pair-example : PairExample
 unfolding madeTable listFrom madeOf allowsOf nextOf after
 pair-example = record { one = (refl, refl); two = (refl, refl); three = (refl, refl) }
 
+-- in a divider with the estimate E
+module _ (E : Estimate) where
+  -- after i steps the remainder is in range
+  pub range : (t : List ℕ) (N D : ℕ) → Passes E t → Operands N D → (i : ℕ) → Within 8 D (pos 3 *ℤ residue (after E t N D i))
+  range t N D p o i = rw (divisor-after E t N D i) at (range-of (after E t N D i) (invariant-after E t N D p o i .1 .in-range))
+
+  -- ---- after the last of n steps
+
+  module _ (t : List ℕ) (N D n : ℕ) (p : Passes E t) (o : Operands N D) (h : 1 ≤ n) where
+    -- quotient and remainder are those of N·4^(n−1) by D
+    pub result-divides : resultOf E t N D n ≡ divided (N * 4 ^ (n - 1)) D n
+    unfolding resultOf
+    result-divides =
+        let c = corrected-result E t N D n _ (invariant-after E t N D p o n .1) h in
+        let k = quotient (c .divides) (c .below) in
+        rw (k .0, k .1)
+
+    -- and they are the numbers that S and the end remainder form, neither of them negative
+    pub result-formed : (pos (resultOf E t N D n .quotient) ≡ correctedQuotient (value (digits E t N D n)) (endRemainder E t N D n)) × (pos (resultOf E t N D n .remainder) ≡ correctedRemainder (endRemainder E t N D n) D)
+    result-formed =
+        let k = invariant-after E t N D p o n .1 in
+        let c = corrected-result E t N D n _ k h in
+        rw (k .makes, end-remainder E t N D n _ k h) (sym (c .quotient), sym (c .remainder))
+
+    -- the quotient is the number of the last pair that the end remainder's sign chooses
+    quotient-chosen : n ≤ longest → resultOf E t N D n .quotient ≡ cond (nonNeg (endRemainder E t N D n)) (after E t N D n .value) (after E t N D n .decremented)
+    quotient-chosen m =
+        let k = invariant-after E t N D p o n .1 in
+        let f : resultOf E t N D n .quotient < 2 ^ 64 = rw (← (result-by-sign E) t N D n _ k h) (omega (arith, k .size, pow-le-pow-right {n = 4} (omega arith) {i = n} {j = 31} m)) in
+        chosen _ (value (digits E t N D n)) (endRemainder E t N D n) (after E t N D n) f (result-formed .0) (pair-after E t N D (p .table .digits) n)
+
+    -- the end remainder is a quarter of the last remainder
+    close : Within 2 D (pos 3 *ℤ endRemainder E t N D n)
+    close =
+        let k = invariant-after E t N D p o n .1 in
+        let v = divisor-after E t N D n in
+        let q = quarter N n h in
+        rw (end-remainder E t N D n _ k h)
+        (record { low = simp diffs (omega (arith, k .in-range .above, k .meets)); high = simp diffs (omega (arith, k .in-range .below, k .meets)) })
+
+-- in a divider with either estimate
+pub runs-right : (E : Estimate) (t : List ℕ) (N D n : ℕ) → Passes E t → Operands N D → 1 ≤ n → RunsRight E t N D n
+unfolding after nextOf
+runs-right E t N D n p o h =
+    let f = result-formed E t N D n p o h in
+    record {
+      many = list-length (digitOf E t N D) 0 n;
+      selected = λ i m. digit-at E t N D n i m ∙ ap (λ (x : ℕ). getD t (128 * row x + column E (after E t N D i .sum) (after E t N D i .carry)) 0) (divisor-after E t N D i);
+      step = λ i m.
+          let s = after E t N D i in
+          let g = invariant-after E t N D p o i .1 .in-range in
+          rw (digit-at E t N D n i m) (step-residue _ s g (table-digit-allowed E t s p g) ∙ ap (λ (x : ℕ). pos 4 *ℤ (residue s -ℤ digit (getD t (cellAt E s) 0) *ℤ pos x)) (divisor-after E t N D i));
+      -- the two words' signed sum is the true remainder
+      exact = λ i m. let k = invariant-after E t N D p o i .1 in residue-biased (after E t N D i) ∙ rw (k .makes) (simp diffs (omega (arith, k .meets)));
+      range = λ i m. range E t N D p o i;
+      pair = λ i m. pair-after E t N D (p .table .digits) i;
+      renews = λ i m. renews-next E t (p .table .digits) (after E t N D i);
+      close = close E t N D n p o h;
+      quotient = f .0;
+      remainder = f .1;
+      result = result-divides E t N D n p o h;
+    }
+
+-- in either divider and through every table that passes for it the result is the same
+pub results-same : (E F : Estimate) (t u : List ℕ) (N D n : ℕ) → Passes E t → Passes F u → Operands N D → 1 ≤ n → resultOf E t N D n ≡ resultOf F u N D n
+results-same E F t u N D n p q o h = result-divides E t N D n p o h ∙ sym (result-divides F u N D n q o h)
+
+pub run-claim : (t : List ℕ) → Passes EightBits t → (N D n : ℕ) (b : List ℕ) (place : ℕ) → Operands N D → 1 ≤ n → n ≤ mostDigits → place + n ≤ length b → RunClaim t N D n b place
+unfolding resultOf
+run-claim t p N D n b place o h l r =
+    let g = passed-last EightBits p (runRules N D n (length b) place) ∙ no-refusal N D n (length b) place o h l r in
+    let c = corrected-result EightBits t N D n _ (invariant-after EightBits t N D p o n .1) h in
+    let f = result-formed EightBits t N D n p o h in
+    record {
+      written = ap (answerBy (λ f. b) (written b place (digits EightBits t N D n) n)) g;
+      steps = runs-right EightBits t N D n p o h;
+      answer = subst (RunAnswered t N D n) (sym (ap (answerBy runZeros (runValues (resultOf EightBits t N D n))) g))
+          (record { done = refl; count = refl; quotient = f .0; chosen = quotient-chosen EightBits t N D n p o h (omega arith); remainder = f .1; divides = c .divides; below = c .below });
+    }
+
+pub pair-demand : PairDemand
+pair-demand = record {
+  start = λ N D. (refl, refl);
+  renews = λ t p. renews-next EightBits t (p .table .digits);
+  pair = λ t p N D. pair-after EightBits t N D (p .table .digits);
+  chosen = λ t p N D n o h l. quotient-chosen EightBits t N D n p o h l;
+}
+
 -- the same answer through every table that passes, whatever the arguments
-pub run-same : (t u : List ℕ) → Passes t → Passes u → (N D n : ℕ) (b : List ℕ) (place : ℕ) → runOf t N D n b place ≡ runOf u N D n b place
+pub run-same : (t u : List ℕ) → Passes EightBits t → Passes EightBits u → (N D n : ℕ) (b : List ℕ) (place : ℕ) → runOf t N D n b place ≡ runOf u N D n b place
 run-same t u p q N D n b place =
     same-through (λ (x : RunAnswer). x) runZeros p q (runRules N D n (length b) place)
-    (λ e. let s = spans N D n (length b) place e in ap runValues (result-divides t N D n p (s .operands) (s .some) ∙ sym (result-divides u N D n q (s .operands) (s .some))))
+    (λ e. let s = spans N D n (length b) place e in ap runValues (results-same EightBits EightBits t u N D n p q (s .operands) (s .some)))

@@ -15,66 +15,7 @@ use Rattle.selection.proofs.Tables.{table-of}
 use Rattle.recurrence.specs.Recurrence.{State, cellAt, stepBy, nextOf, after, digitOf, digits, endRemainder, resultOf}
 use Rattle.recurrence.specs.Recheck.{BadStep, ReadsBadOf, ReadsBad, Marks, Copies, RunsClaim, readsBad, runMark, repairedTable}
 use Rattle.recurrence.proofs.Visiting.{cell-below}
-
--- a step that reads a bad cell, and so a first one
-pub first-bad : (t u : List ℕ) (N D n : ℕ) → ReadsBadOf t u N D n → (i : ℕ) × (i < n) × First (BadStep t u N D) i
-first-bad t u N D n r =
-    ⊎-elim (λ x. absurd (x .1 (r .step) (r .early) (r .bad))) (λ x. (_, x .0, x .1))
-    (first-below (λ i. isReplaced t (cellAt (after u N D i))) n (λ i h. replaced-decides t (cellAt (after u N D i)) (cell-below (after u N D i))))
-
--- ---- two tables u and v that agree in each cell that is not bad in t
-
-module _ (t u v : List ℕ) (N D : ℕ) (m : (k : ℕ) → k < 2048 → (ReplacedAt t k → ⊥) → getD u k 0 ≡ getD v k 0) where
-  -- no bad cell is read through u
-  states-same : (i : ℕ) → ((j : ℕ) → j < i → BadStep t u N D j → ⊥) → after u N D i ≡ after v N D i
-  unfolding after nextOf
-  states-same zero h = refl
-  states-same (suc i) h =
-      let p = after u N D i in
-      ap (λ (d : ℕ). stepBy d p) (m (cellAt p) (cell-below p) (h i (omega arith))) ∙ ap (nextOf v) (states-same i (λ j l. h j (omega arith)))
-
-  -- the first bad step
-  first-same : (i : ℕ) → First (BadStep t u N D) i → First (BadStep t v N D) i
-  first-same i f = record {
-    here = subst (λ (p : State). ReplacedAt t (cellAt p)) (states-same i (f .before)) (f .here);
-    before = λ j l w. f .before j l (subst (λ (p : State). ReplacedAt t (cellAt p)) (sym (states-same j (λ k g. f .before k (omega arith)))) w);
-  }
-
-  reads-same : (n : ℕ) → ReadsBadOf t u N D n → ReadsBadOf t v N D n
-  reads-same n r = let f = first-bad t u N D n r in record { step = f .0; early = f .1; bad = first-same (f .0) (f .2) .here }
-
-digits-same : (t u : List ℕ) (N D n : ℕ) → ((i : ℕ) → i ≤ n → after t N D i ≡ after u N D i) → digits t N D n ≡ digits u N D n
-unfolding listFrom
-digits-same t u N D zero e = refl
-digits-same t u N D (suc n) e =
-    let more = ap₂ (λ (ds : List ℕ) (p : State). ds ++ (p .digit ∷ [])) (digits-same t u N D n (λ i l. e i (omega arith))) (e (suc n) (omega arith)) in
-    list-snoc (digitOf t N D) n ∙ more ∙ sym (list-snoc (digitOf u N D) n)
-
-pub runs-claim : (t u : List ℕ) (N D n : ℕ) → Copies t u → RunsClaim t u N D n
-unfolding resultOf endRemainder
-runs-claim t u N D n m =
-    let there = states-same t t u N D (λ k h w. sym (m .copied k h w)) in
-    record {
-      same = λ h.
-          let s : (i : ℕ) → i ≤ n → after t N D i ≡ after u N D i = λ i l. there i (λ j k w. h (record { step = j; early = omega arith; bad = w })) in
-          let d = digits-same t u N D n s in
-          record { states = s; digits = d; remainder = rw d; result = rw d };
-      reads = (reads-same t t u N D (λ k h w. sym (m .copied k h w)) n, reads-same t u t N D (m .copied) n);
-      first = λ i. (first-same t t u N D (λ k h w. sym (m .copied k h w)) i, first-same t u t N D (m .copied) i);
-      there = λ i f. there i (f .before);
-    }
-
--- ---- the test
-
-pub reads-decides : (t u : List ℕ) (N D n : ℕ) → Decides (ReadsBadOf t u N D n) (readsBad t u N D n)
-unfolding readsBad
-reads-decides t u N D zero = decides-no (λ r. omega (arith, r .early))
-reads-decides t u N D (suc n) = go (readsBad t u N D n) (isReplaced t (cellAt (after u N D n))) (reads-decides t u N D n) (replaced-decides t (cellAt (after u N D n)) (cell-below (after u N D n)))
-  where
-    go : (x y : Bool) → Decides (ReadsBadOf t u N D n) x → Decides (BadStep t u N D n) y → Decides (ReadsBadOf t u N D (suc n)) (x || y)
-    go true y d e = let r = d .yes refl in decides-yes (record { step = r .step; early = omega (arith, r .early); bad = r .bad })
-    go false true d e = decides-yes (record { step = n; early = omega arith; bad = e .yes refl })
-    go false false d e = decides-no (λ r. ⊎-elim (λ (q : r .step ≡ n). e .no refl (subst (BadStep t u N D) q (r .bad))) (λ (l : r .step < n). d .no refl (record { step = r .step; early = l; bad = r .bad })) (eq-or-lt-of-le (omega (arith, r .early))))
+use Rattle.selection.specs.declared.Estimate.{Estimate}
 
 -- ---- marks
 
@@ -82,9 +23,6 @@ reads-decides t u N D (suc n) = go (readsBad t u N D n) (isReplaced t (cellAt (a
 pub mark-right : {P : Type 0} (x : Bool) → Decides P x → Marks P (cond x 1 0)
 mark-right true d = record { marked = λ p. refl; unmarked = λ n. absurd (n (d .yes refl)) }
 mark-right false d = record { marked = λ p. absurd (d .no refl p); unmarked = λ n. refl }
-
-pub run-mark-right : (t : List ℕ) (N D n : ℕ) → Marks (ReadsBad t N D n) (runMark t N D n)
-run-mark-right t N D n = mark-right (readsBad t t N D n) (reads-decides t t N D n)
 
 -- what a mark says, where a test decides
 pub mark-none : {P : Type 0} {m : ℕ} → Marks P m → m ≡ 0 → P → ⊥
@@ -99,14 +37,79 @@ pub mark-one : {P : Type 0} {m n : ℕ} (x : Bool) → Decides P x → Marks P m
 mark-one true d u v = u .marked (d .yes refl) ∙ sym (v .marked (d .yes refl))
 mark-one false d u v = u .unmarked (d .no refl) ∙ sym (v .unmarked (d .no refl))
 
--- ---- the repair copies the good cells, and passes
+-- in a divider with the estimate E
+module _ (E : Estimate) where
+  -- a step that reads a bad cell, and so a first one
+  pub first-bad : (t u : List ℕ) (N D n : ℕ) → ReadsBadOf E t u N D n → (i : ℕ) × (i < n) × First (BadStep E t u N D) i
+  first-bad t u N D n r =
+      ⊎-elim (λ x. absurd (x .1 (r .step) (r .early) (r .bad))) (λ x. (_, x .0, x .1))
+      (first-below (λ i. isReplaced E t (cellAt E (after E u N D i))) n (λ i h. replaced-decides E t (cellAt E (after E u N D i)) (cell-below E (after E u N D i))))
 
-module _ (t : List ℕ) where
-  pub repair-copies : Copies t (repairedTable t)
-  repair-copies = record { copied = λ k h n. list-value (repairedByte t) 0 2048 k h ∙ cell-repaired t k h .copied n }
+  -- ---- two tables u and v that agree in each cell that is not bad in t
 
-  pub repair-passes : Passes (repairedTable t)
-  repair-passes = record {
-    table = table-of (repairedTable t) (list-length (repairedByte t) 0 2048) (λ k h w. omega (arith, list-value (repairedByte t) 0 2048 k h, allowed-byte t k h (cell-repaired t k h) .0));
-    allowed = λ k h. rw (list-value (repairedByte t) 0 2048 k h) (allowed-byte t k h (cell-repaired t k h) .1);
-  }
+  module _ (t u v : List ℕ) (N D : ℕ) (m : (k : ℕ) → k < 2048 → (ReplacedAt E t k → ⊥) → getD u k 0 ≡ getD v k 0) where
+    -- no bad cell is read through u
+    states-same : (i : ℕ) → ((j : ℕ) → j < i → BadStep E t u N D j → ⊥) → after E u N D i ≡ after E v N D i
+    unfolding after nextOf
+    states-same zero h = refl
+    states-same (suc i) h =
+        let p = after E u N D i in
+        ap (λ (d : ℕ). stepBy d p) (m (cellAt E p) (cell-below E p) (h i (omega arith))) ∙ ap (nextOf E v) (states-same i (λ j l. h j (omega arith)))
+
+    -- the first bad step
+    first-same : (i : ℕ) → First (BadStep E t u N D) i → First (BadStep E t v N D) i
+    first-same i f = record {
+      here = subst (λ (p : State). ReplacedAt E t (cellAt E p)) (states-same i (f .before)) (f .here);
+      before = λ j l w. f .before j l (subst (λ (p : State). ReplacedAt E t (cellAt E p)) (sym (states-same j (λ k g. f .before k (omega arith)))) w);
+    }
+
+    reads-same : (n : ℕ) → ReadsBadOf E t u N D n → ReadsBadOf E t v N D n
+    reads-same n r = let f = first-bad t u N D n r in record { step = f .0; early = f .1; bad = first-same (f .0) (f .2) .here }
+
+  digits-same : (t u : List ℕ) (N D n : ℕ) → ((i : ℕ) → i ≤ n → after E t N D i ≡ after E u N D i) → digits E t N D n ≡ digits E u N D n
+  unfolding listFrom
+  digits-same t u N D zero e = refl
+  digits-same t u N D (suc n) e =
+      let more = ap₂ (λ (ds : List ℕ) (p : State). ds ++ (p .digit ∷ [])) (digits-same t u N D n (λ i l. e i (omega arith))) (e (suc n) (omega arith)) in
+      list-snoc (digitOf E t N D) n ∙ more ∙ sym (list-snoc (digitOf E u N D) n)
+
+  pub runs-claim : (t u : List ℕ) (N D n : ℕ) → Copies E t u → RunsClaim E t u N D n
+  unfolding resultOf endRemainder
+  runs-claim t u N D n m =
+      let there = states-same t t u N D (λ k h w. sym (m .copied k h w)) in
+      record {
+        same = λ h.
+            let s : (i : ℕ) → i ≤ n → after E t N D i ≡ after E u N D i = λ i l. there i (λ j k w. h (record { step = j; early = omega arith; bad = w })) in
+            let d = digits-same t u N D n s in
+            record { states = s; digits = d; remainder = rw d; result = rw d };
+        reads = (reads-same t t u N D (λ k h w. sym (m .copied k h w)) n, reads-same t u t N D (m .copied) n);
+        first = λ i. (first-same t t u N D (λ k h w. sym (m .copied k h w)) i, first-same t u t N D (m .copied) i);
+        there = λ i f. there i (f .before);
+      }
+
+  -- ---- the test
+
+  pub reads-decides : (t u : List ℕ) (N D n : ℕ) → Decides (ReadsBadOf E t u N D n) (readsBad E t u N D n)
+  unfolding readsBad
+  reads-decides t u N D zero = decides-no (λ r. omega (arith, r .early))
+  reads-decides t u N D (suc n) = go (readsBad E t u N D n) (isReplaced E t (cellAt E (after E u N D n))) (reads-decides t u N D n) (replaced-decides E t (cellAt E (after E u N D n)) (cell-below E (after E u N D n)))
+    where
+      go : (x y : Bool) → Decides (ReadsBadOf E t u N D n) x → Decides (BadStep E t u N D n) y → Decides (ReadsBadOf E t u N D (suc n)) (x || y)
+      go true y d e = let r = d .yes refl in decides-yes (record { step = r .step; early = omega (arith, r .early); bad = r .bad })
+      go false true d e = decides-yes (record { step = n; early = omega arith; bad = e .yes refl })
+      go false false d e = decides-no (λ r. ⊎-elim (λ (q : r .step ≡ n). e .no refl (subst (BadStep E t u N D) q (r .bad))) (λ (l : r .step < n). d .no refl (record { step = r .step; early = l; bad = r .bad })) (eq-or-lt-of-le (omega (arith, r .early))))
+
+  pub run-mark-right : (t : List ℕ) (N D n : ℕ) → Marks (ReadsBad E t N D n) (runMark E t N D n)
+  run-mark-right t N D n = mark-right (readsBad E t t N D n) (reads-decides t t N D n)
+
+  -- ---- the repair copies the good cells, and passes
+
+  module _ (t : List ℕ) where
+    pub repair-copies : Copies E t (repairedTable E t)
+    repair-copies = record { copied = λ k h n. list-value (repairedByte E t) 0 2048 k h ∙ cell-repaired E t k h .copied n }
+
+    pub repair-passes : Passes E (repairedTable E t)
+    repair-passes = record {
+      table = table-of (repairedTable E t) (list-length (repairedByte E t) 0 2048) (λ k h w. omega (arith, list-value (repairedByte E t) 0 2048 k h, allowed-byte E t k h (cell-repaired E t k h) .0));
+      allowed = λ k h. rw (list-value (repairedByte E t) 0 2048 k h) (allowed-byte E t k h (cell-repaired E t k h) .1);
+    }

@@ -23,26 +23,27 @@ use Rattle.recurrence.proofs.Digits.{divisor-after}
 use Rattle.recurrence.proofs.StepRange.{by-neither}
 use Rattle.recurrence.proofs.Refusals.{same-through}
 use Rattle.recurrence.proofs.RunDemand.{range, run-claim}
+use Rattle.selection.specs.declared.Estimate.the-variants.{EightBits}
 
 -- ---- one step
 
-module _ (s k D : ℕ) (t : List ℕ) (ok : Passes t) (least : 2 ^ 60 ≤ D) (most : D < 2 ^ 61) (w : Within 8 D (pos 3 *ℤ signed (s + k))) where
-  pub step-done : stepOf s k D t ≡ stepValues (nextOf t (stateFrom s k D))
+module _ (s k D : ℕ) (t : List ℕ) (ok : Passes EightBits t) (least : 2 ^ 60 ≤ D) (most : D < 2 ^ 61) (w : Within 8 D (pos 3 *ℤ signed (s + k))) where
+  pub step-done : stepOf s k D t ≡ stepValues (nextOf EightBits t (stateFrom s k D))
   step-done =
-      ap (answerBy stepZeros (stepValues (nextOf t (stateFrom s k D))))
-      (passed-last ok (stepRules s k D) ∙ by-neither s k D least most (⊎-elim (λ x. clashℤ x (w .low)) (λ x. clashℤ x (w .high))))
+      ap (answerBy stepZeros (stepValues (nextOf EightBits t (stateFrom s k D))))
+      (passed-last EightBits ok (stepRules s k D) ∙ by-neither s k D least most (⊎-elim (λ x. clashℤ x (w .low)) (λ x. clashℤ x (w .high))))
 
   in-range : InRange (stateFrom s k D)
   in-range =
       let e = residue-biased (stateFrom s k D) in
       record { least = least; most = most; above = omega (arith, simp diffs at (rw e at (w .low))); below = omega (arith, simp diffs at (rw e at (w .high))) }
 
-  stepped : Stepped s k D (getD t (128 * row D + column s k) 0) (stepOf s k D t)
+  stepped : Stepped s k D (getD t (128 * row D + column EightBits s k) 0) (stepOf s k D t)
   unfolding nextOf
   stepped =
       let p = stateFrom s k D in
-      let d = getD t (cellAt p) 0 in
-      let f = table-digit-allowed t p ok in-range in
+      let d = getD t (cellAt EightBits p) 0 in
+      let f = table-digit-allowed EightBits t p ok in-range in
       rw step-done
       (record {
         done = refl;
@@ -63,15 +64,15 @@ part-at b ds rest place i h l =
     let e : length (take place b) ≡ place = rw length-take (omega arith) in
     ap (λ (m : ℕ). getD (take place b ++ (ds ++ rest)) (m + i) 0) (sym e) ∙ getD-append-add (take place b) (ds ++ rest) i 0 ∙ List·getD-append ds rest 0 i l
 
-module _ (t : List ℕ) (N D : ℕ) (ok : Passes t) (o : Operands N D) where
+module _ (t : List ℕ) (N D : ℕ) (ok : Passes EightBits t) (o : Operands N D) where
   -- a step asks nothing of a state but its words and its divisor
-  from-state : (i : ℕ) → stepOf (after t N D i .sum) (after t N D i .carry) D t ≡ stepValues (after t N D (suc i))
+  from-state : (i : ℕ) → stepOf (after EightBits t N D i .sum) (after EightBits t N D i .carry) D t ≡ stepValues (after EightBits t N D (suc i))
   unfolding after nextOf
   from-state i =
-      let p = after t N D i in
-      step-done (p .sum) (p .carry) D t ok (o .least) (o .most) (range t N D ok o i) ∙ ap (λ (x : ℕ). stepValues (nextOf t (stateFrom (p .sum) (p .carry) x))) (sym (divisor-after t N D i))
+      let p = after EightBits t N D i in
+      step-done (p .sum) (p .carry) D t ok (o .least) (o .most) (range EightBits t N D ok o i) ∙ ap (λ (x : ℕ). stepValues (nextOf EightBits t (stateFrom (p .sum) (p .carry) x))) (sym (divisor-after EightBits t N D i))
 
-  pub fed-back : (i : ℕ) → fedBack t N D i ≡ stepValues (after t N D (suc i))
+  pub fed-back : (i : ℕ) → fedBack t N D i ≡ stepValues (after EightBits t N D (suc i))
   unfolding fedBack after
   fed-back zero = from-state 0
   fed-back (suc i) = rw (fed-back i) (from-state (suc i))
@@ -81,7 +82,7 @@ module _ (t : List ℕ) (N D : ℕ) (ok : Passes t) (o : Operands N D) where
       let c = run-claim t ok N D n b place o h l r in
       record {
         done = λ i m. rw (fed-back i);
-        digits = λ i m. rw (fed-back i, c .written, part-at b (digits t N D n) (drop (place + n) b) place i (omega arith) (omega (arith, c .many)), list-value (digitOf t N D) 0 n i m);
+        digits = λ i m. rw (fed-back i, c .written, part-at b (digits EightBits t N D n) (drop (place + n) b) place i (omega arith) (omega (arith, c .steps .many)), list-value (digitOf EightBits t N D) 0 n i m);
       }
 
 -- ---- all as one statement
@@ -97,8 +98,8 @@ step-demand = record {
 
 -- a step through the made table, with words and divisor in their spans
 worked : (s k D : ℕ) {x : StepAnswer} → T (leb (2 ^ 60) D) → T (ltb D (2 ^ 61)) → T (leZ (negℤ (pos (8 * D))) (pos 3 *ℤ signed (s + k))) → T (leZ (pos 3 *ℤ signed (s + k)) (pos (8 * D)))
-    → stepValues (nextOf madeTable (stateFrom s k D)) ≡ x → stepOf s k D madeTable ≡ x
-worked s k D l m low high e = step-done s k D madeTable kept-passes (leb→le _ _ l) (ltb→lt _ _ m) (record { low = leZ-yes low; high = leZ-yes high }) ∙ e
+    → stepValues (nextOf EightBits (madeTable EightBits) (stateFrom s k D)) ≡ x → stepOf s k D (madeTable EightBits) ≡ x
+worked s k D l m low high e = step-done s k D (madeTable EightBits) (kept-passes EightBits) (leb→le _ _ l) (ltb→lt _ _ m) (record { low = leZ-yes low; high = leZ-yes high }) ∙ e
 
 pub step-example : StepExample
 unfolding madeTable listFrom madeOf allowsOf nextOf digit signed

@@ -12,6 +12,7 @@ use Rattle.recurrence.specs.FastRun.{distanceOf}
 use Rattle.recurrence.specs.Recurrence.{stateFrom, nextOf}
 use Rattle.recurrence.specs.Step.{stepRules, stepZeros, stepValues, stepOf}
 use Rattle.recurrence.specs.declared.step.StepAnswer.{StepAnswer}
+use Rattle.selection.specs.declared.Estimate.the-variants.{EightBits}
 
 module _ (s k D : ℕ) where
   -- the second condition
@@ -22,9 +23,9 @@ module _ (s k D : ℕ) where
   unfolding stepRules rank
   step-rules = record { sound = (tt, λ _. (tt, λ _. tt)); in-order = tt }
 
-  pub step-lent : (t : List ℕ) → WellFormed (stepRules s k D ++ tableRules t)
+  pub step-lent : (t : List ℕ) → WellFormed (stepRules s k D ++ tableRules EightBits t)
   unfolding stepRules tableRules rank
-  step-lent t = lent (stepRules s k D) t step-rules tt
+  step-lent t = lent EightBits (stepRules s k D) t step-rules tt
 
   -- the code's test
   pub outside : 8 * D / 3 < distanceOf ((s + k) % 2 ^ 64) → Holds out-of-range
@@ -54,6 +55,6 @@ module _ (s k D : ℕ) where
   step-span e = omega (arith, cleared step-rules e .0 .1)
 
   -- the answer, by the first refusal v, where a is that of the arguments
-  pub step-answered : (t : List ℕ) {a w v : Admission} {x : StepAnswer} → a ≡ firstRefusal (stepRules s k D) → w ≡ firstOf a (firstRefusal (tableRules t)) → w ≡ v
-      → x ≡ answerBy stepZeros (stepValues (nextOf t (stateFrom s k D))) v → x ≡ stepOf s k D t
-  step-answered t e f g h = rw (h, ← first-lent (stepRules s k D) t f e g) refl
+  pub step-answered : (t : List ℕ) {a w v : Admission} {x : StepAnswer} → a ≡ firstRefusal (stepRules s k D) → w ≡ firstOf a (firstRefusal (tableRules EightBits t)) → w ≡ v
+      → x ≡ answerBy stepZeros (stepValues (nextOf EightBits t (stateFrom s k D))) v → x ≡ stepOf s k D t
+  step-answered t e f g h = rw (h, ← first-lent EightBits (stepRules s k D) t f e g) refl

@@ -8,11 +8,12 @@ use Rattle.selection.specs.Word.{Within}
 use Rattle.selection.specs.Cell.{row, column, digit}
 use Rattle.selection.specs.Table.{Passes}
 use Rattle.selection.proofs.BiasedPoints.{signed-diff, digit-diff}
-use Rattle.selection.proofs.Columns.{row-in, column-of}
+use Rattle.selection.proofs.Columns.{row-in, column-small, column-of}
 use Rattle.selection.proofs.Reports.{passes-at}
 use Rattle.recurrence.specs.CarrySave.{sum3, maj3, multiple, lowestCarry}
 use Rattle.recurrence.specs.Recurrence.{State, residue, cellAt, stepBy}
 use Rattle.recurrence.proofs.CarrySave.{carry-save}
+use Rattle.selection.specs.declared.Estimate.{Estimate}
 
 abbrev pub biased : State → ℕ
 biased p = (p .sum + p .carry + 2 ^ 63) % 2 ^ 64
@@ -41,18 +42,6 @@ pub record AllowedAt (d : ℕ) (p : State) : Type 0 where
   pub low : 3 * (d * p .divisor) + 3 * 2 ^ 63 ≤ 3 * biased p + 8 * p .divisor
   pub high : 3 * biased p + 4 * p .divisor ≤ 3 * (d * p .divisor) + 3 * 2 ^ 63
 
--- the digit of a table that passes: divisor and remainder are a point of the state's cell
-pub table-digit-allowed : (t : List ℕ) (p : State) → Passes t → InRange p → AllowedAt (getD t (cellAt p) 0) p
-table-digit-allowed t p ok g =
-    let d = getD t (cellAt p) 0 in
-    let w = passes-at ok (row (p .divisor)) (column (p .sum) (p .carry)) (omega arith) (omega arith) (p .divisor) (residue p)
-    (record { row = row-in (p .divisor) (g .least) (g .most) .1; column = column-of (p .sum) (p .carry); range = range-of p g }) in
-    record {
-      byte = ok .table .digits (cellAt p);
-      low = omega (arith, simp diffs at (rw (residue-biased p, digit-diff d) at (w .low)));
-      high = omega (arith, simp diffs at (rw (residue-biased p, digit-diff d) at (w .high)));
-    }
-
 module _ (d : ℕ) (p : State) (g : InRange p) (f : AllowedAt d p) where
   -- P′ = 4 (P − qD)
   pub step-law : biased (stepBy d p) + 4 * (d * p .divisor) + 3 * 2 ^ 63 ≡ 4 * biased p + 8 * p .divisor
@@ -80,3 +69,17 @@ module _ (d : ℕ) (p : State) (g : InRange p) (f : AllowedAt d p) where
   step-in-range =
       let e = step-law in
       record { least = g .least; most = g .most; above = omega arith; below = omega arith }
+
+-- in a divider with the estimate E
+module _ (E : Estimate) where
+  -- the digit of a table that passes: divisor and remainder are a point of the state's cell
+  pub table-digit-allowed : (t : List ℕ) (p : State) → Passes E t → InRange p → AllowedAt (getD t (cellAt E p) 0) p
+  table-digit-allowed t p ok g =
+      let d = getD t (cellAt E p) 0 in
+      let w = passes-at E ok (row (p .divisor)) (column E (p .sum) (p .carry)) (omega arith) (column-small E (p .sum) (p .carry)) (p .divisor) (residue p)
+      (record { row = row-in (p .divisor) (g .least) (g .most) .1; column = column-of E (p .sum) (p .carry); range = range-of p g }) in
+      record {
+        byte = ok .table .digits (cellAt E p);
+        low = omega (arith, simp diffs at (rw (residue-biased p, digit-diff d) at (w .low)));
+        high = omega (arith, simp diffs at (rw (residue-biased p, digit-diff d) at (w .high)));
+      }

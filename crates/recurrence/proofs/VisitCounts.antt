@@ -19,12 +19,13 @@ use Rattle.recurrence.specs.Recurrence.{cellAt, nextOf, after}
 use Rattle.recurrence.specs.Visits.{isAt, runVisits, visitsOf, VisitsClaim, visitsRules, visitsAnswer, visitsLeft, Visits, Significant, OperandOnce, VisitsShown, VisitsDemand, VisitsExample}
 use Rattle.recurrence.specs.VisitSteps.{VisitsSpans, visitsByDivisors, visitsByPairs}
 use Rattle.recurrence.proofs.Visiting.{sum-at, at-here, at-other, cell-below, unit-some, placed-span, pairs-most, product-most, few-bits, placed-bits}
+use Rattle.selection.specs.declared.Estimate.the-variants.{EightBits}
 
 -- ---- the sum over all cells
 
 run-total : (t : List ℕ) (N D n : ℕ) → sumBelow (runVisits t N D n) 2048 ≡ n
 unfolding runVisits
-run-total t N D n = sum-swap (λ i. isAt (cellAt (after t N D i))) n 2048 ∙ sum-all _ 1 n (λ i h. sum-at (cellAt (after t N D i)) 2048 (cell-below (after t N D i))) ∙ omega arith
+run-total t N D n = sum-swap (λ i. isAt (cellAt EightBits (after EightBits t N D i))) n 2048 ∙ sum-all _ 1 n (λ i h. sum-at (cellAt EightBits (after EightBits t N D i)) 2048 (cell-below EightBits (after EightBits t N D i))) ∙ omega arith
 
 module _ (t : List ℕ) (m u n : ℕ) where
   divisors-total : (N : ℕ) → sumBelow (visitsByDivisors t m u n N) 2048 ≡ m * n
@@ -59,9 +60,9 @@ module _ (k n len : ℕ) where
   unfolding visitsRules rank
   visits-rules = record { sound = (tt, λ _. (tt, λ _. (tt, λ _. tt))); in-order = tt }
 
-  pub visits-lent : (t : List ℕ) → WellFormed (visitsRules k n len ++ tableRules t)
+  pub visits-lent : (t : List ℕ) → WellFormed (visitsRules k n len ++ tableRules EightBits t)
   unfolding visitsRules tableRules rank
-  visits-lent t = lent (visitsRules k n len) t visits-rules tt
+  visits-lent t = lent EightBits (visitsRules k n len) t visits-rules tt
 
   -- arguments without a refusal of their own are in their spans
   pub visits-spans : firstRefusal (visitsRules k n len) ≡ Admitted → VisitsSpans k n len
@@ -74,7 +75,7 @@ module _ (k n len : ℕ) where
   visits-clear some most h l r = clear-admits visits-rules (omega arith)
 
 module _ (t : List ℕ) (k n : ℕ) (v : List ℕ) where
-  room : ((m p : ℕ) → Wrongs (visitsRules k n (length v) ++ tableRules t) m p → ⊥) → 2048 ≤ length v
+  room : ((m p : ℕ) → Wrongs (visitsRules k n (length v) ++ tableRules EightBits t) m p → ⊥) → 2048 ≤ length v
   unfolding visitsRules
   room a = none-clear (visits-lent k n (length v) t) a .1 .1 .0
 
@@ -88,14 +89,14 @@ module _ (t : List ℕ) (k n : ℕ) (v : List ℕ) where
       }
 
   -- what the code asks: by the first refusal r, where a is that of the arguments
-  pub visits-told : {a u r : Admission} {w : List ℕ} {f : Refusal} → a ≡ firstRefusal (visitsRules k n (length v)) → u ≡ firstOf a (firstRefusal (tableRules t)) → u ≡ r
+  pub visits-told : {a u r : Admission} {w : List ℕ} {f : Refusal} → a ≡ firstRefusal (visitsRules k n (length v)) → u ≡ firstOf a (firstRefusal (tableRules EightBits t)) → u ≡ r
       → f ≡ refusalOf r → w ≡ answerBy (λ f. v) (filled (visitsOf t k n) 2048 v) r → (f ≡ visitsAnswer t k n v) × (w ≡ visitsLeft t k n v) × Visits t k n v w f
-  visits-told i j l g h = rw (g, h, ← first-lent (visitsRules k n (length v)) t j i l) (refl, refl, visits-right)
+  visits-told i j l g h = rw (g, h, ← first-lent EightBits (visitsRules k n (length v)) t j i l) (refl, refl, visits-right)
 
 -- what is accepted, and what the list then shows
-visits-shown : (t : List ℕ) (k n : ℕ) (v : List ℕ) → 1 ≤ n → n ≤ 28 → 1 ≤ k → k ≤ 6 → 2048 ≤ length v → Passes t → VisitsShown t k n v
+visits-shown : (t : List ℕ) (k n : ℕ) (v : List ℕ) → 1 ≤ n → n ≤ 28 → 1 ≤ k → k ≤ 6 → 2048 ≤ length v → Passes EightBits t → VisitsShown t k n v
 visits-shown t k n v some most h l r p =
-    let e = passed-last p (visitsRules k n (length v)) ∙ visits-clear k n (length v) some most h l r in
+    let e = passed-last EightBits p (visitsRules k n (length v)) ∙ visits-clear k n (length v) some most h l r in
     let w : FilledWith (visitsOf t k n) 2048 v (visitsLeft t k n v) = rw e (fill-right (visitsOf t k n) 2048 v r) in
     let claim = visits-claim t k n in
     record {

@@ -17,6 +17,9 @@ use Rattle.recurrence.specs.VisitSteps.{Added, Room, VisitsSpans, Placed
 use Rattle.recurrence.specs.declared.state.RunState.{RunState}
 use Rattle.recurrence.proofs.Digits.{divisor-after}
 use Rattle.recurrence.proofs.Loop.{stands-next}
+use Rattle.selection.proofs.Columns.{column-small}
+use Rattle.selection.specs.declared.Estimate.{Estimate}
+use Rattle.selection.specs.declared.Estimate.the-variants.{EightBits}
 
 -- ---- one cell
 
@@ -95,42 +98,6 @@ module _ (v : List ℕ) (h : 2048 ≤ length v) where
       })
       (fill-right f 2048 v h)
 
--- ---- a run
-
-pub cell-below : (p : State) → cellAt p < 2048
-cell-below p = omega arith
-
-pub record Visited (t : List ℕ) (N D n : ℕ) (v₀ v : List ℕ) (state : RunState) (i : ℕ) : Type 0 where
-  pub stands : state ≡ withColumn (after t N D i)
-  pub turned : Turned (λ j. isAt (cellAt (after t N D j))) n v₀ v i
-
-module _ (t : List ℕ) (N D n : ℕ) where
-  pub visited-none : (v : List ℕ) (p : RunState) → p ≡ withColumn (startOf N D) → Visited t N D n v v p 0
-  unfolding after
-  visited-none v p e = record { stands = e; turned = turned-none v }
-
-  pub run-most : (c : ℕ) → runVisits t N D n c ≤ n
-  unfolding runVisits
-  run-most c = omega (arith, sum-most (λ i. isAt (cellAt (after t N D i)) c) 1 n (λ i h. at-most (cellAt (after t N D i)) c))
-
-  module _ {v₀ v : List ℕ} {p : RunState} {i start : ℕ} (x : Visited t N D n v₀ v p i) (s : start ≡ 128 * row D) where
-    -- the index of the state's cell
-    cell-is : start + p .column ≡ cellAt (after t N D i)
-    cell-is = rw (x .stands, s, divisor-after t N D i) refl
-
-    pub cell-small : start + p .column < 2048
-    cell-small = rw cell-is (cell-below (after t N D i))
-
-    pub visited-more : {q : RunState} → i < n → 2048 ≤ length v₀ → q ≡ withColumn (nextOf t (stateOf p))
-        → Visited t N D n v₀ (set v (start + p .column) (getD v (start + p .column) 0 + 1)) q (i + 1)
-    visited-more l h e = record {
-      stands = stands-next t N D i (x .stands) e;
-      turned = rw cell-is (turned-more (x .turned) l (added-one v (cellAt (after t N D i)) (cell-below (after t N D i)) (omega (arith, x .turned .added .size))));
-    }
-
-    pub visited-room : i < n → Room n v₀ → Room 1 v
-    visited-room h r = let e : n * 1 ≡ n = omega arith in turned-room (x .turned) (λ j. at-most (cellAt (after t N D j))) h (rw e r)
-
 -- ---- all runs
 
 pub unit-some : (m u : ℕ) → m * u ≡ 2 ^ 60 → 0 < u
@@ -143,15 +110,6 @@ placed-span {m} {u} x p h =
     let l : x * u < m * u = mul-lt-mul-of-pos-right h (unit-some m u (p .reach)) in
     let e = p .reach in
     (omega arith, omega arith)
-
-module _ (t : List ℕ) (m u n : ℕ) where
-  pub divisors-most : (N c : ℕ) → visitsByDivisors t m u n N c ≤ m * n
-  unfolding visitsByDivisors
-  divisors-most N c = sum-most (λ y. runVisits t N ((m + y) * u) n c) n m (λ y h. run-most t N ((m + y) * u) n c)
-
-  pub pairs-most : (c : ℕ) → visitsByPairs t m u n c ≤ m * (m * n)
-  unfolding visitsByPairs
-  pairs-most c = sum-most (λ x. visitsByDivisors t m u n ((m + x) * u) c) (m * n) m (λ x h. divisors-most ((m + x) * u) c)
 
 -- ---- for k bits
 
@@ -185,3 +143,50 @@ module _ {k n : ℕ} (v : List ℕ) {l : List ℕ} (r : VisitsSpans k n (length 
   pub bits-done : (t : List ℕ) {w : List ℕ} → Added (visitsByPairs t (1 * 2 ^ (k - 1) % 2 ^ 64) (1 * 2 ^ (61 - k) % 2 ^ 64) n) l w → w ≡ filled (visitsOf t k n) 2048 v
   unfolding visitsByPairs visitsByDivisors visitsOf
   bits-done t x = added-cleared v (r .room) (rw (first, second, e) at x)
+
+-- in a divider with the estimate E
+module _ (E : Estimate) where
+  -- ---- a run
+
+  pub cell-below : (p : State) → cellAt E p < 2048
+  cell-below p = omega (arith, column-small E (p .sum) (p .carry))
+
+pub record Visited (t : List ℕ) (N D n : ℕ) (v₀ v : List ℕ) (state : RunState) (i : ℕ) : Type 0 where
+  pub stands : state ≡ withColumn (after EightBits t N D i)
+  pub turned : Turned (λ j. isAt (cellAt EightBits (after EightBits t N D j))) n v₀ v i
+
+module _ (t : List ℕ) (N D n : ℕ) where
+  pub visited-none : (v : List ℕ) (p : RunState) → p ≡ withColumn (startOf N D) → Visited t N D n v v p 0
+  unfolding after
+  visited-none v p e = record { stands = e; turned = turned-none v }
+
+  pub run-most : (c : ℕ) → runVisits t N D n c ≤ n
+  unfolding runVisits
+  run-most c = omega (arith, sum-most (λ i. isAt (cellAt EightBits (after EightBits t N D i)) c) 1 n (λ i h. at-most (cellAt EightBits (after EightBits t N D i)) c))
+
+  module _ {v₀ v : List ℕ} {p : RunState} {i start : ℕ} (x : Visited t N D n v₀ v p i) (s : start ≡ 128 * row D) where
+    -- the index of the state's cell
+    cell-is : start + p .column ≡ cellAt EightBits (after EightBits t N D i)
+    cell-is = rw (x .stands, s, divisor-after EightBits t N D i) refl
+
+    pub cell-small : start + p .column < 2048
+    cell-small = rw cell-is (cell-below EightBits (after EightBits t N D i))
+
+    pub visited-more : {q : RunState} → i < n → 2048 ≤ length v₀ → q ≡ withColumn (nextOf EightBits t (stateOf p))
+        → Visited t N D n v₀ (set v (start + p .column) (getD v (start + p .column) 0 + 1)) q (i + 1)
+    visited-more l h e = record {
+      stands = stands-next EightBits t N D i (x .stands) e;
+      turned = rw cell-is (turned-more (x .turned) l (added-one v (cellAt EightBits (after EightBits t N D i)) (cell-below EightBits (after EightBits t N D i)) (omega (arith, x .turned .added .size))));
+    }
+
+    pub visited-room : i < n → Room n v₀ → Room 1 v
+    visited-room h r = let e : n * 1 ≡ n = omega arith in turned-room (x .turned) (λ j. at-most (cellAt EightBits (after EightBits t N D j))) h (rw e r)
+
+module _ (t : List ℕ) (m u n : ℕ) where
+  pub divisors-most : (N c : ℕ) → visitsByDivisors t m u n N c ≤ m * n
+  unfolding visitsByDivisors
+  divisors-most N c = sum-most (λ y. runVisits t N ((m + y) * u) n c) n m (λ y h. run-most t N ((m + y) * u) n c)
+
+  pub pairs-most : (c : ℕ) → visitsByPairs t m u n c ≤ m * (m * n)
+  unfolding visitsByPairs
+  pairs-most c = sum-most (λ x. visitsByDivisors t m u n ((m + x) * u) c) (m * n) m (λ x h. divisors-most ((m + x) * u) c)

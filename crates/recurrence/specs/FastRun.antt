@@ -10,10 +10,11 @@ use Rattle.selection.specs.Cell.{column}
 use Rattle.recurrence.specs.Recurrence.{State, appended}
 use Rattle.recurrence.specs.declared.state.RunState.{RunState}
 use Rattle.recurrence.specs.declared.RunResult.{RunResult}
+use Rattle.selection.specs.declared.Estimate.the-variants.{EightBits}
 
 -- a state with its column, and without it
 abbrev pub withColumn : State → RunState
-withColumn p = record { sum = p .sum; carry = p .carry; divisor = p .divisor; column = column (p .sum) (p .carry); digit = p .digit; value = p .value; decremented = p .decremented }
+withColumn p = record { sum = p .sum; carry = p .carry; divisor = p .divisor; column = column EightBits (p .sum) (p .carry); digit = p .digit; value = p .value; decremented = p .decremented }
 
 abbrev pub stateOf : RunState → State
 stateOf p = record { sum = p .sum; carry = p .carry; divisor = p .divisor; digit = p .digit; value = p .value; decremented = p .decremented }
@@ -45,7 +46,7 @@ pub record Multiples (D : ℕ) (ms : List ℕ) (tops : ℕ) : Type 0 where
 pub record StepReady (bytes ms : List ℕ) (tops : ℕ) (p : RunState) : Type 0 where
   pub digits : DigitBytes bytes
   pub multiples : Multiples (p .divisor) ms tops
-  pub current : p .column ≡ column (p .sum) (p .carry)
+  pub current : p .column ≡ column EightBits (p .sum) (p .carry)
 
 -- one of the pair v, u renewed, u the decremented one: with k = 4 + q the value, with k = 3 + q the decremented value. For k below 4 it is u with the bits k, else v with the bits k − 4
 abbrev pub renewed : ℕ → ℕ → ℕ → ℕ

@@ -9,6 +9,7 @@ use lib.Signed.{nonNeg}
 use Rattle.selection.specs.Table.{Passes}
 use Rattle.selection.specs.Computed.{madeTable}
 use Rattle.recurrence.specs.Recurrence.{State, Operands, nextOf, startOf, after, digits, value, endRemainder, resultOf}
+use Rattle.selection.specs.declared.Estimate.the-variants.{EightBits}
 
 -- the word w is the whole number z modulo 2^64
 pub record WordOf (z : ℤ) (w : ℕ) : Type 0 where
@@ -39,15 +40,15 @@ pub record Renews (p q : State) : Type 0 where
 pub record PairDemand : Type 0 where
   pub start : (N D : ℕ) → (startOf N D .value ≡ 0) × (startOf N D .decremented ≡ 2 ^ 64 - 1)
   -- each step renews both; said of every state, reached or not: of a state whose two numbers are one apart a sum would have the same values
-  pub renews : (t : List ℕ) → Passes t → (p : State) → Renews p (nextOf t p)
-  pub pair : (t : List ℕ) → Passes t → (N D i : ℕ) → PairOf (value (digits t N D i)) (after t N D i)
+  pub renews : (t : List ℕ) → Passes EightBits t → (p : State) → Renews p (nextOf EightBits t p)
+  pub pair : (t : List ℕ) → Passes EightBits t → (N D i : ℕ) → PairOf (value (digits EightBits t N D i)) (after EightBits t N D i)
   -- the quotient is one of the last pair, chosen by the end remainder's sign
-  pub chosen : (t : List ℕ) → Passes t → (N D n : ℕ) → Operands N D → 1 ≤ n → n ≤ 31
-      → resultOf t N D n .quotient ≡ cond (nonNeg (endRemainder t N D n)) (after t N D n .value) (after t N D n .decremented)
+  pub chosen : (t : List ℕ) → Passes EightBits t → (N D n : ℕ) → Operands N D → 1 ≤ n → n ≤ 31
+      → resultOf EightBits t N D n .quotient ≡ cond (nonNeg (endRemainder EightBits t N D n)) (after EightBits t N D n .value) (after EightBits t N D n .decremented)
 
 -- an example: bench case 9 (the specification, section 21.5), whose digits are 1, −1, −1 and whose S is 11
 abbrev case-9 : ℕ → State
-case-9 i = after madeTable (2 ^ 60) (3 * 2 ^ 59) i
+case-9 i = after EightBits (madeTable EightBits) (2 ^ 60) (3 * 2 ^ 59) i
 
 pub record PairExample : Type 0 where
   pub one : (case-9 1 .value ≡ 1) × (case-9 1 .decremented ≡ 0)

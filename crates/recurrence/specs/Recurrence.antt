@@ -11,6 +11,7 @@ use Rattle.selection.specs.Word.{signed}
 use Rattle.selection.specs.Cell.{row, column, digit}
 use Rattle.recurrence.specs.CarrySave.{sum3, maj3, multiple, lowestCarry}
 use Rattle.recurrence.specs.declared.RunResult.{RunResult}
+use Rattle.selection.specs.declared.Estimate.{Estimate}
 
 -- a state of the run: the sum word PS, the carry word PC, the divisor, the digit byte of the last step, the value of the digits so far and that value less one (decremented), both modulo 2^64
 pub record State : Type 0 where
@@ -31,10 +32,6 @@ pub record Operands (N D : ℕ) : Type 0 where
 abbrev pub residue : State → ℤ
 residue p = signed (p .sum + p .carry)
 
--- the index of the cell of D and the two words
-abbrev pub cellAt : State → ℕ
-cellAt p = 128 * row (p .divisor) + column (p .sum) (p .carry)
-
 -- two bits appended to x, bits above 63 dropped
 abbrev pub appended : ℕ → ℕ → ℕ
 appended x bits = (x * 4 + bits) % 2 ^ 64
@@ -52,10 +49,6 @@ stepBy d p = record {
   decremented = cond (ltb d 3) (appended (p .decremented) (d + 1)) (appended (p .value) (d - 3));
 }
 
--- one step: the digit is the table's at the cell
-unfoldable pub nextOf : List ℕ → State → State
-nextOf t p = stepBy (getD t (cellAt p) 0) p
-
 -- PS = s, PC = k; no step is done, so the digit byte is that of 0, the value is 0, and one less modulo 2^64 is 2^64 − 1
 abbrev pub stateFrom : ℕ → ℕ → ℕ → State
 stateFrom s k D = record { sum = s; carry = k; divisor = D; digit = 2; value = 0; decremented = 2 ^ 64 - 1 }
@@ -64,27 +57,10 @@ stateFrom s k D = record { sum = s; carry = k; divisor = D; digit = 2; value = 0
 abbrev pub startOf : ℕ → ℕ → State
 startOf N D = stateFrom N 0 D
 
--- the state after i steps
-unfoldable pub after : List ℕ → ℕ → ℕ → ℕ → State
-after t N D zero = startOf N D
-after t N D (suc i) = nextOf t (after t N D i)
-
--- the digit of step i, counted from 0, as a byte
-abbrev pub digitOf : List ℕ → ℕ → ℕ → ℕ → ℕ
-digitOf t N D i = after t N D (suc i) .digit
-
--- the first n digits
-abbrev pub digits : List ℕ → ℕ → ℕ → ℕ → List ℕ
-digits t N D n = listFrom (digitOf t N D) 0 n
-
 -- S, the sum of q_i·4^(n−1−i)
 unfoldable pub value : List ℕ → ℤ
 value [] = pos 0
 value (d ∷ ds) = pos (4 ^ length ds) *ℤ digit d +ℤ value ds
-
--- the end remainder, N·4^(n−1) − S·D
-unfoldable pub endRemainder : List ℕ → ℕ → ℕ → ℕ → ℤ
-endRemainder t N D n = pos (N * 4 ^ (n - 1)) -ℤ value (digits t N D n) *ℤ pos D
 
 -- the correction: where the end remainder R is negative, quotient S − 1 and D is added; otherwise quotient S
 abbrev pub correctedQuotient : ℤ → ℤ → ℤ
@@ -93,7 +69,7 @@ correctedQuotient S R = cond (nonNeg R) S (S -ℤ pos 1)
 abbrev pub correctedRemainder : ℤ → ℕ → ℤ
 correctedRemainder R D = cond (nonNeg R) R (R +ℤ pos D)
 
--- the answer that S and R form. Neither number is negative through a table that passes (`RunClaim`), so that `natAbs` hides nothing
+-- the answer that S and R form. Neither number is negative through a table that passes (`RunsRight`), so that `natAbs` hides nothing
 abbrev pub formed : ℤ → ℤ → ℕ → ℕ → RunResult
 formed S R D n = record {
   quotient = natAbs (correctedQuotient S R);
@@ -101,5 +77,32 @@ formed S R D n = record {
   count = n;
 }
 
-unfoldable pub resultOf : List ℕ → ℕ → ℕ → ℕ → RunResult
-resultOf t N D n = formed (value (digits t N D n)) (endRemainder t N D n) D n
+-- in a divider with the estimate E
+module _ (E : Estimate) where
+  -- the index of the cell of D and the two words
+  abbrev pub cellAt : State → ℕ
+  cellAt p = 128 * row (p .divisor) + column E (p .sum) (p .carry)
+
+  -- one step: the digit is the table's at the cell
+  unfoldable pub nextOf : List ℕ → State → State
+  nextOf t p = stepBy (getD t (cellAt p) 0) p
+
+  -- the state after i steps
+  unfoldable pub after : List ℕ → ℕ → ℕ → ℕ → State
+  after t N D zero = startOf N D
+  after t N D (suc i) = nextOf t (after t N D i)
+
+  -- the digit of step i, counted from 0, as a byte
+  abbrev pub digitOf : List ℕ → ℕ → ℕ → ℕ → ℕ
+  digitOf t N D i = after t N D (suc i) .digit
+
+  -- the first n digits
+  abbrev pub digits : List ℕ → ℕ → ℕ → ℕ → List ℕ
+  digits t N D n = listFrom (digitOf t N D) 0 n
+
+  -- the end remainder, N·4^(n−1) − S·D
+  unfoldable pub endRemainder : List ℕ → ℕ → ℕ → ℕ → ℤ
+  endRemainder t N D n = pos (N * 4 ^ (n - 1)) -ℤ value (digits t N D n) *ℤ pos D
+
+  unfoldable pub resultOf : List ℕ → ℕ → ℕ → ℕ → RunResult
+  resultOf t N D n = formed (value (digits t N D n)) (endRemainder t N D n) D n

@@ -9,6 +9,7 @@ use Rattle.selection.specs.declared.Refusal.{Refusal}
 use Rattle.recurrence.specs.Recurrence.{Operands, digits, resultOf}
 use Rattle.recurrence.specs.declared.RunResult.{RunResult}
 use Rattle.recurrence.specs.declared.RunAnswer.{RunAnswer}
+use Rattle.selection.specs.declared.Estimate.the-variants.{EightBits}
 
 -- the most digits that the recurrence gives: whole-number division needs so many
 abbrev pub longest : ℕ
@@ -55,7 +56,7 @@ runValues x = record { refusal = refusal 0 0; quotient = x .quotient; remainder 
 
 -- the answer, and the buffer that held b: after the arguments' refusals the table's, 8, 9, 10
 abbrev pub runOf : List ℕ → ℕ → ℕ → ℕ → List ℕ → ℕ → RunAnswer
-runOf t N D n b place = answerBy runZeros (runValues (resultOf t N D n)) (firstRefusal (runRules N D n (length b) place ++ tableRules t))
+runOf t N D n b place = answerBy runZeros (runValues (resultOf EightBits t N D n)) (firstRefusal (runRules N D n (length b) place ++ tableRules EightBits t))
 
 abbrev pub bufferOf : List ℕ → ℕ → ℕ → ℕ → List ℕ → ℕ → List ℕ
-bufferOf t N D n b place = answerBy (λ f. b) (written b place (digits t N D n) n) (firstRefusal (runRules N D n (length b) place ++ tableRules t))
+bufferOf t N D n b place = answerBy (λ f. b) (written b place (digits EightBits t N D n) n) (firstRefusal (runRules N D n (length b) place ++ tableRules EightBits t))

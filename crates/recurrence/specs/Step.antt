@@ -11,6 +11,7 @@ use Rattle.selection.specs.declared.Refusal.{Refusal}
 use Rattle.recurrence.specs.Recurrence.{State, stateFrom, nextOf}
 use Rattle.recurrence.specs.Run.{divisorOutside}
 use Rattle.recurrence.specs.declared.step.StepAnswer.{StepAnswer}
+use Rattle.selection.specs.declared.Estimate.the-variants.{EightBits}
 
 -- what a step with PS = s, PC = k refuses of its arguments. 3: D outside its span, from 2^60 to 2^61 - 1. 14: with P read from both words, 3P is below −8D or above 8D
 unfoldable pub stepRules : ℕ → ℕ → ℕ → List Rule
@@ -29,7 +30,7 @@ stepValues p = record { refusal = refusal 0 0; digit = digit (p .digit); sum = p
 
 -- the answer: after the arguments' refusals the table's, 8, 9, 10; else the run's step
 abbrev pub stepOf : ℕ → ℕ → ℕ → List ℕ → StepAnswer
-stepOf s k D t = answerBy stepZeros (stepValues (nextOf t (stateFrom s k D))) (firstRefusal (stepRules s k D ++ tableRules t))
+stepOf s k D t = answerBy stepZeros (stepValues (nextOf EightBits t (stateFrom s k D))) (firstRefusal (stepRules s k D ++ tableRules EightBits t))
 
 -- the answer of call i, counted from 0, to someone who begins at PS = N, PC = 0 and feeds each returned pair back
 unfoldable pub fedBack : List ℕ → ℕ → ℕ → ℕ → StepAnswer

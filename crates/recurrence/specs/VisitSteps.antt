@@ -8,6 +8,7 @@ use Rattle.selection.specs.Cell as Cell
 use Rattle.selection.specs.Table.{Passes}
 use Rattle.recurrence.specs.Row.{Row}
 use Rattle.recurrence.specs.Visits.{runVisits}
+use Rattle.selection.specs.declared.Estimate.the-variants.{EightBits}
 
 -- b is the list a with f c added at each place c of the first 2,048
 pub record Added (f : ℕ → ℕ) (a b : List ℕ) : Type 0 where
@@ -22,7 +23,7 @@ pub record Room (s : ℕ) (a : List ℕ) : Type 0 where
 
 -- the lent table passes, and the lent list has that room
 pub record Lent (t : List ℕ) (s : ℕ) (a : List ℕ) : Type 0 where
-  pub passes : Passes t
+  pub passes : Passes EightBits t
   pub room : Room s a
 
 -- the bytes are those of the row of the divisor D in a table that passes, the row begins at `start`, and D is below 2^61

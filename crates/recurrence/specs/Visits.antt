@@ -15,6 +15,7 @@ use Rattle.selection.specs.Table.{Passes, tableRules}
 use Rattle.selection.specs.declared.Refusal.{Refusal}
 use Rattle.recurrence.specs.Recurrence.{cellAt, after}
 use Rattle.recurrence.specs.Run.{digitsOutside}
+use Rattle.selection.specs.declared.Estimate.the-variants.{EightBits}
 
 -- ---- the counts
 
@@ -24,7 +25,7 @@ isAt a c = cond (eqb a c) 1 0
 
 -- how many of the n digits of N by D are taken at the cell c
 unfoldable pub runVisits : List ℕ → ℕ → ℕ → ℕ → ℕ → ℕ
-runVisits t N D n c = sumBelow (λ i. isAt (cellAt (after t N D i)) c) n
+runVisits t N D n c = sumBelow (λ i. isAt (cellAt EightBits (after EightBits t N D i)) c) n
 
 -- the operand of k significant bits, of which those after the leading one make x; the leading one, bit k - 1, is placed at bit 60
 abbrev pub operand : ℕ → ℕ → ℕ
@@ -42,7 +43,7 @@ pub record Met (t : List ℕ) (k n c : ℕ) : Type 0 where
   pub dividend : x < 2 ^ (k - 1)
   pub divisor : y < 2 ^ (k - 1)
   pub taken : i < n
-  pub here : cellAt (after t (operand k x) (operand k y) i) ≡ c
+  pub here : cellAt EightBits (after EightBits t (operand k x) (operand k y) i) ≡ c
 
 -- what is claimed of the visits, for all k, all n and all tables
 pub record VisitsClaim (t : List ℕ) (k n : ℕ) : Type 0 where
@@ -65,16 +66,16 @@ visitsRules k n len =
 
 -- the answer, and what is left in the list that held v: after the arguments' refusals the table's, 8, 9, 10
 abbrev pub visitsAnswer : List ℕ → ℕ → ℕ → List ℕ → Refusal
-visitsAnswer t k n v = refusalOf (firstRefusal (visitsRules k n (length v) ++ tableRules t))
+visitsAnswer t k n v = refusalOf (firstRefusal (visitsRules k n (length v) ++ tableRules EightBits t))
 
 abbrev pub visitsLeft : List ℕ → ℕ → ℕ → List ℕ → List ℕ
-visitsLeft t k n v = answerBy (λ f. v) (filled (visitsOf t k n) 2048 v) (firstRefusal (visitsRules k n (length v) ++ tableRules t))
+visitsLeft t k n v = answerBy (λ f. v) (filled (visitsOf t k n) 2048 v) (firstRefusal (visitsRules k n (length v) ++ tableRules EightBits t))
 
 -- f is the answer, where the list held v and then holds w: the first 2,048 numbers are the visits of the cells, and the rest is kept
 pub record Visits (t : List ℕ) (k n : ℕ) (v w : List ℕ) (f : Refusal) : Type 0 where
-  pub refuses : RefusedBy (Wrongs (visitsRules k n (length v) ++ tableRules t)) f
-  pub keeps : (m p : ℕ) → IsFirstRefusal (Wrongs (visitsRules k n (length v) ++ tableRules t)) m p → w ≡ v
-  pub counts : ((m p : ℕ) → Wrongs (visitsRules k n (length v) ++ tableRules t) m p → ⊥) → FilledWith (visitsOf t k n) 2048 v w
+  pub refuses : RefusedBy (Wrongs (visitsRules k n (length v) ++ tableRules EightBits t)) f
+  pub keeps : (m p : ℕ) → IsFirstRefusal (Wrongs (visitsRules k n (length v) ++ tableRules EightBits t)) m p → w ≡ v
+  pub counts : ((m p : ℕ) → Wrongs (visitsRules k n (length v) ++ tableRules EightBits t) m p → ⊥) → FilledWith (visitsOf t k n) 2048 v w
 
 -- ---- the demand
 
@@ -106,9 +107,9 @@ pub record VisitsDemand : Type 0 where
   pub operands : (k N : ℕ) → 1 ≤ k → k ≤ 6 → Significant k N ↔ OperandOnce k N
   pub claim : (t : List ℕ) (k n : ℕ) → VisitsClaim t k n
   -- what is accepted, in numbers: a list of exactly 2,048 too
-  pub shown : (t : List ℕ) (k n : ℕ) (v : List ℕ) → 1 ≤ n → n ≤ 28 → 1 ≤ k → k ≤ 6 → 2048 ≤ length v → Passes t → VisitsShown t k n v
+  pub shown : (t : List ℕ) (k n : ℕ) (v : List ℕ) → 1 ≤ n → n ≤ 28 → 1 ≤ k → k ≤ 6 → 2048 ≤ length v → Passes EightBits t → VisitsShown t k n v
 
 -- an example: with two significant bits the operands are 2^60 and 3·2^59, in the rows 0 and 8, and three digits of each of the four pairs through the made table are twelve
 pub record VisitsExample : Type 0 where
-  pub row-0 : (visitsOf madeTable 2 3 47 ≡ 1) × (visitsOf madeTable 2 3 63 ≡ 3) × (visitsOf madeTable 2 3 72 ≡ 1) × (visitsOf madeTable 2 3 76 ≡ 1)
-  pub row-8 : (visitsOf madeTable 2 3 1071 ≡ 2) × (visitsOf madeTable 2 3 1087 ≡ 2) × (visitsOf madeTable 2 3 1096 ≡ 1) × (visitsOf madeTable 2 3 1100 ≡ 1)
+  pub row-0 : (visitsOf (madeTable EightBits) 2 3 47 ≡ 1) × (visitsOf (madeTable EightBits) 2 3 63 ≡ 3) × (visitsOf (madeTable EightBits) 2 3 72 ≡ 1) × (visitsOf (madeTable EightBits) 2 3 76 ≡ 1)
+  pub row-8 : (visitsOf (madeTable EightBits) 2 3 1071 ≡ 2) × (visitsOf (madeTable EightBits) 2 3 1087 ≡ 2) × (visitsOf (madeTable EightBits) 2 3 1096 ≡ 1) × (visitsOf (madeTable EightBits) 2 3 1100 ≡ 1)

@@ -23,6 +23,7 @@ ghost use Rattle.selection.specs.Computed.{madeTable};
 ghost use Rattle.recurrence.specs.Recurrence.{Operands, digits, resultOf};
 ghost use Rattle.recurrence.specs.Row.{Row};
 ghost use Rattle.recurrence.specs.Run.{longest, runRules, RunSpans, written, runZeros, runValues, runOf, bufferOf};
+ghost use Rattle.selection.specs.declared.Estimate.the-variants.{EightBits};
 
 // The spans: a divisor is from 2^60 to 2^61 - 1, a dividend from 0 to 2^61 - 1.
 const DIVISOR_LEAST: u64 = 0x1000_0000_0000_0000;
@@ -55,7 +56,7 @@ pub struct RunResult {
 // call it: it has a `requires`, so that a table checked once is not checked again, and the kept table is not copied.
 pub fn run_row(row: &[u8], dividend: u64, divisor: u64, out: &mut [u8]) -> RunResult
     requires { ⌜ (Row divisor (now row)) × (Operands dividend divisor) × (1 ≤ length (now out)) × (length (now out) ≤ longest) ⌝ }
-    ensures { λ r. ⌜ ((t : List ℕ) → Passes t → now (row .entry) ≡ rowBytes t (Cell.row divisor) → (now (out .exit) ≡ digits t dividend divisor (length (now (out .entry)))) × (r ≡ resultOf t dividend divisor (length (now (out .entry))))) ⌝ }
+    ensures { λ r. ⌜ ((t : List ℕ) → Passes EightBits t → now (row .entry) ≡ rowBytes t (Cell.row divisor) → (now (out .exit) ≡ digits EightBits t dividend divisor (length (now (out .entry)))) × (r ≡ resultOf EightBits t dividend divisor (length (now (out .entry))))) ⌝ }
 {
     let multiples = divisor_multiples(divisor);
     let tops = all_top_bits(&multiples);
@@ -79,7 +80,7 @@ fn run_part(
     place: usize,
 ) -> RunResult
     requires { ⌜ (Row divisor (now row)) × (RunSpans dividend divisor n (length (now buffer)) place) ⌝ }
-    ensures { λ r. ⌜ ((t : List ℕ) → Passes t → now (row .entry) ≡ rowBytes t (Cell.row divisor) → (now (buffer .exit) ≡ written (now (buffer .entry)) place (digits t dividend divisor n) n) × (r ≡ resultOf t dividend divisor n)) ⌝ }
+    ensures { λ r. ⌜ ((t : List ℕ) → Passes EightBits t → now (row .entry) ≡ rowBytes t (Cell.row divisor) → (now (buffer .exit) ≡ written (now (buffer .entry)) place (digits EightBits t dividend divisor n) n) × (r ≡ resultOf EightBits t dividend divisor n)) ⌝ }
 {
     run_row(row, dividend, divisor, &mut buffer[place..place + n])
 }
@@ -93,8 +94,8 @@ fn run_admitted(
     buffer: &mut [u8],
     place: usize,
 ) -> RunResult
-    requires { ⌜ (Passes (now table)) × (RunSpans dividend divisor n (length (now buffer)) place) ⌝ }
-    ensures { λ r. ⌜ (now (buffer .exit) ≡ written (now (buffer .entry)) place (digits (now (table .entry)) dividend divisor n) n) × (r ≡ resultOf (now (table .entry)) dividend divisor n) ⌝ }
+    requires { ⌜ (Passes EightBits (now table)) × (RunSpans dividend divisor n (length (now buffer)) place) ⌝ }
+    ensures { λ r. ⌜ (now (buffer .exit) ≡ written (now (buffer .entry)) place (digits EightBits (now (table .entry)) dividend divisor n) n) × (r ≡ resultOf EightBits (now (table .entry)) dividend divisor n) ⌝ }
 {
     let row = selection::table::row_of(table, divisor);
     run_part(row, dividend, divisor, n, buffer, place)
@@ -186,7 +187,7 @@ pub fn run_kept(
     buffer: &mut [u8],
     place: usize,
 ) -> RunAnswer
-    ensures { λ r. ⌜ (r ≡ runOf madeTable dividend divisor digits (now (buffer .entry)) place) × (now (buffer .exit) ≡ bufferOf madeTable dividend divisor digits (now (buffer .entry)) place) ⌝ }
+    ensures { λ r. ⌜ (r ≡ runOf (madeTable EightBits) dividend divisor digits (now (buffer .entry)) place) × (now (buffer .exit) ≡ bufferOf (madeTable EightBits) dividend divisor digits (now (buffer .entry)) place) ⌝ }
 {
     let admission = argument_refusal(dividend, divisor, digits, buffer.len(), place);
     match admission {

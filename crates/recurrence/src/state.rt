@@ -1,5 +1,6 @@
 // The state of a run, its step, and the answer that the last state gives.
 use crate::RunResult;
+use selection::Estimate;
 use std::num::wrapping_add_u64;
 ghost use mathlib.Core.Path.{_≡_};
 ghost use mathlib.Core.Bool.{cond};
@@ -12,6 +13,7 @@ ghost use Rattle.selection.specs.Table.{rowBytes};
 ghost use Rattle.recurrence.specs.CarrySave.{lowestCarry};
 ghost use Rattle.recurrence.specs.Recurrence.{appended, stepBy, nextOf, stateFrom};
 ghost use Rattle.recurrence.specs.FastRun.{withColumn, stateOf, divisorMultiples, topBitsOf, allTopBits, DigitBytes, Multiples, StepReady, renewed, resultFromWord};
+ghost use Rattle.selection.specs.declared.Estimate.the-variants.{EightBits};
 
 // The next column needs the bits 61 to 53 of a word: what is left of it by 2^62, without the bits below 2^53.
 const TOP_END: u64 = 0x4000_0000_0000_0000;
@@ -58,7 +60,7 @@ pub(crate) fn all_top_bits(m: &[u64; 5]) -> u64
 
 // The column of two words: their truncated estimate, plus 64.
 fn column_of(sum: u64, carry: u64) -> u64
-    ensures { λ r. ⌜ r ≡ column sum carry ⌝ }
+    ensures { λ r. ⌜ r ≡ column EightBits sum carry ⌝ }
 {
     ((sum >> 56) + (carry >> 56) + 128) % 256 / 2
 }
@@ -117,6 +119,17 @@ impl RunState {
         }
     }
 
+    // The column of the two words in a divider with this estimate: the one of eight bits is kept, the one of seven is formed.
+    pub(crate) fn column_for(self, estimate: Estimate) -> u64
+        requires { ⌜ self .column ≡ column EightBits (self .sum) (self .carry) ⌝ }
+        ensures { λ r. ⌜ r ≡ column estimate (self .sum) (self .carry) ⌝ }
+    {
+        match estimate {
+            Estimate::SevenBits => ((self.sum >> 57) + (self.carry >> 57) + 64) % 128,
+            Estimate::EightBits => self.column,
+        }
+    }
+
     // One step by a digit byte. The next column comes from the top bits of the words and of the multiple, ahead of the next words.
     pub(crate) fn step_by(self, digit: u8, multiples: &[u64; 5], tops: u64) -> RunState
         requires { ⌜ (digit ≤ 4) × (Multiples (self .divisor) (now multiples) tops) ⌝ }
@@ -146,7 +159,7 @@ impl RunState {
     // One step, through every table that has these bytes in the divisor's row.
     pub(crate) fn next(self, row: &[u8], multiples: &[u64; 5], tops: u64) -> RunState
         requires { ⌜ StepReady (now row) (now multiples) tops self ⌝ }
-        ensures { λ r. ⌜ ((t : List ℕ) → now (row .entry) ≡ rowBytes t (Cell.row (self .divisor)) → r ≡ withColumn (nextOf t (stateOf self))) ⌝ }
+        ensures { λ r. ⌜ ((t : List ℕ) → now (row .entry) ≡ rowBytes t (Cell.row (self .divisor)) → r ≡ withColumn (nextOf EightBits t (stateOf self))) ⌝ }
     {
         let digit = digit_at(row, self.column as usize);
         self.step_by(digit, multiples, tops)

@@ -12,6 +12,7 @@ ghost use Rattle.selection.specs.Table.{Passes};
 ghost use Rattle.recurrence.specs.Recurrence.{nextOf, stateFrom};
 ghost use Rattle.recurrence.specs.Step.{stepRules, stepZeros, stepValues, stepOf};
 ghost use Rattle.recurrence.specs.FastRun.{withColumn, stateOf, distanceOf};
+ghost use Rattle.selection.specs.declared.Estimate.the-variants.{EightBits};
 
 // The answer, as C sees it: the refusal (0: none) and its place, the digit, from -2 to 2, and the next two words, zeros where the step is refused.
 #[repr(C)]
@@ -50,8 +51,8 @@ fn refusal_of(sum: u64, carry: u64, divisor: u64) -> Admission
 
 // One step through a table that passes.
 fn admitted(sum: u64, carry: u64, divisor: u64, table: &[u8]) -> RunState
-    requires { ⌜ (Passes (now table)) × (divisor < 2 ^ 61) ⌝ }
-    ensures { λ r. ⌜ r ≡ withColumn (nextOf (now (table .entry)) (stateFrom sum carry divisor)) ⌝ }
+    requires { ⌜ (Passes EightBits (now table)) × (divisor < 2 ^ 61) ⌝ }
+    ensures { λ r. ⌜ r ≡ withColumn (nextOf EightBits (now (table .entry)) (stateFrom sum carry divisor)) ⌝ }
 {
     let multiples = crate::state::divisor_multiples(divisor);
     let tops = crate::state::all_top_bits(&multiples);

@@ -13,6 +13,7 @@ ghost use Rattle.selection.specs.Cell as Cell;
 ghost use Rattle.selection.specs.Table.{Passes, rowBytes};
 ghost use Rattle.recurrence.specs.Visits.{visitsRules, runVisits, visitsOf, visitsAnswer, visitsLeft, Visits};
 ghost use Rattle.recurrence.specs.VisitSteps.{Added, Room, Lent, RowAt, VisitsSpans, Placed, visitsByDivisors, visitsByPairs};
+ghost use Rattle.selection.specs.declared.Estimate.the-variants.{EightBits};
 use crate::MOST_DIGITS;
 use crate::state::RunState;
 use crate::state::all_top_bits;
@@ -89,7 +90,7 @@ fn clear(visits: &mut [u32])
 
 // The visits of all runs through a table that passes.
 fn visit_all(table: &[u8], bits: u64, digits: usize, visits: &mut [u32])
-    requires { ⌜ (Passes (now table)) × (VisitsSpans bits digits (length (now visits))) ⌝ }
+    requires { ⌜ (Passes EightBits (now table)) × (VisitsSpans bits digits (length (now visits))) ⌝ }
     ensures { λ r. ⌜ now (visits .exit) ≡ filled (visitsOf (now (table .entry)) bits digits) 2048 (now (visits .entry)) ⌝ }
 {
     clear(visits);

@@ -19,70 +19,73 @@ use Rattle.selection.proofs.RepairAnswers.{repair-admits, length-refused, repai
 use Rattle.selection.proofs.RepairDemand.{repair-demand}
 use Rattle.printing.specs.Text.{decimalUpto, decimalOf, refusalText}
 use Rattle.repair.specs.Changes.{cellText, cellsUpto, changesText, Writes, WritesRead, LineExample}
+use Rattle.selection.specs.declared.Estimate.{Estimate}
 
 -- one cell more
 pub cells-more : (t u : List ℕ) (k : ℕ) → cellsUpto t u k ++ cellText k (getD t k 0) (getD u k 0) ≡ cellsUpto t u (k + 1)
 unfolding cellsUpto
 cells-more t u k = rw add-one
 
--- the call, by the table alone
-module _ (t rs cs : List ℕ) (h : length t ≡ 2048) (r : length rs ≡ 2048) (c : length cs ≡ 2048) where
-  admitted : firstRefusal (repairRules (length t) (length rs) (length cs)) ≡ Admitted
-  admitted = repair-admits (length t) (length rs) (length cs) (record { repaired-room = omega arith; changed-room = omega arith; size = h })
-
-  table-is : repairedOf t rs cs ≡ listFrom (repairedByte t) 0 2048
-  table-is = ap (answerBy (λ f. rs) (filled (repairedByte t) 2048 rs)) admitted ∙ fill-all (repairedByte t) rs 2048 (omega arith)
-
-  count-is : repairOf t rs cs .count ≡ countBelow (isReplaced t) 2048
-  count-is = ap (λ (v : Admission). answerBy repairZeros (record { refusal = refusal 0 0; count = countBelow (isReplaced t) 2048 }) v .count) admitted
-
--- a is the answer of a call with buffers of 2,048 bytes
-pub record Called (t rs cs : List ℕ) (a : RepairAnswer) : Type 0 where
-  pub table-room : length rs ≡ 2048
-  pub marks-room : length cs ≡ 2048
-  pub answer : a ≡ repairOf t rs cs
-
--- what the code of `repair` asks
-module _ {t rs cs : List ℕ} {a : RepairAnswer} (k : Called t rs cs a) where
-  other-length : length t ≢ 2048 → a .refusal ≡ refusal 8 0
-  other-length m = ap (λ (x : RepairAnswer). x .refusal) (k .answer ∙ length-refused t rs cs (omega arith) (omega arith) m)
-
-  size-is : a .refusal .number ≡ 0 → length t ≡ 2048
-  size-is n = equal (length t) 2048 (λ m. let z = ap (λ (f : Refusal). f .number) (other-length m) in omega arith)
-
-  -- a table that was repaired has 2,048 bytes, and so has its repair
-  pub sizes : {x : List ℕ} → a .refusal .number ≡ 0 → x ≡ repairedOf t rs cs → (length t ≡ 2048) × (length x ≡ 2048)
-  sizes n e = let h = size-is n in (h, ap length (e ∙ table-is t rs cs h (k .table-room) (k .marks-room)) ∙ list-length (repairedByte t) 0 2048)
-
-  pub writes-table : {x y : List ℕ} → a .refusal .number ≡ 0 → x ≡ repairedOf t rs cs → y ≡ changesText t x (a .count) → Writes t x y
-  writes-table n ex ey = record {
-    repaired = λ h qs ds q d. (rw (ex, table-is t rs cs h (k .table-room) (k .marks-room), table-is t qs ds h q d), rw (ey, k .answer, count-is t rs cs h (k .table-room) (k .marks-room), count-is t qs ds h q d));
-    refused = λ m. absurd (m (size-is n));
-  }
-
-  pub writes-refusal : {y : List ℕ} → a .refusal .number ≢ 0 → y ≡ refusalText (a .refusal) → Writes t [] y
-  writes-refusal n ey = record {
-    repaired = λ h qs ds q d. absurd (n (rw (k .answer) (ap (λ (f : Refusal). f .number) (repair-told t rs cs h (omega arith) (omega arith)))));
-    refused = λ m. (refl, ey ∙ ap refusalText (other-length m));
-  }
-
--- more than 2,048 bytes of the input settle what is written for all of it
-pub writes-read : {s x y : List ℕ} {n : ℕ} → 2048 < length s → Writes (take n s) x y → WritesRead s n x y
-writes-read {s} {x} {y} h w = record {
-  writes = λ t e. ⊎-elim (λ l. subst (λ (z : List ℕ). Writes z x y) (e ∙ take-all (length s) t l) w)
-      (λ l. record { repaired = λ g. absurd (omega arith); refused = λ g. w .refused (λ q. omega (arith, l, simp length-take at (sym (ap length e) ∙ q))) })
-      (le-or-lt (length t) (length s));
-}
-
--- the table that is written passes
-pub written-passes : {t x y : List ℕ} → length t ≡ 2048 → Writes t x y → Passes x
-written-passes {t} {x} h w =
-    let z = replicate {A = ℕ} 2048 0 in
-    let l : length z ≡ 2048 = length-replicate {A = ℕ} 2048 0 in
-    let told = repair-demand .told t z z h (omega arith) (omega arith) in
-    let e = w .repaired h z z l l .0 in
-    rw e (rw (take-all 2048 (repairedOf t z z) (omega (arith, told .repaired .repaired-kept .size))) at (told .claim .passes))
-
 pub line-example : LineExample
 unfolding decimalOf decimalUpto
 line-example = record { changed = refl; same = refl }
+
+-- in a divider with the estimate E
+module _ (E : Estimate) where
+  -- the call, by the table alone
+  module _ (t rs cs : List ℕ) (h : length t ≡ 2048) (r : length rs ≡ 2048) (c : length cs ≡ 2048) where
+    admitted : firstRefusal (repairRules (length t) (length rs) (length cs)) ≡ Admitted
+    admitted = repair-admits (length t) (length rs) (length cs) (record { repaired-room = omega arith; changed-room = omega arith; size = h })
+
+    table-is : repairedOf E t rs cs ≡ listFrom (repairedByte E t) 0 2048
+    table-is = ap (answerBy (λ f. rs) (filled (repairedByte E t) 2048 rs)) admitted ∙ fill-all (repairedByte E t) rs 2048 (omega arith)
+
+    count-is : repairOf E t rs cs .count ≡ countBelow (isReplaced E t) 2048
+    count-is = ap (λ (v : Admission). answerBy repairZeros (record { refusal = refusal 0 0; count = countBelow (isReplaced E t) 2048 }) v .count) admitted
+
+  -- a is the answer of a call with buffers of 2,048 bytes
+  pub record Called (t rs cs : List ℕ) (a : RepairAnswer) : Type 0 where
+    pub table-room : length rs ≡ 2048
+    pub marks-room : length cs ≡ 2048
+    pub answer : a ≡ repairOf E t rs cs
+
+  -- what the code of `repair` asks
+  module _ {t rs cs : List ℕ} {a : RepairAnswer} (k : Called t rs cs a) where
+    other-length : length t ≢ 2048 → a .refusal ≡ refusal 8 0
+    other-length m = ap (λ (x : RepairAnswer). x .refusal) (k .answer ∙ length-refused E t rs cs (omega arith) (omega arith) m)
+
+    size-is : a .refusal .number ≡ 0 → length t ≡ 2048
+    size-is n = equal (length t) 2048 (λ m. let z = ap (λ (f : Refusal). f .number) (other-length m) in omega arith)
+
+    -- a table that was repaired has 2,048 bytes, and so has its repair
+    pub sizes : {x : List ℕ} → a .refusal .number ≡ 0 → x ≡ repairedOf E t rs cs → (length t ≡ 2048) × (length x ≡ 2048)
+    sizes n e = let h = size-is n in (h, ap length (e ∙ table-is t rs cs h (k .table-room) (k .marks-room)) ∙ list-length (repairedByte E t) 0 2048)
+
+    pub writes-table : {x y : List ℕ} → a .refusal .number ≡ 0 → x ≡ repairedOf E t rs cs → y ≡ changesText E t x (a .count) → Writes E t x y
+    writes-table n ex ey = record {
+      repaired = λ h qs ds q d. (rw (ex, table-is t rs cs h (k .table-room) (k .marks-room), table-is t qs ds h q d), rw (ey, k .answer, count-is t rs cs h (k .table-room) (k .marks-room), count-is t qs ds h q d));
+      refused = λ m. absurd (m (size-is n));
+    }
+
+    pub writes-refusal : {y : List ℕ} → a .refusal .number ≢ 0 → y ≡ refusalText (a .refusal) → Writes E t [] y
+    writes-refusal n ey = record {
+      repaired = λ h qs ds q d. absurd (n (rw (k .answer) (ap (λ (f : Refusal). f .number) (repair-told E t rs cs h (omega arith) (omega arith)))));
+      refused = λ m. (refl, ey ∙ ap refusalText (other-length m));
+    }
+
+  -- more than 2,048 bytes of the input settle what is written for all of it
+  pub writes-read : {s x y : List ℕ} {n : ℕ} → 2048 < length s → Writes E (take n s) x y → WritesRead E s n x y
+  writes-read {s} {x} {y} h w = record {
+    writes = λ t e. ⊎-elim (λ l. subst (λ (z : List ℕ). Writes E z x y) (e ∙ take-all (length s) t l) w)
+        (λ l. record { repaired = λ g. absurd (omega arith); refused = λ g. w .refused (λ q. omega (arith, l, simp length-take at (sym (ap length e) ∙ q))) })
+        (le-or-lt (length t) (length s));
+  }
+
+  -- the table that is written passes
+  pub written-passes : {t x y : List ℕ} → length t ≡ 2048 → Writes E t x y → Passes E x
+  written-passes {t} {x} h w =
+      let z = replicate {A = ℕ} 2048 0 in
+      let l : length z ≡ 2048 = length-replicate {A = ℕ} 2048 0 in
+      let told = repair-demand E .told t z z h (omega arith) (omega arith) in
+      let e = w .repaired h z z l l .0 in
+      rw e (rw (take-all 2048 (repairedOf E t z z) (omega (arith, told .repaired .repaired-kept .size))) at (told .claim .passes))

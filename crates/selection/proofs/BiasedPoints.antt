@@ -7,7 +7,7 @@ use Rattle.laws.proofs.Diff.{diff, diffs, diff-sub, diff-eq}
 use Rattle.laws.proofs.Division.{le-or-lt}
 use Rattle.laws.proofs.Words.{same-mod}
 use Rattle.selection.specs.Word.{signed, Within}
-use Rattle.selection.specs.Cell.{earlierSpan, PointUnder, Keeps, AllowsUnder, Allows, Against, LeastWitness, IsCell, cellRules, CellChecked, CellMeaning, digit}
+use Rattle.selection.specs.Cell.{Point, Keeps, Allows, Against, LeastWitness, IsCell, cellRules, CellChecked, CellMeaning, digit}
 use Rattle.selection.specs.Multiples.{Finding, multiplesOf, testOf, cellVerdictOf}
 use Rattle.selection.specs.Multiples.Finding.{NoWitness, LeastAt}
 use Rattle.selection.specs.Answer.{answerBy}
@@ -17,8 +17,10 @@ use Rattle.selection.specs.declared.CellVerdict.{CellVerdict}
 use Rattle.selection.specs.declared.CellVerdict.the-variants.{Refused}
 use Rattle.selection.proofs.Rules.{WellFormed, by-first}
 use Rattle.selection.proofs.Clear.{none-clear, clear-none, clear-admits}
-use Rattle.selection.proofs.Breaking.{BiasedPointUnder, Low, High, Breaks, IsLeast}
+use Rattle.selection.proofs.Breaking.{BiasedPoint, Low, High, Breaks, IsLeast}
 use Rattle.selection.proofs.Tested.{test-right}
+use Rattle.selection.proofs.Search.{span-most}
+use Rattle.selection.specs.declared.Estimate.{Estimate}
 
 -- a word read as signed is that word with its top bit turned, less 2^63
 pub signed-diff : (n : ℕ) → signed n ≡ diff ((n + 2 ^ 63) % 2 ^ 64) (2 ^ 63)
@@ -48,13 +50,14 @@ within k D a b = ((λ w. (omega (arith, simp diffs at (w .low)), omega (arith, s
 left-over : (b D W : ℕ) → diff W (2 ^ 63) -ℤ pos D *ℤ digit b ≡ diff (W + D * 2) (2 ^ 63 + D * b)
 left-over b D W = rw (digit-diff b) (simp diffs (omega arith))
 
-pub record Biased (m r c D : ℕ) (P : ℤ) : Type 0 where
+pub record Biased (E : Estimate) (r c D : ℕ) (P : ℤ) : Type 0 where
   pub W : ℕ
   pub is : P ≡ diff W (2 ^ 63)
-  pub point : BiasedPointUnder m r c D W
+  pub point : BiasedPoint E r c D W
 
-pub of-point : {m r c D : ℕ} {P : ℤ} → m ≤ earlierSpan → r ≤ 15 → c ≤ 127 → PointUnder m r c D P → Biased m r c D P
-of-point {D = D} hm hr hc p =
+pub of-point : (E : Estimate) {r c D : ℕ} {P : ℤ} → r ≤ 15 → c ≤ 127 → Point E r c D P → Biased E r c D P
+of-point E {D = D} hr hc p =
+    let most = span-most E in
     let e = p .column .is ∙ signed-diff _ in
     let w = within 8 D _ _ .0 (rw e at (p .range)) in
     record { W = _; is = e; point = omega (arith, p .column .small, p .row, w) }
@@ -71,66 +74,65 @@ module _ (b D W : ℕ) where
       (λ k. inr (inl (omega arith)))
       (le-or-lt (3 * (2 ^ 63 + D * b)) (3 * (W + D * 2) + 2 * D))
 
--- a digit that no point breaks is allowed
-pub allows-under : {m r c b : ℕ} → m ≤ earlierSpan → r ≤ 15 → c ≤ 127 → ((D W : ℕ) → BiasedPointUnder m r c D W → Low b D W ⊎ High b D W → ⊥) → AllowsUnder m r c (digit b)
-allows-under {b = b} hm hr hc n D P p =
-    let q = of-point hm hr hc p in
-    rw (q .is) (⊎-elim (λ k. k) (λ k. absurd (n D (q .W) (q .point) k)) (sides b D (q .W)))
-
-module _ {r c b : ℕ} (known : IsCell r c b) where
-  breaks : {D : ℕ} {P : ℤ} → Against r c (digit b) D P → (W : ℕ) × (P ≡ diff W (2 ^ 63)) × Breaks r c b D W
-  breaks {D} a =
-      let p = of-point (omega arith) (known .row) (known .column) (a .point) in
-      (p .W, p .is, record { point = p .point; side = ⊎-elim (λ h. absurd (a .broken (rw (p .is) h))) (λ s. s) (sides b D (p .W)) })
-
-  against : {D W : ℕ} → Breaks r c b D W → Against r c (digit b) D (diff W (2 ^ 63))
-  against {D} {W} k =
-      let e = W - c * 2 ^ 57 in
-      let is : diff W (2 ^ 63) ≡ signed ((c + 64) * 2 ^ 57 + e) = sym (signed-diff _ ∙ ap (λ (n : ℕ). diff n (2 ^ 63)) (omega arith)) in
-      record {
-        point = record { row = omega arith; column = record { e = e; small = omega arith; is = is }; range = within 8 D W (2 ^ 63) .1 (omega arith) };
-        broken = broken b D W (k .side);
-      }
-
-  -- a digit without a witness against it is allowed
-  pub allows-unless : ((D : ℕ) (P : ℤ) → Against r c (digit b) D P → ⊥) → Allows r c (digit b)
-  allows-unless n = allows-under (omega arith) (known .row) (known .column) (λ D W p k. n D _ (against (record { point = p; side = k })))
-
-  least-witness : (d w : ℕ) → IsLeast (Breaks r c b) (LeastAt d w) → LeastWitness r c (digit b) d (diff w (2 ^ 63))
-  least-witness d w s =
-      record {
-        against = against (s .0);
-        divisor-least = λ D P a. let k = breaks a in s .1 D (k .0) (k .2);
-        remainder-least = λ P a. let k = breaks a in rw (k .1) (simp diffs (omega (arith, s .2 (k .0) (k .2))));
-      }
-
-  result-means : (h : Finding) → IsLeast (Breaks r c b) h → CellMeaning r c b (cellVerdictOf h)
-  result-means NoWitness s = (known, allows-unless (λ D P a. let k = breaks a in s D (k .0) (k .2)))
-  result-means (LeastAt d w) s = (known, rw (diff-sub w (2 ^ 63)) (least-witness d w s))
-
-  -- so the test's verdict is the specification's
-  pub test-checked : CellChecked r c b (cellVerdictOf (testOf (multiplesOf r) c b))
-  test-checked = record { means = result-means (testOf (multiplesOf r) c b) (test-right known) }
-
 pub cell-rules : (r c b : ℕ) → WellFormed (cellRules r c b)
 unfolding rank
 cell-rules r c b = record { sound = (tt, λ _. (tt, λ _. tt)); in-order = tt }
 
--- the computed verdict is the specification's
-pub cell-checked : (r c b : ℕ) → CellChecked r c b (cellOf r c b)
-cell-checked r c b = by-first (cell-rules r c b) (λ v. CellChecked r c b (answerBy Refused (cellVerdictOf (testOf (multiplesOf r) c b)) v))
-    (λ m. let k = none-clear (cell-rules r c b) m in test-checked (record { row = k .0 .0; column = k .0 .1; byte = k .1 .0 }))
-    (λ f m. record { means = m })
-
-pub answers : (r c b : ℕ) {v : CellVerdict} → v ≡ cellOf r c b → (v ≡ cellOf r c b) × CellChecked r c b v
-answers r c b e = (e, rw e (cell-checked r c b))
-
--- a cell and a byte that are taken: the test tells
-pub cell-known : {r c b : ℕ} → IsCell r c b → cellOf r c b ≡ cellVerdictOf (testOf (multiplesOf r) c b)
-cell-known {r} {c} {b} k = ap (answerBy Refused _) (clear-admits (cell-rules r c b) ((k .row, k .column), (k .byte, tt)))
-
 pub known-not-refused : {r c b n p : ℕ} {X : Type 0} → IsCell r c b → IsFirstRefusal (Wrongs (cellRules r c b)) n p → X
 known-not-refused {r} {c} {b} k u = absurd (clear-none (cellRules r c b) ((k .row, k .column), (k .byte, tt)) _ _ (u .holds))
 
-pub not-allowed : {r c D : ℕ} {q : ℤ} {P : ℤ} → Against r c q D P → Allows r c q → ⊥
-not-allowed {D = D} {P = P} a h = a .broken (h D P (a .point))
+-- in a divider with the estimate E
+module _ (E : Estimate) where
+  module _ {r c b : ℕ} (known : IsCell r c b) where
+    breaks : {D : ℕ} {P : ℤ} → Against E r c (digit b) D P → (W : ℕ) × (P ≡ diff W (2 ^ 63)) × Breaks E r c b D W
+    breaks {D} a =
+        let p = of-point E (known .row) (known .column) (a .point) in
+        (p .W, p .is, record { point = p .point; side = ⊎-elim (λ h. absurd (a .broken (rw (p .is) h))) (λ s. s) (sides b D (p .W)) })
+
+    against : {D W : ℕ} → Breaks E r c b D W → Against E r c (digit b) D (diff W (2 ^ 63))
+    against {D} {W} k =
+        let most = span-most E in
+        let e = W - c * 2 ^ 57 in
+        let is : diff W (2 ^ 63) ≡ signed ((c + 64) * 2 ^ 57 + e) = sym (signed-diff _ ∙ ap (λ (n : ℕ). diff n (2 ^ 63)) (omega arith)) in
+        record {
+          point = record { row = omega arith; column = record { e = e; small = omega arith; is = is }; range = within 8 D W (2 ^ 63) .1 (omega arith) };
+          broken = broken b D W (k .side);
+        }
+
+    -- a digit without a witness against it is allowed
+    pub allows-unless : ((D : ℕ) (P : ℤ) → Against E r c (digit b) D P → ⊥) → Allows E r c (digit b)
+    allows-unless n D P p =
+        let q = of-point E (known .row) (known .column) p in
+        rw (q .is) (⊎-elim (λ k. k) (λ k. absurd (n D _ (against (record { point = q .point; side = k })))) (sides b D (q .W)))
+
+    least-witness : (d w : ℕ) → IsLeast (Breaks E r c b) (LeastAt d w) → LeastWitness E r c (digit b) d (diff w (2 ^ 63))
+    least-witness d w s =
+        record {
+          against = against (s .0);
+          divisor-least = λ D P a. let k = breaks a in s .1 D (k .0) (k .2);
+          remainder-least = λ P a. let k = breaks a in rw (k .1) (simp diffs (omega (arith, s .2 (k .0) (k .2))));
+        }
+
+    result-means : (h : Finding) → IsLeast (Breaks E r c b) h → CellMeaning E r c b (cellVerdictOf h)
+    result-means NoWitness s = (known, allows-unless (λ D P a. let k = breaks a in s D (k .0) (k .2)))
+    result-means (LeastAt d w) s = (known, rw (diff-sub w (2 ^ 63)) (least-witness d w s))
+
+    -- so the test's verdict is the specification's
+    pub test-checked : CellChecked E r c b (cellVerdictOf (testOf (multiplesOf E r) c b))
+    test-checked = record { means = result-means (testOf (multiplesOf E r) c b) (test-right E known) }
+
+  -- the computed verdict is the specification's
+  pub cell-checked : (r c b : ℕ) → CellChecked E r c b (cellOf E r c b)
+  cell-checked r c b = by-first (cell-rules r c b) (λ v. CellChecked E r c b (answerBy Refused (cellVerdictOf (testOf (multiplesOf E r) c b)) v))
+      (λ m. let k = none-clear (cell-rules r c b) m in test-checked (record { row = k .0 .0; column = k .0 .1; byte = k .1 .0 }))
+      (λ f m. record { means = m })
+
+  pub answers : (r c b : ℕ) {v : CellVerdict} → v ≡ cellOf E r c b → (v ≡ cellOf E r c b) × CellChecked E r c b v
+  answers r c b e = (e, rw e (cell-checked r c b))
+
+  -- a cell and a byte that are taken: the test tells
+  pub cell-known : {r c b : ℕ} → IsCell r c b → cellOf E r c b ≡ cellVerdictOf (testOf (multiplesOf E r) c b)
+  cell-known {r} {c} {b} k = ap (answerBy Refused _) (clear-admits (cell-rules r c b) ((k .row, k .column), (k .byte, tt)))
+
+  pub not-allowed : {r c D : ℕ} {q : ℤ} {P : ℤ} → Against E r c q D P → Allows E r c q → ⊥
+  not-allowed {D = D} {P = P} a h = a .broken (h D P (a .point))

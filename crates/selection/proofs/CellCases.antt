@@ -9,6 +9,8 @@ use Rattle.selection.specs.Computed.{limitsOf}
 use Rattle.selection.proofs.BiasedPoints.{digit-diff, cell-checked}
 use Rattle.selection.proofs.Allowed.{allows-decides}
 use Rattle.selection.proofs.Making.{limits-right}
+use Rattle.selection.specs.declared.Estimate.{Estimate}
+use Rattle.selection.specs.declared.Estimate.the-variants.{SevenBits, EightBits}
 
 -- the digits of a list of bytes, and whether it holds a byte
 abbrev digits : List ℕ → List ℤ
@@ -29,40 +31,49 @@ listed-decides b (a ∷ bs) = go (eqb b a) refl (listed-decides b bs)
         record { yes = λ t. inr (d .yes t); no = λ f. ⊎-elim (λ h. eqb-false b a e (omega (arith, diff-eq b 2 a 2 .0 (rw (digit-diff, digit-diff) at h)))) (d .no f) }
 
 -- antt computes the five tests of a cell
-cell : (r c : ℕ) (bs : List ℕ) → T (leb r 15) → T (leb c 127) → T (upto (λ b. alike (allowsOf r c b) (listed b bs)) 5) → AllowedDigits r c (digits bs)
-cell r c bs hr hc t = record { exactly = λ b h. go (allowsOf r c b) (allows-decides (record { row = leb→le r 15 hr; column = leb→le c 127 hc; byte = h })) (same b h) }
+cell : (E : Estimate) (r c : ℕ) (bs : List ℕ) → T (leb r 15) → T (leb c 127) → T (upto (λ b. alike (allowsOf E r c b) (listed b bs)) 5) → AllowedDigits E r c (digits bs)
+cell E r c bs hr hc t = record { exactly = λ b h. go (allowsOf E r c b) (allows-decides E (record { row = leb→le r 15 hr; column = leb→le c 127 hc; byte = h })) (same b h) }
   where
-    same : (b : ℕ) → b ≤ 4 → Decides (OneOf (digit b) (digits bs)) (allowsOf r c b)
-    same b h = rw (alike-eq (allowsOf r c b) (listed b bs) (upto-at (λ (n : ℕ). alike (allowsOf r c n) (listed n bs)) 5 t b (omega arith))) (listed-decides b bs)
+    same : (b : ℕ) → b ≤ 4 → Decides (OneOf (digit b) (digits bs)) (allowsOf E r c b)
+    same b h = rw (alike-eq (allowsOf E r c b) (listed b bs) (upto-at (λ (n : ℕ). alike (allowsOf E r c n) (listed n bs)) 5 t b (omega arith))) (listed-decides b bs)
 
     go : {P Q : Type 0} (x : Bool) → Decides P x → Decides Q x → P ↔ Q
     go true p q = ((λ a. q .yes refl), λ a. p .yes refl)
     go false p q = ((λ a. absurd (p .no refl a)), λ a. absurd (q .no refl a))
 
-pub case-1 : AllowedDigits 0 75 (pos 1 ∷ []) × LeastWitness 0 75 (pos 2) (33 * 2 ^ 55 + 1) (pos (11 * 2 ^ 57))
+pub case-1 : AllowedDigits EightBits 0 75 (pos 1 ∷ []) × LeastWitness EightBits 0 75 (pos 2) (33 * 2 ^ 55 + 1) (pos (11 * 2 ^ 57))
 unfolding allowsOf digit
-case-1 = (cell 0 75 (3 ∷ []) tt tt tt, cell-checked 0 75 4 .means .1)
+case-1 = (cell EightBits 0 75 (3 ∷ []) tt tt tt, cell-checked EightBits 0 75 4 .means .1)
 
-pub case-2 : AllowedDigits 0 76 (pos 2 ∷ [])
+pub case-2 : AllowedDigits EightBits 0 76 (pos 2 ∷ [])
 unfolding allowsOf digit
-case-2 = cell 0 76 (4 ∷ []) tt tt tt
+case-2 = cell EightBits 0 76 (4 ∷ []) tt tt tt
 
-pub case-3 : AllowedDigits 1 76 (pos 1 ∷ pos 2 ∷ [])
+pub case-3 : AllowedDigits EightBits 1 76 (pos 1 ∷ pos 2 ∷ [])
 unfolding allowsOf digit
-case-3 = cell 1 76 (3 ∷ 4 ∷ []) tt tt tt
+case-3 = cell EightBits 1 76 (3 ∷ 4 ∷ []) tt tt tt
 
-pub case-4 : AllowedDigits 0 67 (pos 0 ∷ pos 1 ∷ [])
+pub case-4 : AllowedDigits EightBits 0 67 (pos 0 ∷ pos 1 ∷ [])
 unfolding allowsOf digit
-case-4 = cell 0 67 (2 ∷ 3 ∷ []) tt tt tt
+case-4 = cell EightBits 0 67 (2 ∷ 3 ∷ []) tt tt tt
 
-pub case-5 : AllowedDigits 0 50 (negsuc 1 ∷ []) × AllowedDigits 0 51 (negsuc 1 ∷ negsuc 0 ∷ [])
+pub case-5 : AllowedDigits EightBits 0 50 (negsuc 1 ∷ []) × AllowedDigits EightBits 0 51 (negsuc 1 ∷ negsuc 0 ∷ [])
 unfolding allowsOf digit
-case-5 = (cell 0 50 (0 ∷ []) tt tt tt, cell 0 51 (0 ∷ 1 ∷ []) tt tt tt)
+case-5 = (cell EightBits 0 50 (0 ∷ []) tt tt tt, cell EightBits 0 51 (0 ∷ 1 ∷ []) tt tt tt)
 
-pub case-6 : AllowedDigits 1 87 (pos 2 ∷ []) × AllowedDigits 1 88 (negsuc 1 ∷ negsuc 0 ∷ pos 0 ∷ pos 1 ∷ pos 2 ∷ [])
+pub case-6 : AllowedDigits EightBits 1 87 (pos 2 ∷ []) × AllowedDigits EightBits 1 88 (negsuc 1 ∷ negsuc 0 ∷ pos 0 ∷ pos 1 ∷ pos 2 ∷ [])
 unfolding allowsOf digit
-case-6 = (cell 1 87 (4 ∷ []) tt tt tt, cell 1 88 (0 ∷ 1 ∷ 2 ∷ 3 ∷ 4 ∷ []) tt tt tt)
+case-6 = (cell EightBits 1 87 (4 ∷ []) tt tt tt, cell EightBits 1 88 (0 ∷ 1 ∷ 2 ∷ 3 ∷ 4 ∷ []) tt tt tt)
 
-pub case-7 : Limits 0 (40 ∷ 51 ∷ 59 ∷ 68 ∷ 76 ∷ 87 ∷ [])
+pub case-7 : Limits EightBits 0 (40 ∷ 51 ∷ 59 ∷ 68 ∷ 76 ∷ 87 ∷ [])
 unfolding limitsOf
-case-7 = limits-right 0 (lit≤ tt)
+case-7 = limits-right EightBits 0 (lit≤ tt)
+
+-- cases 5 and 7 in a divider that adds seven bits
+pub case-5-seven : AllowedDigits SevenBits 0 50 (negsuc 1 ∷ []) × AllowedDigits SevenBits 0 51 (negsuc 0 ∷ [])
+unfolding allowsOf digit
+case-5-seven = (cell SevenBits 0 50 (0 ∷ []) tt tt tt, cell SevenBits 0 51 (1 ∷ []) tt tt tt)
+
+pub case-7-seven : Limits SevenBits 0 (40 ∷ 51 ∷ 59 ∷ 68 ∷ 76 ∷ 87 ∷ []) × Limits SevenBits 1 (39 ∷ 50 ∷ 59 ∷ 68 ∷ 77 ∷ 88 ∷ []) × Limits SevenBits 15 (20 ∷ 39 ∷ 54 ∷ 73 ∷ 88 ∷ 107 ∷ [])
+unfolding limitsOf
+case-7-seven = (limits-right SevenBits 0 (lit≤ tt), limits-right SevenBits 1 (lit≤ tt), limits-right SevenBits 15 (lit≤ tt))

@@ -28,13 +28,13 @@ module _ (m : RowMultiples) (c b : ℕ) where
   pub allows-tested : (allowsBy m c b ≡ true) ↔ (cellVerdictOf (testOf m c b) ≡ Allowed)
   allows-tested = ((λ e. rw e refl), go (allowsBy m c b) (ltb (greatestByte m c) b))
     where
-      go : (x y : Bool) → cellVerdictOf (cond x NoWitness (foundAt (m .smallest) c b y)) ≡ Allowed → x ≡ true
+      go : (x y : Bool) → cellVerdictOf (cond x NoWitness (foundAt (m .estimate) (m .smallest) c b y)) ≡ Allowed → x ≡ true
       go true y v = refl
       go false true v = cc
       go false false v = cc
 
   -- what is found where the digit is not allowed, by the first of its two sides
-  found : allowsBy m c b ≡ false → (x : Bool) → ltb (greatestByte m c) b ≡ x → testOf m c b ≡ foundAt (m .smallest) c b x
+  found : allowsBy m c b ≡ false → (x : Bool) → ltb (greatestByte m c) b ≡ x → testOf m c b ≡ foundAt (m .estimate) (m .smallest) c b x
   found e x f = rw (e, f) refl
 
 module _ {m : RowMultiples} {c b : ℕ} (o : RowOf m) (hc : c ≤ 127) (hb : b ≤ 4) where
@@ -42,29 +42,29 @@ module _ {m : RowMultiples} {c b : ℕ} (o : RowOf m) (hc : c ≤ 127) (hb : b �
   cell = record { row = o .small; column = hc; byte = hb }
 
   -- at every column and byte from 0 to 4 the test by a row's multiples is the single cell's answer
-  pub row-tested : cellVerdictOf (testOf m c b) ≡ cellOf (m .row) c b
-  row-tested = ap (λ (n : RowMultiples). cellVerdictOf (testOf n c b)) (o .is) ∙ sym (cell-known cell)
+  pub row-tested : cellVerdictOf (testOf m c b) ≡ cellOf (m .estimate) (m .row) c b
+  row-tested = ap (λ (n : RowMultiples). cellVerdictOf (testOf n c b)) (o .is) ∙ sym (cell-known (m .estimate) cell)
 
   -- so a digit is allowed exactly where that answer is Allowed
-  pub allows-single : (allowsBy m c b ≡ true) ↔ (cellOf (m .row) c b ≡ Allowed)
+  pub allows-single : (allowsBy m c b ≡ true) ↔ (cellOf (m .estimate) (m .row) c b ≡ Allowed)
   allows-single = ((λ e. sym row-tested ∙ allows-tested m c b .0 e), (λ v. allows-tested m c b .1 (row-tested ∙ v)))
 
-  pub allowed-is : {x : Bool} → x ≡ allowsBy m c b → (x ≡ allowsBy m c b) × ((x ≡ true) ↔ (cellOf (m .row) c b ≡ Allowed))
+  pub allowed-is : {x : Bool} → x ≡ allowsBy m c b → (x ≡ allowsBy m c b) × ((x ≡ true) ↔ (cellOf (m .estimate) (m .row) c b ≡ Allowed))
   allowed-is e = (e, rw e allows-single)
 
   -- a divisor that is found is the row's
-  found-is : {d w : ℕ} → testOf m c b ≡ LeastAt d w → (d ≤ 2 ^ 61) × (Disallowed (witnessOf d w) ≡ cellOf (m .row) c b)
+  found-is : {d w : ℕ} → testOf m c b ≡ LeastAt d w → (d ≤ 2 ^ 61) × (Disallowed (witnessOf d w) ≡ cellOf (m .estimate) (m .row) c b)
   found-is e =
-      let s = subst (IsLeast (Breaks (m .row) c b)) (sym (ap (λ (n : RowMultiples). testOf n c b) (o .is)) ∙ e) (test-right cell) in
+      let s = subst (IsLeast (Breaks (m .estimate) (m .row) c b)) (sym (ap (λ (n : RowMultiples). testOf n c b) (o .is)) ∙ e) (test-right (m .estimate) cell) in
       (omega (arith, s .0 .point .below, o .small), sym (ap cellVerdictOf e) ∙ row-tested)
 
-  pub is-allowed : allowsBy m c b ≡ true → Allowed ≡ cellOf (m .row) c b
+  pub is-allowed : allowsBy m c b ≡ true → Allowed ≡ cellOf (m .estimate) (m .row) c b
   is-allowed e = sym (allows-single .0 e)
 
-  pub low-found : allowsBy m c b ≡ false → greatestByte m c < b → let d = lowDivisor (m .smallest) c b in (d ≤ 2 ^ 61) × (Disallowed (witnessOf d (lowAt d c)) ≡ cellOf (m .row) c b)
+  pub low-found : allowsBy m c b ≡ false → greatestByte m c < b → let d = lowDivisor (m .estimate) (m .smallest) c b in (d ≤ 2 ^ 61) × (Disallowed (witnessOf d (lowAt d c)) ≡ cellOf (m .estimate) (m .row) c b)
   low-found e h = found-is (found m c b e true (lt-ltb _ _ h))
 
-  pub high-found : allowsBy m c b ≡ false → b ≤ greatestByte m c → let d = highDivisor (m .smallest) c b in (d ≤ 2 ^ 61) × (Disallowed (witnessOf d (highAt d c b)) ≡ cellOf (m .row) c b)
+  pub high-found : allowsBy m c b ≡ false → b ≤ greatestByte m c → let d = highDivisor (m .estimate) (m .smallest) c b in (d ≤ 2 ^ 61) × (Disallowed (witnessOf d (highAt d c b)) ≡ cellOf (m .estimate) (m .row) c b)
   high-found e h = found-is (found m c b e false (le-ltb _ _ h))
 
   -- and its column is not far from 0

@@ -6,18 +6,21 @@ use Rattle.selection.specs.Table.{Passes}
 use Rattle.selection.proofs.Tables.{table-of}
 use Rattle.laws.proofs.Tests.{every, every-at}
 use Rattle.selection.proofs.Making.{made-right}
+use Rattle.selection.specs.declared.Estimate.{Estimate}
 
--- a list of made bytes is the made table
-pub made-of : {t : List ℕ} → length t ≡ 2048 → ((k : ℕ) → k < 2048 → getD t k 0 ≡ madeAt k) → MadeTable t
-made-of e a = record { size = e; made = λ k h. rw (a k h) (made-right (k / 128) (k % 128) (omega arith) (omega arith)) }
+-- in a divider with the estimate E
+module _ (E : Estimate) where
+  -- a list of made bytes is the made table
+  pub made-of : {t : List ℕ} → length t ≡ 2048 → ((k : ℕ) → k < 2048 → getD t k 0 ≡ madeAt E k) → MadeTable E t
+  made-of e a = record { size = e; made = λ k h. rw (a k h) (made-right E (k / 128) (k % 128) (omega arith) (omega arith)) }
 
-unfoldable pub right : ℕ → ℕ → Bool
-right k x = eqb x (madeAt k)
+  unfoldable pub right : ℕ → ℕ → Bool
+  right k x = eqb x (madeAt E k)
 
-pub made-table : {t : List ℕ} → length t ≡ 2048 → T (every right 0 t) → MadeTable t
-unfolding right
-made-table {t} e a = made-of e (λ k h. eqb→eq (getD t k 0) (madeAt k) (every-at right t a k (omega arith)))
+  pub made-table : {t : List ℕ} → length t ≡ 2048 → T (every right 0 t) → MadeTable E t
+  unfolding right
+  made-table {t} e a = made-of e (λ k h. eqb→eq (getD t k 0) (madeAt E k) (every-at right t a k (omega arith)))
 
--- the made table passes
-pub made-passes : {t : List ℕ} → MadeTable t → Passes t
-made-passes {t} m = record { table = table-of t (m .size) (λ k h w. omega (arith, m .made k h .byte)); allowed = λ k h. m .made k h .allowed }
+  -- the made table passes
+  pub made-passes : {t : List ℕ} → MadeTable E t → Passes E t
+  made-passes {t} m = record { table = table-of t (m .size) (λ k h w. omega (arith, m .made k h .byte)); allowed = λ k h. m .made k h .allowed }

@@ -18,13 +18,13 @@ pub mod Reports
 pub mod MadeTables
 pub mod RefusedExactly
 pub mod EarlierSpan
-pub mod EarlierKept
 pub mod CellCases
 pub mod Verdicts
 pub mod ConditionTests
 pub mod OneRule
 pub mod Rules
 pub mod Clear
+pub mod ForBits
 pub mod Orders
 pub mod Refusing
 pub mod RepairCells

@@ -17,93 +17,96 @@ use Rattle.laws.proofs.Comparisons.{not-below, equal}
 use Rattle.selection.proofs.Making.{made-right}
 use Rattle.selection.proofs.Tables.{table-of}
 use Rattle.selection.proofs.UniqueMade.{byte-one}
-
--- ---- a cell
-
-module _ (t : List ℕ) (k : ℕ) (h : k < 2048) where
-  -- the test tells whether the byte is to be changed
-  pub replaced-decides : Decides (ReplacedAt t k) (isReplaced t k)
-  replaced-decides = decides-or (aboveFour t k) (isBad t k) (less-decides 4 (getD t k 0)) (λ n. cell-decides t k (record { row = omega arith; column = omega arith; byte = not-below n }))
-
-  replaced : ReplacedAt t k ⊎ (ReplacedAt t k → ⊥)
-  replaced = holds-or-not (isReplaced t k) replaced-decides
-
-  -- it is not where it holds an allowed digit, and only there
-  pub not-replaced : {b : ℕ} → b ≤ 4 → Allows (k / 128) (k % 128) (digit b) → getD t k 0 ≡ b → ReplacedAt t k → ⊥
-  not-replaced l a e = ⊎-elim (λ m. omega arith) (λ x. not-allowed (x .against) (rw e a))
-
-  pub copied-byte : (ReplacedAt t k → ⊥) → (getD t k 0 ≤ 4) × Allows (k / 128) (k % 128) (digit (getD t k 0))
-  copied-byte n =
-      let l : getD t k 0 ≤ 4 = not-below (λ m. n (inl m)) in
-      (l, allows-unless (record { row = omega arith; column = omega arith; byte = l }) (λ D P x. n (inr (record { divisor = D; remainder = P; against = x }))))
-
-  -- the computed repair is the one
-  pub cell-repaired : RepairedAt t k (repairedByte t k) (changeMark t k)
-  unfolding repairedByte changeMark
-  cell-repaired = go (isReplaced t k) replaced-decides
-    where
-      go : (x : Bool) → Decides (ReplacedAt t k) x → RepairedAt t k (cond x (madeAt k) (getD t k 0)) (cond x 1 0)
-      go true d =
-          let m = made-right (k / 128) (k % 128) (omega arith) (omega arith) in
-          record { made = λ w. m; copied = λ n. absurd (n (d .yes refl)); marked = λ n. refl; unmarked = λ e. absurd (not-replaced (m .byte) (m .allowed) e (d .yes refl)) }
-      go false d = record { made = λ w. absurd (d .no refl w); copied = λ n. refl; marked = λ n. absurd (n refl); unmarked = λ e. refl }
-
-  module _ {b m : ℕ} (r : RepairedAt t k b m) where
-    -- what stands there is an allowed digit
-    pub allowed-byte : (b ≤ 4) × Allows (k / 128) (k % 128) (digit b)
-    allowed-byte = ⊎-elim (λ w. let y = r .made w in (y .byte, y .allowed)) (λ n. rw (r .copied n) (copied-byte n)) replaced
-
-    -- only a byte that must be is changed
-    pub changed-replaced : (getD t k 0 ≡ b → ⊥) → ReplacedAt t k
-    changed-replaced n = ⊎-elim (λ w. w) (λ c. absurd (n (sym (r .copied c)))) replaced
-
-    pub replaced-changed : ReplacedAt t k → getD t k 0 ≡ b → ⊥
-    replaced-changed w e = not-replaced (allowed-byte .0) (allowed-byte .1) e w
-
-    pub changed-decides : Decides (getD t k 0 ≡ b → ⊥) (isReplaced t k)
-    changed-decides = record { yes = λ e. replaced-changed (replaced-decides .yes e); no = λ e n. replaced-decides .no e (changed-replaced n) }
-
-  -- and there is one repair of a cell
-  pub repaired-one : {b c m n : ℕ} → RepairedAt t k b m → RepairedAt t k c n → (b ≡ c) × (m ≡ n)
-  repaired-one x y = ⊎-elim
-      (λ w. (byte-one (x .made w) (y .made w), x .marked (replaced-changed x w) ∙ sym (y .marked (replaced-changed y w))))
-      (λ w. (x .copied w ∙ sym (y .copied w), x .unmarked (sym (x .copied w)) ∙ sym (y .unmarked (sym (y .copied w)))))
-      replaced
+use Rattle.selection.specs.declared.Estimate.{Estimate}
 
 -- the tally of the cells in which two tables differ
 pub differ-tally : (t u : List ℕ) → (n : ℕ) × Tally (DifferAt t u) 2048 n
 differ-tally t u = (_, count-tally (λ k. holds (differ (getD t k 0) (getD u k 0))) 2048 (λ k h. holds-decides (differ (getD t k 0) (getD u k 0))))
 
--- ---- the table
+-- in a divider with the estimate E
+module _ (E : Estimate) where
+  -- ---- a cell
 
-module _ {t rs cs a b : List ℕ} {n : ℕ} (room : 2048 ≤ length rs) (size : length t ≡ 2048) (r : Repaired t rs cs a b n) where
-  first-size : length (take 2048 a) ≡ 2048
-  first-size = rw length-take (omega (arith, r .repaired-kept .size))
+  module _ (t : List ℕ) (k : ℕ) (h : k < 2048) where
+    -- the test tells whether the byte is to be changed
+    pub replaced-decides : Decides (ReplacedAt E t k) (isReplaced E t k)
+    replaced-decides = decides-or (aboveFour t k) (isBad E t k) (less-decides 4 (getD t k 0)) (λ n. cell-decides E t k (record { row = omega arith; column = omega arith; byte = not-below n }))
 
-  first-at : (k : ℕ) → k < 2048 → getD (take 2048 a) k 0 ≡ getD a k 0
-  first-at k h = rw getD-take
+    replaced : ReplacedAt E t k ⊎ (ReplacedAt E t k → ⊥)
+    replaced = holds-or-not (isReplaced E t k) replaced-decides
 
-  pub repaired-passes : Passes (take 2048 a)
-  repaired-passes = record {
-    table = table-of (take 2048 a) first-size (λ k h w. omega (arith, first-at k h, allowed-byte t k h (r .cell k h) .0));
-    allowed = λ k h. rw (first-at k h) (allowed-byte t k h (r .cell k h) .1);
-  }
+    -- it is not where it holds an allowed digit, and only there
+    pub not-replaced : {b : ℕ} → b ≤ 4 → Allows E (k / 128) (k % 128) (digit b) → getD t k 0 ≡ b → ReplacedAt E t k → ⊥
+    not-replaced l a e = ⊎-elim (λ m. omega arith) (λ x. not-allowed E (x .against) (rw e a))
 
-  pub repaired-least : (u : List ℕ) → Passes u → (m : ℕ) → Tally (DifferAt t u) 2048 m → n ≤ m
-  repaired-least u p m y = tally-most (λ k h d e. not-replaced t k h (p .table .digits k) (p .allowed k h) e (changed-replaced t k h (r .cell k h) d)) (r .count) y
+    pub copied-byte : (ReplacedAt E t k → ⊥) → (getD t k 0 ≤ 4) × Allows E (k / 128) (k % 128) (digit (getD t k 0))
+    copied-byte n =
+        let l : getD t k 0 ≤ 4 = not-below (λ m. n (inl m)) in
+        (l, allows-unless E (record { row = omega arith; column = omega arith; byte = l }) (λ D P x. n (inr (record { divisor = D; remainder = P; against = x }))))
 
-  -- a table that passes is left as it is
-  passes-unchanged : Passes t → n ≡ 0
-  passes-unchanged p = let l = repaired-least t p 0 (tally-nothing 2048 (λ k h d. d refl)) in omega arith
+    -- the computed repair is the one
+    pub cell-repaired : RepairedAt E t k (repairedByte E t k) (changeMark E t k)
+    unfolding repairedByte changeMark
+    cell-repaired = go (isReplaced E t k) replaced-decides
+      where
+        go : (x : Bool) → Decides (ReplacedAt E t k) x → RepairedAt E t k (cond x (madeAt E k) (getD t k 0)) (cond x 1 0)
+        go true d =
+            let m = made-right E (k / 128) (k % 128) (omega arith) (omega arith) in
+            record { made = λ w. m; copied = λ n. absurd (n (d .yes refl)); marked = λ n. refl; unmarked = λ e. absurd (not-replaced (m .byte) (m .allowed) e (d .yes refl)) }
+        go false d = record { made = λ w. absurd (d .no refl w); copied = λ n. refl; marked = λ n. absurd (n refl); unmarked = λ e. refl }
 
-  unchanged-same : n ≡ 0 → take 2048 a ≡ t
-  unchanged-same z = ext-getD 0 (take 2048 a) t (first-size ∙ sym size) (λ k l.
-      let h : k < 2048 = omega (arith, first-size) in first-at k h ∙ sym (equal (getD t k 0) (getD a k 0) (λ d. omega (arith, tally-some (r .count) k h d))))
+    module _ {b m : ℕ} (r : RepairedAt E t k b m) where
+      -- what stands there is an allowed digit
+      pub allowed-byte : (b ≤ 4) × Allows E (k / 128) (k % 128) (digit b)
+      allowed-byte = ⊎-elim (λ w. let y = r .made w in (y .byte, y .allowed)) (λ n. rw (r .copied n) (copied-byte n)) replaced
 
-  pub repaired-claim : RepairClaim t a n
-  repaired-claim = record {
-    passes = repaired-passes;
-    least = repaired-least;
-    none = (λ z. rw (unchanged-same z) at repaired-passes, passes-unchanged);
-    same = λ p. unchanged-same (passes-unchanged p);
-  }
+      -- only a byte that must be is changed
+      pub changed-replaced : (getD t k 0 ≡ b → ⊥) → ReplacedAt E t k
+      changed-replaced n = ⊎-elim (λ w. w) (λ c. absurd (n (sym (r .copied c)))) replaced
+
+      pub replaced-changed : ReplacedAt E t k → getD t k 0 ≡ b → ⊥
+      replaced-changed w e = not-replaced (allowed-byte .0) (allowed-byte .1) e w
+
+      pub changed-decides : Decides (getD t k 0 ≡ b → ⊥) (isReplaced E t k)
+      changed-decides = record { yes = λ e. replaced-changed (replaced-decides .yes e); no = λ e n. replaced-decides .no e (changed-replaced n) }
+
+    -- and there is one repair of a cell
+    pub repaired-one : {b c m n : ℕ} → RepairedAt E t k b m → RepairedAt E t k c n → (b ≡ c) × (m ≡ n)
+    repaired-one x y = ⊎-elim
+        (λ w. (byte-one E (x .made w) (y .made w), x .marked (replaced-changed x w) ∙ sym (y .marked (replaced-changed y w))))
+        (λ w. (x .copied w ∙ sym (y .copied w), x .unmarked (sym (x .copied w)) ∙ sym (y .unmarked (sym (y .copied w)))))
+        replaced
+
+  -- ---- the table
+
+  module _ {t rs cs a b : List ℕ} {n : ℕ} (room : 2048 ≤ length rs) (size : length t ≡ 2048) (r : Repaired E t rs cs a b n) where
+    first-size : length (take 2048 a) ≡ 2048
+    first-size = rw length-take (omega (arith, r .repaired-kept .size))
+
+    first-at : (k : ℕ) → k < 2048 → getD (take 2048 a) k 0 ≡ getD a k 0
+    first-at k h = rw getD-take
+
+    pub repaired-passes : Passes E (take 2048 a)
+    repaired-passes = record {
+      table = table-of (take 2048 a) first-size (λ k h w. omega (arith, first-at k h, allowed-byte t k h (r .cell k h) .0));
+      allowed = λ k h. rw (first-at k h) (allowed-byte t k h (r .cell k h) .1);
+    }
+
+    pub repaired-least : (u : List ℕ) → Passes E u → (m : ℕ) → Tally (DifferAt t u) 2048 m → n ≤ m
+    repaired-least u p m y = tally-most (λ k h d e. not-replaced t k h (p .table .digits k) (p .allowed k h) e (changed-replaced t k h (r .cell k h) d)) (r .count) y
+
+    -- a table that passes is left as it is
+    passes-unchanged : Passes E t → n ≡ 0
+    passes-unchanged p = let l = repaired-least t p 0 (tally-nothing 2048 (λ k h d. d refl)) in omega arith
+
+    unchanged-same : n ≡ 0 → take 2048 a ≡ t
+    unchanged-same z = ext-getD 0 (take 2048 a) t (first-size ∙ sym size) (λ k l.
+        let h : k < 2048 = omega (arith, first-size) in first-at k h ∙ sym (equal (getD t k 0) (getD a k 0) (λ d. omega (arith, tally-some (r .count) k h d))))
+
+    pub repaired-claim : RepairClaim E t a n
+    repaired-claim = record {
+      passes = repaired-passes;
+      least = repaired-least;
+      none = (λ z. rw (unchanged-same z) at repaired-passes, passes-unchanged);
+      same = λ p. unchanged-same (passes-unchanged p);
+    }

@@ -13,21 +13,7 @@ use Rattle.selection.specs.declared.multiples.RowMultiples.{RowMultiples
 use Rattle.selection.proofs.Allowed.{bad-in-row}
 use Rattle.selection.proofs.Tables.{cell-row, cell-column}
 use Rattle.selection.proofs.MadeTables.{made-at}
-
--- ---- a cell
-
--- the mark, and the byte by the mark
-pub mark-is : (t : List ℕ) {m : RowMultiples} (c : ℕ) {n : ℕ} → RowOf m → c ≤ 127 → let b = getD t (128 * m .row + c) 0 in n ≡ cond (ltb 4 b || not (allowsBy m c b)) 1 0 → n ≡ changeMark t (128 * m .row + c)
-unfolding changeMark
-mark-is t {m} c o h e = e ∙ ap (λ (x : Bool). cond {A = ℕ} (ltb 4 (getD t (128 * m .row + c) 0) || x) 1 0) (bad-in-row t c o h)
-
-pub byte-is : (t : List ℕ) {r : ℕ} {l : List ℕ} (c : ℕ) {n b : ℕ} → r ≤ 15 → c ≤ 127 → Limits r l → n ≡ changeMark t (128 * r + c) → b ≡ cond (eqb n 0) (getD t (128 * r + c) 0) (stepAt l c) → b ≡ repairedByte t (128 * r + c)
-unfolding changeMark repairedByte
-byte-is t {r} {l} c {n} {b} hr hc g e f = go (isReplaced t (128 * r + c)) (f ∙ rw e refl)
-  where
-    go : (x : Bool) → b ≡ cond (eqb (cond {A = ℕ} x 1 0) 0) (getD t (128 * r + c) 0) (stepAt l c) → b ≡ cond x (madeAt (128 * r + c)) (getD t (128 * r + c) 0)
-    go true k = k ∙ made-at (omega arith) (rw (cell-row r c hc, cell-column r c hc) (g .steps c hc))
-    go false k = k
+use Rattle.selection.specs.declared.Estimate.{Estimate}
 
 -- ---- the loops
 
@@ -56,6 +42,10 @@ module _ (f : ℕ → ℕ) (r : ℕ) (a₀ : List ℕ) where
 
 -- ---- from row to row
 
+-- of an estimate that is known by another name
+pub rows-by : (f : Estimate → ℕ → ℕ) {x y : Estimate} (i : ℕ) {a b : List ℕ} → x ≡ y → FillsRow (f x) i a b → FillsRow (f y) i a b
+rows-by f i {a} {b} e g = subst (λ (z : Estimate). FillsRow (f z) i a b) e g
+
 module _ (f : ℕ → ℕ) (o : List ℕ) (r : ℕ) {b : List ℕ} where
   pub rows-more : {a : List ℕ} {i : ℕ} → a ≡ filled f (128 * r) o → FillsRow f i a b → i ≡ r → b ≡ filled f (128 * (r + 1)) o
   rows-more {a} e g h =
@@ -69,7 +59,24 @@ module _ (f : ℕ → ℕ) (o : List ℕ) (r : ℕ) {b : List ℕ} where
   pub row-at : b ≡ filled f (128 * (r + 1)) o → (c : ℕ) → c < 128 → getD b (128 * r + c) 0 ≡ f (128 * r + c)
   row-at e c h = rw e (fill-at f o 0 (128 * (r + 1)) (128 * r + c) (omega arith))
 
--- the marks that are 1
-pub count-mark : (t : List ℕ) (r i : ℕ) {count n : ℕ} → count ≡ countBelow (λ c. isReplaced t (128 * r + c)) i → n ≡ changeMark t (128 * r + i) → count + n ≡ countBelow (λ c. isReplaced t (128 * r + c)) (i + 1)
-unfolding changeMark countBelow
-count-mark t r i e g = rw (e, g) (sym (sum-more _ i))
+-- in a divider with the estimate E
+module _ (E : Estimate) where
+  pub byte-is : (t : List ℕ) {r : ℕ} {l : List ℕ} (c : ℕ) {n b : ℕ} → r ≤ 15 → c ≤ 127 → Limits E r l → n ≡ changeMark E t (128 * r + c) → b ≡ cond (eqb n 0) (getD t (128 * r + c) 0) (stepAt l c) → b ≡ repairedByte E t (128 * r + c)
+  unfolding changeMark repairedByte
+  byte-is t {r} {l} c {n} {b} hr hc g e f = go (isReplaced E t (128 * r + c)) (f ∙ rw e refl)
+    where
+      go : (x : Bool) → b ≡ cond (eqb (cond {A = ℕ} x 1 0) 0) (getD t (128 * r + c) 0) (stepAt l c) → b ≡ cond x (madeAt E (128 * r + c)) (getD t (128 * r + c) 0)
+      go true k = k ∙ made-at E (omega arith) (rw (cell-row r c hc, cell-column r c hc) (g .steps c hc))
+      go false k = k
+
+  -- the marks that are 1
+  pub count-mark : (t : List ℕ) (r i : ℕ) {count n : ℕ} → count ≡ countBelow (λ c. isReplaced E t (128 * r + c)) i → n ≡ changeMark E t (128 * r + i) → count + n ≡ countBelow (λ c. isReplaced E t (128 * r + c)) (i + 1)
+  unfolding changeMark countBelow
+  count-mark t r i e g = rw (e, g) (sym (sum-more _ i))
+
+-- ---- a cell
+
+-- the mark, and the byte by the mark
+pub mark-is : (t : List ℕ) {m : RowMultiples} (c : ℕ) {n : ℕ} → RowOf m → c ≤ 127 → let b = getD t (128 * m .row + c) 0 in n ≡ cond (ltb 4 b || not (allowsBy m c b)) 1 0 → n ≡ changeMark (m .estimate) t (128 * m .row + c)
+unfolding changeMark
+mark-is t {m} c o h e = e ∙ ap (λ (x : Bool). cond {A = ℕ} (ltb 4 (getD t (128 * m .row + c) 0) || x) 1 0) (bad-in-row t c o h)

@@ -2,10 +2,13 @@
 use Rattle.laws.proofs.Basics.{_≡_, refl, sym, subst, Bool, true, false, cond, ℕ, _+_, _*_, _-_, _^_, _≤_, arith, needs, T, ltb, eqb, ltb-true, ltb-false}
 use Rattle.selection.specs.Multiples.{Bounds, RowOf, multiplesOf, hasPoint}
 use Rattle.selection.specs.declared.multiples.RowMultiples.{RowMultiples}
+use Rattle.selection.specs.declared.Estimate.{Estimate}
+use Rattle.selection.specs.declared.Estimate.the-variants.{SevenBits, EightBits}
 
 -- each column is the last on the lower side of its multiple
-pub bounds : (r : ℕ) → r ≤ 15 → Bounds (multiplesOf r) ((16 + r) * 2 ^ 56) ((17 + r) * 2 ^ 56 - 1)
-bounds r h = search needs
+pub bounds : (E : Estimate) (r : ℕ) → r ≤ 15 → Bounds (multiplesOf E r) ((16 + r) * 2 ^ 56) ((17 + r) * 2 ^ 56 - 1)
+bounds SevenBits r h = search needs
+bounds EightBits r h = search needs
 
 -- the multiples lie from column 19 to column 106: past the last and up to the first there is no point
 pub record Columns (m : RowMultiples) : Type 0 where
@@ -21,7 +24,11 @@ pub record Columns (m : RowMultiples) : Type 0 where
   pub plus8 : m .plus8 ≤ 106
 
 pub columns : {m : RowMultiples} → RowOf m → Columns m
-columns {m} o = subst Columns (sym (o .is)) (search needs)
+columns {m} o = subst Columns (sym (o .is)) (by-estimate (m .estimate))
+  where
+    by-estimate : (E : Estimate) → Columns (multiplesOf E (m .row))
+    by-estimate SevenBits = search needs
+    by-estimate EightBits = search needs
 
 -- a cell that has a point is between the outer two
 pub point-columns : {m : RowMultiples} {c : ℕ} → RowOf m → hasPoint m c ≡ true → (20 ≤ c) × (c ≤ 106)

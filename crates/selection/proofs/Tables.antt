@@ -5,6 +5,7 @@ use Rattle.laws.proofs.Comparisons.{not-below}
 use Rattle.laws.proofs.Division.{le-or-lt}
 use Rattle.selection.specs.Cell.{LeastWitness, IsCell, digit}
 use Rattle.selection.specs.Table.{Table, BadAt, FirstBad, NoTable}
+use Rattle.selection.specs.declared.Estimate.{Estimate}
 
 -- 2,048 bytes of which none is above 4 are a table
 pub table-of : (t : List ℕ) → length t ≡ 2048 → ((k : ℕ) → k < 2048 → 4 < getD t k 0 → ⊥) → Table t
@@ -12,17 +13,6 @@ table-of t e h =
     record {
       size = e;
       digits = λ k. ⊎-elim (λ n. rw (List·getD-eq-default t 0 {n = k} (omega arith)) (omega arith)) (λ l. not-below (h k l)) (le-or-lt 2048 k);
-    }
-
--- index f as a cell
-pub first-bad-of : {t : List ℕ} {f D : ℕ} {P : ℤ} → f < 2048 → First (BadAt t) f → LeastWitness (f / 128) (f % 128) (digit (getD t f 0)) D P → FirstBad t (f / 128) (f % 128) D P
-first-bad-of {t} {f} {D} {P} h b w =
-    let e : f ≡ 128 * (f / 128) + f % 128 = omega arith in
-    record {
-      row = omega arith;
-      column = omega arith;
-      first = subst (First (BadAt t)) e b;
-      witness = subst (λ (k : ℕ). LeastWitness (f / 128) (f % 128) (digit (getD t k 0)) D P) e w;
     }
 
 -- no table is refused as none
@@ -39,3 +29,16 @@ cell-column r c h = omega arith
 -- an index below 2,048 is that of a cell
 pub cell-at : {t : List ℕ} → Table t → (k : ℕ) → k < 2048 → IsCell (k / 128) (k % 128) (getD t k 0)
 cell-at a k h = record { row = omega arith; column = omega arith; byte = a .digits k }
+
+-- in a divider with the estimate E
+module _ (E : Estimate) where
+  -- index f as a cell
+  pub first-bad-of : {t : List ℕ} {f D : ℕ} {P : ℤ} → f < 2048 → First (BadAt E t) f → LeastWitness E (f / 128) (f % 128) (digit (getD t f 0)) D P → FirstBad E t (f / 128) (f % 128) D P
+  first-bad-of {t} {f} {D} {P} h b w =
+      let e : f ≡ 128 * (f / 128) + f % 128 = omega arith in
+      record {
+        row = omega arith;
+        column = omega arith;
+        first = subst (First (BadAt E t)) e b;
+        witness = subst (λ (k : ℕ). LeastWitness E (f / 128) (f % 128) (digit (getD t k 0)) D P) e w;
+      }

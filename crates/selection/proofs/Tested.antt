@@ -7,6 +7,8 @@ use Rattle.selection.specs.Multiples.{Finding, multiplesOf, testOf}
 use Rattle.selection.specs.Multiples.Finding.{NoWitness, LeastAt}
 use Rattle.selection.proofs.Search.{searchOf, search-right}
 use Rattle.selection.proofs.Breaking.{Breaks, IsLeast}
+use Rattle.selection.specs.declared.Estimate.{Estimate}
+use Rattle.selection.specs.declared.Estimate.the-variants.{SevenBits, EightBits}
 
 abbrev same : Finding → Finding → Bool
 same NoWitness NoWitness = true
@@ -21,18 +23,21 @@ same-eq (LeastAt d w) NoWitness t = absurd t
 same-eq (LeastAt d w) (LeastAt d' w') t =
     ap₂ LeastAt (eqb→eq d d' (both-left (eqb d d') (eqb w w') t)) (eqb→eq w w' (both-right (eqb d d') (eqb w w') t))
 
-agree : ℕ → ℕ → ℕ → Bool
-agree r c b = same (testOf (multiplesOf r) c b) (searchOf r c b)
+agree : Estimate → ℕ → ℕ → ℕ → Bool
+agree E r c b = same (testOf (multiplesOf E r) c b) (searchOf E r c b)
 
-all-agree : T (upto (λ r. upto (λ c. upto (agree r c) 5) 128) 16)
+all-agree : (E : Estimate) → T (upto (λ r. upto (λ c. upto (agree E r c) 5) 128) 16)
 unfolding agree
-all-agree = tt
+all-agree SevenBits = tt
+all-agree EightBits = tt
 
-pub tested : {r c b : ℕ} → IsCell r c b → testOf (multiplesOf r) c b ≡ searchOf r c b
-unfolding agree
-tested {r} {c} {b} k =
-    same-eq _ _ (upto-at (agree r c) 5 (upto-at (λ (n : ℕ). upto (agree r n) 5) 128 (upto-at (λ (m : ℕ). upto (λ n. upto (agree m n) 5) 128) 16 all-agree r (omega arith)) c (omega arith)) b (omega arith))
+-- in a divider with the estimate E
+module _ (E : Estimate) where
+  pub tested : {r c b : ℕ} → IsCell r c b → testOf (multiplesOf E r) c b ≡ searchOf E r c b
+  unfolding agree
+  tested {r} {c} {b} k =
+      same-eq _ _ (upto-at (agree E r c) 5 (upto-at (λ (n : ℕ). upto (agree E r n) 5) 128 (upto-at (λ (m : ℕ). upto (λ n. upto (agree E m n) 5) 128) 16 (all-agree E) r (omega arith)) c (omega arith)) b (omega arith))
 
--- the test is right
-pub test-right : {r c b : ℕ} → IsCell r c b → IsLeast (Breaks r c b) (testOf (multiplesOf r) c b)
-test-right {r} {c} {b} k = subst (IsLeast (Breaks r c b)) (sym (tested k)) (search-right r c b (k .row) (k .byte))
+  -- the test is right
+  pub test-right : {r c b : ℕ} → IsCell r c b → IsLeast (Breaks E r c b) (testOf (multiplesOf E r) c b)
+  test-right {r} {c} {b} k = subst (IsLeast (Breaks E r c b)) (sym (tested k)) (search-right E r c b (k .row) (k .byte))

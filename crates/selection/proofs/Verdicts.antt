@@ -16,31 +16,34 @@ use Rattle.selection.specs.declared.table.BadCell.{BadCell}
 use Rattle.selection.specs.declared.table.Outcome.the-variants as O
 use Rattle.selection.specs.declared.table.Report.{Report}
 use Rattle.selection.proofs.BiasedPoints.{cell-rules, known-not-refused}
+use Rattle.selection.specs.declared.Estimate.{Estimate}
 
--- the check's answer, by its case
-pub passed-table : {t : List ℕ} {a : Report} → Checked t a → a .outcome ≡ O.Passed → Table t
-passed-table j e = (rw e at (j .means)) .0 .table
+-- in a divider with the estimate E
+module _ (E : Estimate) where
+  -- the check's answer, by its case
+  pub passed-table : {t : List ℕ} {a : Report} → Checked E t a → a .outcome ≡ O.Passed → Table t
+  passed-table j e = (rw e at (j .means)) .0 .table
 
-pub bad-table : {t : List ℕ} {a : Report} {b : BadCell} → Checked t a → a .outcome ≡ O.Bad b → Table t
-bad-table j e = (rw e at (j .means)) .0
+  pub bad-table : {t : List ℕ} {a : Report} {b : BadCell} → Checked E t a → a .outcome ≡ O.Bad b → Table t
+  bad-table j e = (rw e at (j .means)) .0
 
--- a single cell's answer, by its case
-pub verdict-says : {r c b : ℕ} {v w : CellVerdict} → CellChecked r c b v → v ≡ w → CellMeaning r c b w
-verdict-says j e = rw e at (j .means)
+  -- a single cell's answer, by its case
+  pub verdict-says : {r c b : ℕ} {v w : CellVerdict} → CellChecked E r c b v → v ≡ w → CellMeaning E r c b w
+  verdict-says j e = rw e at (j .means)
 
--- no cell and digit are refused
-pub never-refused : {r c b : ℕ} {v : CellVerdict} {f : Refusal} {X : Type 0} → r ≤ 15 → c ≤ 127 → b ≤ 4 → CellChecked r c b v → v ≡ C.Refused f → X
-never-refused hr hc hb j e = known-not-refused (record { row = hr; column = hc; byte = hb }) (verdict-says j e)
+  -- no cell and digit are refused
+  pub never-refused : {r c b : ℕ} {v : CellVerdict} {f : Refusal} {X : Type 0} → r ≤ 15 → c ≤ 127 → b ≤ 4 → CellChecked E r c b v → v ≡ C.Refused f → X
+  never-refused hr hc hb j e = known-not-refused (record { row = hr; column = hc; byte = hb }) (verdict-says j e)
 
--- a single cell refuses by its rules, with zeros besides
-pub cell-refuses : (r c b : ℕ) → Refuses (Wrongs (cellRules r c b)) (λ x. x .refusal) cellZeros (cellNumbers (cellOf r c b))
-cell-refuses r c b = subst (Refuses (Wrongs (cellRules r c b)) (λ x. x .refusal) cellZeros) (sym (numbers (firstRefusal (cellRules r c b))))
-    (refuses (cell-rules r c b) (λ x. x .refusal) cellZeros (cellNumbers (cellVerdictOf (testOf (multiplesOf r) c b))) (none (testOf (multiplesOf r) c b)) (λ f. refl) refl)
-  where
-    numbers : (v : Admission) → cellNumbers (answerBy C.Refused (cellVerdictOf (testOf (multiplesOf r) c b)) v) ≡ answerBy cellZeros (cellNumbers (cellVerdictOf (testOf (multiplesOf r) c b))) v
-    numbers A.Admitted = refl
-    numbers (A.Refused f) = refl
+  -- a single cell refuses by its rules, with zeros besides
+  pub cell-refuses : (r c b : ℕ) → Refuses (Wrongs (cellRules r c b)) (λ x. x .refusal) cellZeros (cellNumbers (cellOf E r c b))
+  cell-refuses r c b = subst (Refuses (Wrongs (cellRules r c b)) (λ x. x .refusal) cellZeros) (sym (numbers (firstRefusal (cellRules r c b))))
+      (refuses (cell-rules r c b) (λ x. x .refusal) cellZeros (cellNumbers (cellVerdictOf (testOf (multiplesOf E r) c b))) (none (testOf (multiplesOf E r) c b)) (λ f. refl) refl)
+    where
+      numbers : (v : Admission) → cellNumbers (answerBy C.Refused (cellVerdictOf (testOf (multiplesOf E r) c b)) v) ≡ answerBy cellZeros (cellNumbers (cellVerdictOf (testOf (multiplesOf E r) c b))) v
+      numbers A.Admitted = refl
+      numbers (A.Refused f) = refl
 
-    none : (h : Finding) → cellNumbers (cellVerdictOf h) .refusal ≡ refusal 0 0
-    none NoWitness = refl
-    none (LeastAt d w) = refl
+      none : (h : Finding) → cellNumbers (cellVerdictOf h) .refusal ≡ refusal 0 0
+      none NoWitness = refl
+      none (LeastAt d w) = refl

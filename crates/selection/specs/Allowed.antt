@@ -5,21 +5,25 @@ use Prim.Native.Nat.{ℕ, _+_, _*_, _/_, _%_}
 use lib.Dec.{ltb}
 use lib.ListN.{getD}
 use Rattle.selection.specs.Multiples.{multiplesOf, allowsBy}
+use Rattle.selection.specs.declared.Estimate.{Estimate}
 
-unfoldable pub allowsOf : ℕ → ℕ → ℕ → Bool
-allowsOf r c b = allowsBy (multiplesOf r) c b
-
--- the tests of a table's byte k: it is above 4; its digit is not allowed
+-- the tests of a table's byte k: it is above 4
 abbrev pub aboveFour : List ℕ → ℕ → Bool
 aboveFour t k = ltb 4 (getD t k 0)
 
-abbrev pub isBad : List ℕ → ℕ → Bool
-isBad t k = not (allowsOf (k / 128) (k % 128) (getD t k 0))
+-- in a divider with the estimate E
+module _ (E : Estimate) where
+  unfoldable pub allowsOf : ℕ → ℕ → ℕ → Bool
+  allowsOf r c b = allowsBy (multiplesOf E r) c b
 
--- the column c of the row r
-abbrev pub isBadIn : List ℕ → ℕ → ℕ → Bool
-isBadIn t r c = isBad t (128 * r + c)
+  -- its digit is not allowed
+  abbrev pub isBad : List ℕ → ℕ → Bool
+  isBad t k = not (allowsOf (k / 128) (k % 128) (getD t k 0))
 
--- it is above 4, or a bad cell
-abbrev pub isReplaced : List ℕ → ℕ → Bool
-isReplaced t k = aboveFour t k || isBad t k
+  -- the column c of the row r
+  abbrev pub isBadIn : List ℕ → ℕ → ℕ → Bool
+  isBadIn t r c = isBad t (128 * r + c)
+
+  -- it is above 4, or a bad cell
+  abbrev pub isReplaced : List ℕ → ℕ → Bool
+  isReplaced t k = aboveFour t k || isBad t k

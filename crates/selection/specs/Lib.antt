@@ -4,7 +4,6 @@ pub mod Multiples
 pub mod Allowed
 pub mod Table
 pub mod Maker
-pub mod EarlierKept
 pub mod Burned
 pub mod Answer
 pub mod Refusals
@@ -14,3 +13,4 @@ pub mod RepairRows
 pub mod RepairDemand
 pub mod WordBytes
 pub mod Demand
+pub mod Bits

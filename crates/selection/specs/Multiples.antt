@@ -7,7 +7,8 @@ use mathlib.Core.Logic.{_↔_}
 use Prim.Native.Nat.{ℕ, _+_, _*_, _-_, _/_, _^_, _≤_, _<_, max}
 use lib.Dec.{ltb, eqb}
 use lib.IntN.{subℕ}
-use Rattle.selection.specs.Cell.{span}
+use Rattle.selection.specs.Cell.{spanOf}
+use Rattle.selection.specs.declared.Estimate.{Estimate}
 use Rattle.selection.specs.declared.CellVerdict.{CellVerdict}
 use Rattle.selection.specs.declared.CellVerdict.the-variants.{Allowed, Disallowed}
 use Rattle.selection.specs.declared.Witness.{Witness}
@@ -19,8 +20,8 @@ use Rattle.selection.specs.declared.multiples.RowMultiples.{RowMultiples
 abbrev pub leftColumn : ℕ → ℕ
 leftColumn w = w / 2 ^ 57
 
-abbrev pub rightColumn : ℕ → ℕ
-rightColumn w = (w - span) / 2 ^ 57
+abbrev pub rightColumn : Estimate → ℕ → ℕ
+rightColumn E w = (w - spanOf E) / 2 ^ 57
 
 -- the last column that begins, and that ends, where 3P is at most n, and where it is below -n
 abbrev pub beginsAtMost : ℕ → ℕ
@@ -29,49 +30,50 @@ beginsAtMost n = leftColumn (2 ^ 63 + n / 3)
 abbrev pub beginsBelowMinus : ℕ → ℕ
 beginsBelowMinus n = leftColumn (2 ^ 63 - n / 3 - 1)
 
-abbrev pub endsAtMost : ℕ → ℕ
-endsAtMost n = rightColumn (2 ^ 63 + n / 3)
+abbrev pub endsAtMost : Estimate → ℕ → ℕ
+endsAtMost E n = rightColumn E (2 ^ 63 + n / 3)
 
-abbrev pub endsBelowMinus : ℕ → ℕ
-endsBelowMinus n = rightColumn (2 ^ 63 - n / 3 - 1)
+abbrev pub endsBelowMinus : Estimate → ℕ → ℕ
+endsBelowMinus E n = rightColumn E (2 ^ 63 - n / 3 - 1)
 
 -- the multiples of the smallest and of the largest divisor of the row r that bound 3P, each as the last column on its lower side. 3P < l is 3P ≤ l - 1, and 3P ≤ -l is 3P < -(l - 1)
-abbrev pub multiplesOf : ℕ → RowMultiples
-multiplesOf r =
+abbrev pub multiplesOf : Estimate → ℕ → RowMultiples
+multiplesOf E r =
     let s = (16 + r) * 2 ^ 56 in
     let l = (17 + r) * 2 ^ 56 - 1 in
     record {
+      estimate = E;
       row = r;
       smallest = s;
-      minus8 = endsBelowMinus (8 * l);
+      minus8 = endsBelowMinus E (8 * l);
       minus5 = beginsBelowMinus (5 * s);
-      minus4 = endsBelowMinus (4 * l - 1);
+      minus4 = endsBelowMinus E (4 * l - 1);
       minus2 = beginsBelowMinus (2 * s);
-      minus1 = endsBelowMinus (l - 1);
+      minus1 = endsBelowMinus E (l - 1);
       plus1 = beginsAtMost (l - 1);
-      plus2 = endsAtMost (2 * s);
+      plus2 = endsAtMost E (2 * s);
       plus4 = beginsAtMost (4 * l - 1);
-      plus5 = endsAtMost (5 * s);
+      plus5 = endsAtMost E (5 * s);
       plus8 = beginsAtMost (8 * l);
     }
 
 -- what the columns of m say, for the smallest divisor s and the largest l: the ends of the column c, moved up, against each multiple
 pub record Bounds (m : RowMultiples) (s l : ℕ) : Type 0 where
-  pub minus8 : (c : ℕ) → (c ≤ m .minus8) ↔ (3 * (c * 2 ^ 57 + span) + 8 * l < 3 * 2 ^ 63)
+  pub minus8 : (c : ℕ) → (c ≤ m .minus8) ↔ (3 * (c * 2 ^ 57 + spanOf (m .estimate)) + 8 * l < 3 * 2 ^ 63)
   pub minus5 : (c : ℕ) → (c ≤ m .minus5) ↔ (3 * (c * 2 ^ 57) + 5 * s < 3 * 2 ^ 63)
-  pub minus4 : (c : ℕ) → (c ≤ m .minus4) ↔ (3 * (c * 2 ^ 57 + span) + 4 * l ≤ 3 * 2 ^ 63)
+  pub minus4 : (c : ℕ) → (c ≤ m .minus4) ↔ (3 * (c * 2 ^ 57 + spanOf (m .estimate)) + 4 * l ≤ 3 * 2 ^ 63)
   pub minus2 : (c : ℕ) → (c ≤ m .minus2) ↔ (3 * (c * 2 ^ 57) + 2 * s < 3 * 2 ^ 63)
-  pub minus1 : (c : ℕ) → (c ≤ m .minus1) ↔ (3 * (c * 2 ^ 57 + span) + l ≤ 3 * 2 ^ 63)
+  pub minus1 : (c : ℕ) → (c ≤ m .minus1) ↔ (3 * (c * 2 ^ 57 + spanOf (m .estimate)) + l ≤ 3 * 2 ^ 63)
   pub plus1 : (c : ℕ) → (c ≤ m .plus1) ↔ (3 * (c * 2 ^ 57) < 3 * 2 ^ 63 + l)
-  pub plus2 : (c : ℕ) → (c ≤ m .plus2) ↔ (3 * (c * 2 ^ 57 + span) ≤ 3 * 2 ^ 63 + 2 * s)
+  pub plus2 : (c : ℕ) → (c ≤ m .plus2) ↔ (3 * (c * 2 ^ 57 + spanOf (m .estimate)) ≤ 3 * 2 ^ 63 + 2 * s)
   pub plus4 : (c : ℕ) → (c ≤ m .plus4) ↔ (3 * (c * 2 ^ 57) < 3 * 2 ^ 63 + 4 * l)
-  pub plus5 : (c : ℕ) → (c ≤ m .plus5) ↔ (3 * (c * 2 ^ 57 + span) ≤ 3 * 2 ^ 63 + 5 * s)
+  pub plus5 : (c : ℕ) → (c ≤ m .plus5) ↔ (3 * (c * 2 ^ 57 + spanOf (m .estimate)) ≤ 3 * 2 ^ 63 + 5 * s)
   pub plus8 : (c : ℕ) → (c ≤ m .plus8) ↔ (3 * (c * 2 ^ 57) ≤ 3 * 2 ^ 63 + 8 * l)
 
 -- m holds the multiples of a row
 pub record RowOf (m : RowMultiples) : Type 0 where
   pub small : m .row ≤ 15
-  pub is : m ≡ multiplesOf (m .row)
+  pub is : m ≡ multiplesOf (m .estimate) (m .row)
 
 -- what the test of a cell is handed: the multiples of its row, its column and a byte
 pub record CellOf (m : RowMultiples) (c b : ℕ) : Type 0 where
@@ -105,8 +107,8 @@ allowsBy m c b = cond (ltb (greatestByte m c) b || ltb b (leastByte m c)) (not (
 abbrev pub above : ℕ → ℕ
 above c = 3 * (c * 2 ^ 57 - 2 ^ 63)
 
-abbrev pub under : ℕ → ℕ
-under c = 3 * (2 ^ 63 - (c * 2 ^ 57 + span))
+abbrev pub under : Estimate → ℕ → ℕ
+under E c = 3 * (2 ^ 63 - (c * 2 ^ 57 + spanOf E))
 
 -- the least D with y < 4D for k = 0, with y < D for k = 1; else 0
 abbrev pub leastPast : ℕ → ℕ → ℕ
@@ -117,11 +119,11 @@ abbrev pub leastDivisor : ℕ → ℕ → ℕ → ℕ → ℕ
 leastDivisor start x y k = max start (max ((x + 7) / 8) (leastPast k y))
 
 -- the least divisor from s on at which a remainder of the column c is too low for b, and too high
-abbrev pub lowDivisor : ℕ → ℕ → ℕ → ℕ
-lowDivisor s c b = leastDivisor s (under c) (above c) (4 - b)
+abbrev pub lowDivisor : Estimate → ℕ → ℕ → ℕ → ℕ
+lowDivisor E s c b = leastDivisor s (under E c) (above c) (4 - b)
 
-abbrev pub highDivisor : ℕ → ℕ → ℕ → ℕ
-highDivisor s c b = leastDivisor s (above c) (under c) b
+abbrev pub highDivisor : Estimate → ℕ → ℕ → ℕ → ℕ
+highDivisor E s c b = leastDivisor s (above c) (under E c) b
 
 -- 8D/3, rounded down: the greatest |P| of a point
 abbrev pub reach : ℕ → ℕ
@@ -147,14 +149,14 @@ pub data Finding : Type 0 where
   NoWitness : Finding
   LeastAt : ℕ → ℕ → Finding
 
-abbrev pub foundAt : ℕ → ℕ → ℕ → Bool → Finding
-foundAt s c b low =
-    let d = lowDivisor s c b in
-    let e = highDivisor s c b in
+abbrev pub foundAt : Estimate → ℕ → ℕ → ℕ → Bool → Finding
+foundAt E s c b low =
+    let d = lowDivisor E s c b in
+    let e = highDivisor E s c b in
     cond low (LeastAt d (lowAt d c)) (LeastAt e (highAt e c b))
 
 abbrev pub testOf : RowMultiples → ℕ → ℕ → Finding
-testOf m c b = cond (allowsBy m c b) NoWitness (foundAt (m .smallest) c b (ltb (greatestByte m c) b))
+testOf m c b = cond (allowsBy m c b) NoWitness (foundAt (m .estimate) (m .smallest) c b (ltb (greatestByte m c) b))
 
 abbrev pub witnessOf : ℕ → ℕ → Witness
 witnessOf d w = record { divisor = d; remainder = subℕ w (2 ^ 63) }

@@ -83,7 +83,7 @@ firstRefusal (r ∷ rs) = firstOf (given r) (firstRefusal rs)
 -- ---- the order of the refusals
 
 abbrev pub order : List ℕ
-order = 1 ∷ 2 ∷ 16 ∷ 3 ∷ 14 ∷ 15 ∷ 4 ∷ 5 ∷ 6 ∷ 11 ∷ 12 ∷ 13 ∷ 7 ∷ 8 ∷ 9 ∷ 10 ∷ []
+order = 17 ∷ 1 ∷ 2 ∷ 16 ∷ 3 ∷ 14 ∷ 15 ∷ 4 ∷ 5 ∷ 6 ∷ 11 ∷ 12 ∷ 13 ∷ 7 ∷ 8 ∷ 9 ∷ 10 ∷ []
 
 abbrev pub rankIn : List ℕ → ℕ → ℕ → ℕ
 rankIn [] i n = 0

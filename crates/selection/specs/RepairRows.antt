@@ -12,6 +12,7 @@ use Rattle.selection.specs.Maker.{Limits}
 use Rattle.selection.specs.Multiples.{RowOf}
 use Rattle.selection.specs.Table.{Table}
 use Rattle.selection.specs.declared.multiples.RowMultiples.{RowMultiples}
+use Rattle.selection.specs.declared.Estimate.{Estimate}
 
 -- t is a table, m holds the multiples of a row, and c is a column
 pub record ColumnOf (t : List ℕ) (m : RowMultiples) (c : ℕ) : Type 0 where
@@ -29,17 +30,19 @@ pub record MarksRow (t : List ℕ) (m : RowMultiples) (b : List ℕ) : Type 0 wh
   pub row : RowOf m
   pub room : 2048 ≤ length b
 
--- t has 2,048 bytes, l has the limits of the row r, b has the row's marks, and a has room for the bytes
-pub record BytesRow (t : List ℕ) (r : ℕ) (l b a : List ℕ) : Type 0 where
-  pub size : length t ≡ 2048
-  pub row : r ≤ 15
-  pub limits : Limits r l
-  pub changed-room : 2048 ≤ length b
-  pub repaired-room : 2048 ≤ length a
-  pub marks : (c : ℕ) → c < 128 → getD b (128 * r + c) 0 ≡ changeMark t (128 * r + c)
+-- in a divider with the estimate E
+module _ (E : Estimate) where
+  -- t has 2,048 bytes, l has the limits of the row r, b has the row's marks, and a has room for the bytes
+  pub record BytesRow (t : List ℕ) (r : ℕ) (l b a : List ℕ) : Type 0 where
+    pub size : length t ≡ 2048
+    pub row : r ≤ 15
+    pub limits : Limits E r l
+    pub changed-room : 2048 ≤ length b
+    pub repaired-room : 2048 ≤ length a
+    pub marks : (c : ℕ) → c < 128 → getD b (128 * r + c) 0 ≡ changeMark E t (128 * r + c)
 
--- the first k cells of t are repaired, in lists that held rs and cs: a holds their bytes, b their marks, and n of them are changed
-pub record RepairedTo (t : List ℕ) (k : ℕ) (rs cs a b : List ℕ) (n : ℕ) : Type 0 where
-  pub bytes : a ≡ filled (repairedByte t) k rs
-  pub marks : b ≡ filled (changeMark t) k cs
-  pub count : n ≡ countBelow (isReplaced t) k
+  -- the first k cells of t are repaired, in lists that held rs and cs: a holds their bytes, b their marks, and n of them are changed
+  pub record RepairedTo (t : List ℕ) (k : ℕ) (rs cs a b : List ℕ) (n : ℕ) : Type 0 where
+    pub bytes : a ≡ filled (repairedByte E t) k rs
+    pub marks : b ≡ filled (changeMark E t) k cs
+    pub count : n ≡ countBelow (isReplaced E t) k

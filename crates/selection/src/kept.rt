@@ -4,6 +4,7 @@ ghost use lib.ListN.{length};
 ghost use Rattle.selection.specs.Cell as Cell;
 ghost use Rattle.selection.specs.Computed.{madeTable};
 ghost use Rattle.selection.specs.WordBytes.{wordsBytes};
+ghost use Rattle.selection.specs.declared.Estimate.the-variants.{EightBits};
 ghost use Rattle.selection.specs.Maker.{MadeTable};
 ghost use Rattle.selection.specs.Table.{rowBytes};
 
@@ -44,7 +45,7 @@ const KEPT: [u8; 2048] = *b"\
 
 // The kept table, whole.
 pub fn kept_table() -> [u8; 2048]
-    ensures { λ r. ⌜ (r ≡ madeTable) × (MadeTable r) ⌝ }
+    ensures { λ r. ⌜ (r ≡ madeTable EightBits) × (MadeTable EightBits r) ⌝ }
 {
     KEPT
 }
@@ -74,7 +75,7 @@ fn bytes_of(words: &[u64; 16]) -> [u8; 128]
 
 // The row of a divisor in the kept table.
 pub fn kept_row(divisor: u64) -> [u8; 128]
-    ensures { λ r. ⌜ r ≡ rowBytes madeTable (Cell.row divisor) ⌝ }
+    ensures { λ r. ⌜ r ≡ rowBytes (madeTable EightBits) (Cell.row divisor) ⌝ }
 {
     let words = crate::kept_words::row_words(divisor >> 56);
     bytes_of(&words)

@@ -5,6 +5,7 @@ ghost use mathlib.Core.Path.{_≡_};
 ghost use Prim.Native.Nat.{_%_};
 ghost use lib.ListN.{length};
 ghost use Rattle.selection.specs.Computed.{madeTable};
+ghost use Rattle.selection.specs.declared.Estimate.the-variants.{EightBits};
 ghost use Rattle.selection.specs.WordBytes.{wordsBytes};
 ghost use Rattle.selection.specs.Table.{rowBytes};
 
@@ -314,7 +315,7 @@ const ROW15: [u64; 16] = [
 
 // The words of the row n % 16. Only this crate calls it.
 pub(crate) fn row_words(n: u64) -> [u64; 16]
-    ensures { λ r. ⌜ (length r ≡ 16) × (wordsBytes r ≡ rowBytes madeTable (n % 16)) ⌝ }
+    ensures { λ r. ⌜ (length r ≡ 16) × (wordsBytes r ≡ rowBytes (madeTable EightBits) (n % 16)) ⌝ }
 {
     match n % 16 {
         0 => ROW0,

@@ -1,4 +1,5 @@
 // Quotient-digit selection, the lowest layer: the cell rule. Beside it the check of a table, its maker and the kept table.
+pub mod bits;
 pub mod kept;
 mod kept_words;
 pub mod maker;
@@ -13,8 +14,13 @@ ghost use Rattle.selection.specs.Answer.{refusal};
 ghost use Rattle.selection.specs.declared.Admission.the-variants as Told;
 ghost use Rattle.selection.specs.Cell.{CellChecked, digit};
 ghost use Rattle.selection.specs.Computed.{cellOf};
-use crate::multiples::row_multiples;
-use crate::multiples::test_cell;
+use crate::multiples::test_at;
+
+// Which divider a table is for: how many of the top bits of each remainder word it adds to estimate the partial remainder.
+pub enum Estimate {
+    SevenBits,
+    EightBits,
+}
 
 // A point of a cell that breaks a digit.
 pub struct Witness {
@@ -60,9 +66,9 @@ pub fn digit_of(byte: u8) -> i64
     byte as i64 - 2
 }
 
-// Row, column and byte of a single cell: allowed, or the least witness against the digit.
-pub fn check_cell(row: u64, column: u64, byte: u8) -> CellVerdict
-    ensures { λ r. ⌜ (r ≡ cellOf row column byte) × (CellChecked row column byte r) ⌝ }
+// Row, column and byte of a single cell, for a divider with this estimate: allowed, or the least witness against the digit.
+pub fn check_cell(estimate: Estimate, row: u64, column: u64, byte: u8) -> CellVerdict
+    ensures { λ r. ⌜ (r ≡ cellOf estimate row column byte) × (CellChecked estimate row column byte r) ⌝ }
 {
     if 15 < row {
         return CellVerdict::Refused(Refusal {
@@ -82,5 +88,5 @@ pub fn check_cell(row: u64, column: u64, byte: u8) -> CellVerdict
             place: 128 * row + column,
         });
     }
-    test_cell(row_multiples(row), column, byte)
+    test_at(estimate, row, column, byte)
 }

@@ -5,16 +5,17 @@ ghost use Prim.Native.Nat.{ℕ, _≤_, _<_};
 ghost use lib.ListN.{getD};
 ghost use Rattle.selection.specs.Computed.{limitsOf, rowLimitsOf, makeOf, madeBuffer};
 ghost use Rattle.selection.specs.Maker.{Limits, Limited, stepAt, Makes};
+use crate::Estimate;
 use crate::NO_REFUSAL;
 use crate::Refusal;
 use crate::multiples::row_multiples;
 
 // The six columns at which the made digits of a row change.
-pub(crate) fn limits_of(row: u64) -> [u8; 6]
+pub(crate) fn limits_of(estimate: Estimate, row: u64) -> [u8; 6]
     requires { ⌜ row ≤ 15 ⌝ }
-    ensures { λ r. ⌜ (r ≡ limitsOf row) × Limits row r ⌝ }
+    ensures { λ r. ⌜ (r ≡ limitsOf estimate row) × Limits estimate row r ⌝ }
 {
-    let m = row_multiples(row);
+    let m = row_multiples(estimate, row);
     [
         m.minus8 + 1,
         m.minus5 + 1,
@@ -33,8 +34,8 @@ pub struct RowLimits {
 }
 
 // The limits of a row.
-pub fn row_limits(row: u64) -> RowLimits
-    ensures { λ r. ⌜ (r ≡ rowLimitsOf row) × (Limited row r) ⌝ }
+pub fn row_limits(estimate: Estimate, row: u64) -> RowLimits
+    ensures { λ r. ⌜ (r ≡ rowLimitsOf estimate row) × (Limited estimate row r) ⌝ }
 {
     if 15 < row {
         let none = [0u8; 6];
@@ -46,7 +47,7 @@ pub fn row_limits(row: u64) -> RowLimits
             limits: none,
         };
     }
-    let l = limits_of(row);
+    let l = limits_of(estimate, row);
     RowLimits {
         refusal: NO_REFUSAL,
         limits: l,
@@ -79,13 +80,13 @@ pub(crate) fn digit_at(l: [u8; 6], c: u8) -> u8
 }
 
 // The limits of all rows.
-fn all_limits() -> [[u8; 6]; 16]
-    ensures { λ r. ⌜ ((j : ℕ) → j < 16 → Limits j (getD r j [])) ⌝ }
+fn all_limits(estimate: Estimate) -> [[u8; 6]; 16]
+    ensures { λ r. ⌜ ((j : ℕ) → j < 16 → Limits estimate j (getD r j [])) ⌝ }
 {
     let mut all = [[0u8; 6]; 16];
     let mut row: usize = 0;
     while row < 16 {
-        let l = limits_of(row as u64);
+        let l = limits_of(estimate, row as u64);
         all[row] = l;
         row += 1;
     }
@@ -93,8 +94,8 @@ fn all_limits() -> [[u8; 6]; 16]
 }
 
 // The made table, in the first 2,048 bytes of the buffer.
-pub fn make_table(buffer: &mut [u8]) -> Refusal
-    ensures { λ r. ⌜ (r ≡ makeOf (now (buffer .entry))) × (now (buffer .exit) ≡ madeBuffer (now (buffer .entry))) × (Makes (now (buffer .entry)) (now (buffer .exit)) r) ⌝ }
+pub fn make_table(estimate: Estimate, buffer: &mut [u8]) -> Refusal
+    ensures { λ r. ⌜ (r ≡ makeOf (now (buffer .entry))) × (now (buffer .exit) ≡ madeBuffer estimate (now (buffer .entry))) × (Makes estimate (now (buffer .entry)) (now (buffer .exit)) r) ⌝ }
 {
     if buffer.len() < 2048 {
         return Refusal {
@@ -102,7 +103,7 @@ pub fn make_table(buffer: &mut [u8]) -> Refusal
             place: 0,
         };
     }
-    let all = all_limits();
+    let all = all_limits(estimate);
     let mut k: usize = 0;
     while k < 2048 {
         let row = k / 128;

@@ -4,17 +4,21 @@ ghost use mathlib.Core.Bool.{true};
 ghost use mathlib.Core.Logic.{_↔_};
 ghost use Prim.Native.Nat.{_+_, _*_, _-_, _^_, _≤_, _<_, max};
 ghost use lib.IntN.{subℕ};
+ghost use Rattle.selection.specs.Cell.{spanOf, IsCell};
 ghost use Rattle.selection.specs.Computed.{cellOf};
 ghost use Rattle.selection.specs.Multiples.{leftColumn, rightColumn, beginsAtMost, beginsBelowMinus, endsAtMost, endsBelowMinus, RowOf, CellOf, past, leastByte, greatestByte, hasPoint, allowsBy, above, under, leastPast, leastDivisor, lowDivisor, highDivisor, lowAt, highAt, WitnessFor, witnessOf};
 ghost use Rattle.selection.specs.declared.CellVerdict.the-variants as Verdict;
 use crate::CellVerdict;
+use crate::Estimate;
 use crate::Witness;
 
 // Half of the words: what the remainders are moved up by.
 const HALF: u64 = 0x8000_0000_0000_0000;
 
-// What the estimate leaves out at most.
-const SPAN: u64 = 0x2ff_ffff_ffff_fffe;
+// What the estimate leaves out at most: of seven bits, and of eight.
+const SPAN_OF_SEVEN: u64 = 0x3ff_ffff_ffff_fffe;
+
+const SPAN_OF_EIGHT: u64 = 0x2ff_ffff_ffff_fffe;
 
 // The width of a column, and of a row.
 const COLUMN: u64 = 0x200_0000_0000_0000;
@@ -25,6 +29,7 @@ const ROW: u64 = 0x100_0000_0000_0000;
 // bound 3P. A point has 3P from -8D to 8D, and the digit q keeps 3P from (3q - 2)D to (3q + 2)D. Each multiple is handed on as a column, the last on its
 // lower side: so a cell's test compares bytes, and three times a column's end, which leaves 64 bits in cells that have points, is not formed for it.
 pub(crate) struct RowMultiples {
+    pub estimate: Estimate,
     pub row: u64,
     pub smallest: u64,
     // -8 times the largest: up to the last column that ends below it there is no point
@@ -56,6 +61,15 @@ fn monus(a: u64, b: u64) -> u64
     if a < b { 0 } else { a - b }
 }
 
+fn span_of(estimate: Estimate) -> u64
+    ensures { λ r. ⌜ (r ≡ spanOf estimate) × (3 * 2 ^ 56 - 2 ≤ r) × (r < 2 ^ 58) ⌝ }
+{
+    match estimate {
+        Estimate::SevenBits => SPAN_OF_SEVEN,
+        Estimate::EightBits => SPAN_OF_EIGHT,
+    }
+}
+
 // The last column that begins at a remainder or below, and the last that ends there or below.
 fn left_column(remainder: u64) -> u8
     ensures { λ r. ⌜ r ≡ leftColumn remainder ⌝ }
@@ -63,10 +77,10 @@ fn left_column(remainder: u64) -> u8
     (remainder / COLUMN) as u8
 }
 
-fn right_column(remainder: u64) -> u8
-    ensures { λ r. ⌜ r ≡ rightColumn remainder ⌝ }
+fn right_column(estimate: Estimate, remainder: u64) -> u8
+    ensures { λ r. ⌜ r ≡ rightColumn estimate remainder ⌝ }
 {
-    (monus(remainder, SPAN) / COLUMN) as u8
+    (monus(remainder, span_of(estimate)) / COLUMN) as u8
 }
 
 // The last column that begins, and that ends, where 3P is at most n, and where it is below -n.
@@ -82,22 +96,22 @@ fn begins_below_minus(n: u64) -> u8
     left_column(HALF - n / 3 - 1)
 }
 
-fn ends_at_most(n: u64) -> u8
-    ensures { λ r. ⌜ r ≡ endsAtMost n ⌝ }
+fn ends_at_most(estimate: Estimate, n: u64) -> u8
+    ensures { λ r. ⌜ r ≡ endsAtMost estimate n ⌝ }
 {
-    right_column(HALF + n / 3)
+    right_column(estimate, HALF + n / 3)
 }
 
-fn ends_below_minus(n: u64) -> u8
-    ensures { λ r. ⌜ r ≡ endsBelowMinus n ⌝ }
+fn ends_below_minus(estimate: Estimate, n: u64) -> u8
+    ensures { λ r. ⌜ r ≡ endsBelowMinus estimate n ⌝ }
 {
-    right_column(HALF - n / 3 - 1)
+    right_column(estimate, HALF - n / 3 - 1)
 }
 
 // The multiples of a row. Of the largest, once and four times less 1: 3P < L is 3P <= L - 1, and 3P <= -L is 3P < -(L - 1).
-pub(crate) fn row_multiples(row: u64) -> RowMultiples
+pub(crate) fn row_multiples(estimate: Estimate, row: u64) -> RowMultiples
     requires { ⌜ row ≤ 15 ⌝ }
-    ensures { λ r. ⌜ RowOf r × (r .row ≡ row) ⌝ }
+    ensures { λ r. ⌜ RowOf r × (r .estimate ≡ estimate) × (r .row ≡ row) ⌝ }
 {
     let smallest = (16 + row) * ROW;
     let largest = (17 + row) * ROW - 1;
@@ -107,17 +121,18 @@ pub(crate) fn row_multiples(row: u64) -> RowMultiples
     let five = 5 * smallest;
     let eight = 8 * largest;
     RowMultiples {
+        estimate,
         row,
         smallest,
-        minus8: ends_below_minus(eight),
+        minus8: ends_below_minus(estimate, eight),
         minus5: begins_below_minus(five),
-        minus4: ends_below_minus(four),
+        minus4: ends_below_minus(estimate, four),
         minus2: begins_below_minus(two),
-        minus1: ends_below_minus(one),
+        minus1: ends_below_minus(estimate, one),
         plus1: begins_at_most(one),
-        plus2: ends_at_most(two),
+        plus2: ends_at_most(estimate, two),
         plus4: begins_at_most(four),
-        plus5: ends_at_most(five),
+        plus5: ends_at_most(estimate, five),
         plus8: begins_at_most(eight),
     }
 }
@@ -157,7 +172,7 @@ fn has_point(m: RowMultiples, c: u8) -> bool
 // Whether the cell allows the byte's digit: the verdict of `test_cell` without its witness.
 pub(crate) fn allows(m: RowMultiples, c: u8, byte: u8) -> bool
     requires { ⌜ CellOf m c byte ⌝ }
-    ensures { λ r. ⌜ (r ≡ allowsBy m c byte) × ((r ≡ true) ↔ (cellOf (m .row) c byte ≡ Verdict.Allowed)) ⌝ }
+    ensures { λ r. ⌜ (r ≡ allowsBy m c byte) × ((r ≡ true) ↔ (cellOf (m .estimate) (m .row) c byte ≡ Verdict.Allowed)) ⌝ }
 {
     if past(greatest_byte(m, c), byte) + past(byte, least_byte(m, c)) == 0 {
         return true;
@@ -181,11 +196,11 @@ fn above(column: u64) -> u64
     3 * monus(column * COLUMN, HALF)
 }
 
-fn under(column: u64) -> u64
+fn under(estimate: Estimate, column: u64) -> u64
     requires { ⌜ (20 ≤ column) × (column ≤ 106) ⌝ }
-    ensures { λ r. ⌜ (r ≡ under column) × (r < 2 ^ 64 - 8) ⌝ }
+    ensures { λ r. ⌜ (r ≡ under estimate column) × (r < 2 ^ 64 - 8) ⌝ }
 {
-    3 * monus(HALF, column * COLUMN + SPAN)
+    3 * monus(HALF, column * COLUMN + span_of(estimate))
 }
 
 // The least D with y < 4D for k = 0, with y < D for k = 1; else 0.
@@ -222,18 +237,18 @@ fn unbiased(w: u64) -> i64
 }
 
 // The least divisor of the row at which a remainder of the column is too low for the digit, and too high.
-fn low_divisor(smallest: u64, column: u64, byte: u64) -> u64
+fn low_divisor(estimate: Estimate, smallest: u64, column: u64, byte: u64) -> u64
     requires { ⌜ (20 ≤ column) × (column ≤ 106) × (byte ≤ 4) ⌝ }
-    ensures { λ r. ⌜ r ≡ lowDivisor smallest column byte ⌝ }
+    ensures { λ r. ⌜ r ≡ lowDivisor estimate smallest column byte ⌝ }
 {
-    least_divisor(smallest, under(column), above(column), 4 - byte)
+    least_divisor(smallest, under(estimate, column), above(column), 4 - byte)
 }
 
-fn high_divisor(smallest: u64, column: u64, byte: u64) -> u64
+fn high_divisor(estimate: Estimate, smallest: u64, column: u64, byte: u64) -> u64
     requires { ⌜ (20 ≤ column) × (column ≤ 106) ⌝ }
-    ensures { λ r. ⌜ r ≡ highDivisor smallest column byte ⌝ }
+    ensures { λ r. ⌜ r ≡ highDivisor estimate smallest column byte ⌝ }
 {
-    least_divisor(smallest, above(column), under(column), byte)
+    least_divisor(smallest, above(column), under(estimate, column), byte)
 }
 
 // The least point of the column at the divisor d, and the least that is too high for the digit.
@@ -258,19 +273,28 @@ fn high_witness(d: u64, column: u64, byte: u64) -> Witness
 }
 
 // The test of a cell: the verdict and the witness of `check_cell`. No digit is both too low and too high.
-pub(crate) fn test_cell(m: RowMultiples, column: u64, byte: u8) -> CellVerdict
+fn test_cell(m: RowMultiples, column: u64, byte: u8) -> CellVerdict
     requires { ⌜ CellOf m column byte ⌝ }
-    ensures { λ r. ⌜ r ≡ cellOf (m .row) column byte ⌝ }
+    ensures { λ r. ⌜ r ≡ cellOf (m .estimate) (m .row) column byte ⌝ }
 {
     let c = column as u8;
     if allows(m, c, byte) {
         return CellVerdict::Allowed;
     }
     let b = byte as u64;
+    let estimate = m.estimate;
     if greatest_byte(m, c) < byte {
-        let d = low_divisor(m.smallest, column, b);
+        let d = low_divisor(estimate, m.smallest, column, b);
         return CellVerdict::Disallowed(low_witness(d, column));
     }
-    let d = high_divisor(m.smallest, column, b);
+    let d = high_divisor(estimate, m.smallest, column, b);
     CellVerdict::Disallowed(high_witness(d, column, b))
+}
+
+// The same by the row. Single cells and a table's report both ask it, so it is compiled by itself, with the multiples in registers.
+pub(crate) fn test_at(estimate: Estimate, row: u64, column: u64, byte: u8) -> CellVerdict
+    requires { ⌜ IsCell row column byte ⌝ }
+    ensures { λ r. ⌜ r ≡ cellOf estimate row column byte ⌝ }
+{
+    test_cell(row_multiples(estimate, row), column, byte)
 }

@@ -5,6 +5,7 @@ ghost use Rattle.selection.specs.Answer.{cellNumbers, badNumbers, report
 ghost use Rattle.selection.specs.Computed.{cellOf, reportOf};
 ghost use Rattle.selection.specs.declared.CellVerdict.the-variants as C;
 use crate::CellVerdict;
+use crate::Estimate;
 use crate::NO_REFUSAL;
 use crate::Refusal;
 use crate::Witness;
@@ -113,15 +114,15 @@ fn report_numbers(x: Report) -> ReportNumbers
 }
 
 // A single cell.
-pub fn cell_numbers(row: u64, column: u64, byte: u8) -> CellNumbers
-    ensures { λ r. ⌜ r ≡ cellNumbers (cellOf row column byte) ⌝ }
+pub fn cell_numbers(estimate: Estimate, row: u64, column: u64, byte: u8) -> CellNumbers
+    ensures { λ r. ⌜ r ≡ cellNumbers (cellOf estimate row column byte) ⌝ }
 {
-    verdict_numbers(crate::check_cell(row, column, byte))
+    verdict_numbers(crate::check_cell(estimate, row, column, byte))
 }
 
 // A table.
-pub fn table_numbers(table: &[u8]) -> ReportNumbers
-    ensures { λ r. ⌜ r ≡ reportNumbers (reportOf (now (table .entry))) ⌝ }
+pub fn table_numbers(estimate: Estimate, table: &[u8]) -> ReportNumbers
+    ensures { λ r. ⌜ r ≡ reportNumbers (reportOf estimate (now (table .entry))) ⌝ }
 {
-    report_numbers(crate::table::check_table(table))
+    report_numbers(crate::table::check_table(estimate, table))
 }

@@ -13,6 +13,7 @@ ghost use Rattle.selection.specs.Computed.{repairedByte, changeMark, rep
 ghost use Rattle.selection.specs.RepairRows.{FillsRow, MarksRow, BytesRow, RepairedTo};
 ghost use Rattle.selection.specs.Repair.{repairRules, RepairAccepts, Repairs};
 use crate::Admission;
+use crate::Estimate;
 use crate::NO_REFUSAL;
 use crate::Refusal;
 use crate::maker::digit_at;
@@ -57,7 +58,7 @@ fn byte_of(l: [u8; 6], c: u8, byte: u8, mark: u8) -> u8
 // vectors that do not fit the registers and go to the stack.
 fn mark_row(table: &[u8], m: RowMultiples, changed: &mut [u8]) -> u8
     requires { ⌜ MarksRow (now table) m (now changed) ⌝ }
-    ensures { λ r. ⌜ FillsRow (changeMark (now (table .entry))) (m .row) (now (changed .entry)) (now (changed .exit)) × (r ≡ countBelow (λ c. isReplaced (now (table .entry)) (128 * m .row + c)) 128) ⌝ }
+    ensures { λ r. ⌜ FillsRow (changeMark (m .estimate) (now (table .entry))) (m .row) (now (changed .entry)) (now (changed .exit)) × (r ≡ countBelow (λ c. isReplaced (m .estimate) (now (table .entry)) (128 * m .row + c)) 128) ⌝ }
 {
     let start = 128 * (m.row as usize);
     let mut count: u8 = 0;
@@ -72,30 +73,30 @@ fn mark_row(table: &[u8], m: RowMultiples, changed: &mut [u8]) -> u8
 }
 
 // A row's bytes by its marks, in a list that has those of the rows before it.
-fn byte_row(table: &[u8], row: usize, l: [u8; 6], changed: &[u8], repaired: &mut [u8])
-    requires { ⌜ BytesRow (now table) row l (now changed) (now repaired) ⌝ }
-    ensures { λ r. ⌜ FillsRow (repairedByte (now (table .entry))) row (now (repaired .entry)) (now (repaired .exit)) ⌝ }
+fn byte_row(table: &[u8], m: RowMultiples, l: [u8; 6], changed: &[u8], repaired: &mut [u8])
+    requires { ⌜ BytesRow (m .estimate) (now table) (m .row) l (now changed) (now repaired) ⌝ }
+    ensures { λ r. ⌜ FillsRow (repairedByte (m .estimate) (now (table .entry))) (m .row) (now (repaired .entry)) (now (repaired .exit)) ⌝ }
 {
-    let start = 128 * row;
     let mut c: usize = 0;
     while c < 128 {
-        repaired[start + c] = byte_of(l, c as u8, table[start + c], changed[start + c]);
+        let k = 128 * (m.row as usize) + c;
+        repaired[k] = byte_of(l, c as u8, table[k], changed[k]);
         c += 1;
     }
 }
 
 // All rows, and the number of changes. A row's multiples and limits are worked out before its columns start.
-fn repair_rows(table: &[u8], repaired: &mut [u8], changed: &mut [u8]) -> u64
+fn repair_rows(estimate: Estimate, table: &[u8], repaired: &mut [u8], changed: &mut [u8]) -> u64
     requires { ⌜ RepairAccepts (length (now table)) (length (now repaired)) (length (now changed)) ⌝ }
-    ensures { λ r. ⌜ RepairedTo (now (table .entry)) 2048 (now (repaired .entry)) (now (changed .entry)) (now (repaired .exit)) (now (changed .exit)) r ⌝ }
+    ensures { λ r. ⌜ RepairedTo estimate (now (table .entry)) 2048 (now (repaired .entry)) (now (changed .entry)) (now (repaired .exit)) (now (changed .exit)) r ⌝ }
 {
     let mut count: u64 = 0;
     let mut row: usize = 0;
     while row < 16 {
-        let m = row_multiples(row as u64);
+        let m = row_multiples(estimate, row as u64);
         let n = mark_row(table, m, changed);
-        let l = limits_of(row as u64);
-        byte_row(table, row, l, changed, repaired);
+        let l = limits_of(estimate, row as u64);
+        byte_row(table, m, l, changed, repaired);
         count += n as u64;
         row += 1;
     }
@@ -119,8 +120,13 @@ fn refusal_of(table: usize, repaired: usize, changed: usize) -> Admission
 }
 
 // A repaired table in the first 2,048 bytes of the one buffer, and in those of the other 1 for each changed cell and 0 elsewhere.
-pub fn repair_table(table: &[u8], repaired: &mut [u8], changed: &mut [u8]) -> RepairAnswer
-    ensures { λ r. ⌜ (r ≡ repairOf (now (table .entry)) (now (repaired .entry)) (now (changed .entry))) × (now (repaired .exit) ≡ repairedOf (now (table .entry)) (now (repaired .entry)) (now (changed .entry))) × (now (changed .exit) ≡ changedOf (now (table .entry)) (now (repaired .entry)) (now (changed .entry))) × (Repairs (now (table .entry)) (now (repaired .entry)) (now (changed .entry)) (now (repaired .exit)) (now (changed .exit)) r) ⌝ }
+pub fn repair_table(
+    estimate: Estimate,
+    table: &[u8],
+    repaired: &mut [u8],
+    changed: &mut [u8],
+) -> RepairAnswer
+    ensures { λ r. ⌜ (r ≡ repairOf estimate (now (table .entry)) (now (repaired .entry)) (now (changed .entry))) × (now (repaired .exit) ≡ repairedOf estimate (now (table .entry)) (now (repaired .entry)) (now (changed .entry))) × (now (changed .exit) ≡ changedOf estimate (now (table .entry)) (now (repaired .entry)) (now (changed .entry))) × (Repairs estimate (now (table .entry)) (now (repaired .entry)) (now (changed .entry)) (now (repaired .exit)) (now (changed .exit)) r) ⌝ }
 {
     let admission = refusal_of(table.len(), repaired.len(), changed.len());
     match admission {
@@ -129,7 +135,7 @@ pub fn repair_table(table: &[u8], repaired: &mut [u8], changed: &mut [u8]) -> Re
             count: 0,
         },
         Admission::Admitted => {
-            let count = repair_rows(table, repaired, changed);
+            let count = repair_rows(estimate, table, repaired, changed);
             RepairAnswer {
                 refusal: NO_REFUSAL,
                 count,

@@ -10,18 +10,20 @@ ghost use Rattle.selection.specs.Refusals.{firstRefusal};
 ghost use Rattle.selection.specs.Answer.{refusal, admission, firstOf};
 ghost use Rattle.selection.specs.Cell as Cell;
 ghost use Rattle.selection.specs.Allowed.{aboveFour, isBad, isBadIn};
+ghost use Rattle.selection.specs.declared.Estimate.the-variants.{EightBits};
 ghost use Rattle.selection.specs.Multiples.{RowOf};
 ghost use Rattle.selection.specs.RepairRows.{ColumnOf};
 ghost use Rattle.selection.specs.Table.{rowBytes, tableRules, Table, Checked};
 ghost use Rattle.selection.specs.Computed.{refusedReport, reportAt, tableReport, reportOf};
 use crate::Admission;
 use crate::CellVerdict;
+use crate::Estimate;
 use crate::Refusal;
 use crate::Witness;
 use crate::multiples::RowMultiples;
 use crate::multiples::allows;
 use crate::multiples::row_multiples;
-use crate::multiples::test_cell;
+use crate::multiples::test_at;
 
 // A bad cell and the witness against its digit.
 pub struct BadCell {
@@ -94,7 +96,7 @@ fn first_above(table: &[u8]) -> usize
 // Whether the byte at a column of a row holds a digit that isn't allowed: the test of the cell up to its witness, which the report alone wants.
 fn is_bad(table: &[u8], m: RowMultiples, column: usize) -> bool
     requires { ⌜ ColumnOf (now table) m column ⌝ }
-    ensures { λ r. ⌜ r ≡ isBadIn (now (table .entry)) (m .row) column ⌝ }
+    ensures { λ r. ⌜ r ≡ isBadIn (m .estimate) (now (table .entry)) (m .row) column ⌝ }
 {
     !allows(m, column as u8, table[128 * (m.row as usize) + column])
 }
@@ -102,7 +104,7 @@ fn is_bad(table: &[u8], m: RowMultiples, column: usize) -> bool
 // The number of bad cells of a row: a loop without an exit, for cells side by side.
 fn count_row(table: &[u8], m: RowMultiples) -> u8
     requires { ⌜ Table (now table) × RowOf m ⌝ }
-    ensures { λ r. ⌜ r ≡ countBelow (isBadIn (now (table .entry)) (m .row)) 128 ⌝ }
+    ensures { λ r. ⌜ r ≡ countBelow (isBadIn (m .estimate) (now (table .entry)) (m .row)) 128 ⌝ }
 {
     let mut count: u8 = 0;
     let mut c: usize = 0;
@@ -118,7 +120,7 @@ fn count_row(table: &[u8], m: RowMultiples) -> u8
 // The column of a bad cell, or 128.
 fn bad_column(table: &[u8], m: RowMultiples, column: usize) -> u8
     requires { ⌜ ColumnOf (now table) m column ⌝ }
-    ensures { λ r. ⌜ r ≡ cond (isBadIn (now (table .entry)) (m .row) column) column 128 ⌝ }
+    ensures { λ r. ⌜ r ≡ cond (isBadIn (m .estimate) (now (table .entry)) (m .row) column) column 128 ⌝ }
 {
     if is_bad(table, m, column) {
         column as u8
@@ -137,7 +139,7 @@ fn lesser(a: u8, b: u8) -> u8
 // The column of the first bad cell of a row, or 128: a loop without an exit too.
 fn first_in_row(table: &[u8], m: RowMultiples) -> u8
     requires { ⌜ Table (now table) × RowOf m ⌝ }
-    ensures { λ r. ⌜ r ≡ firstFrom (isBadIn (now (table .entry)) (m .row)) 0 128 ⌝ }
+    ensures { λ r. ⌜ r ≡ firstFrom (isBadIn (m .estimate) (now (table .entry)) (m .row)) 0 128 ⌝ }
 {
     let mut first: u8 = 128;
     let mut column: usize = 0;
@@ -149,14 +151,14 @@ fn first_in_row(table: &[u8], m: RowMultiples) -> u8
 }
 
 // The number of bad cells, where the rows before `start` have `count` of them.
-fn count_from(table: &[u8], start: usize, count: u64) -> u64
-    requires { ⌜ Table (now table) × (start ≤ 16) × (count ≡ countBelow (isBad (now table)) (128 * start)) ⌝ }
-    ensures { λ r. ⌜ r ≡ countBelow (isBad (now (table .entry))) 2048 ⌝ }
+fn count_from(estimate: Estimate, table: &[u8], start: usize, count: u64) -> u64
+    requires { ⌜ Table (now table) × (start ≤ 16) × (count ≡ countBelow (isBad estimate (now table)) (128 * start)) ⌝ }
+    ensures { λ r. ⌜ r ≡ countBelow (isBad estimate (now (table .entry))) 2048 ⌝ }
 {
     let mut total = count;
     let mut row = start;
     while row < 16 {
-        total += count_row(table, row_multiples(row as u64)) as u64;
+        total += count_row(table, row_multiples(estimate, row as u64)) as u64;
         row += 1;
     }
     total
@@ -175,13 +177,14 @@ fn refused_report(number: u64, place: u64) -> Report
 // The report of a table with `count` bad cells, the first of them in the row whose multiples are m: its verdict and witness are the test's. The last two
 // verdicts are never given on it.
 fn bad_report(table: &[u8], m: RowMultiples, count: u64) -> Report
-    requires { ⌜ ColumnOf (now table) m (firstFrom (isBadIn (now table) (m .row)) 0 128) ⌝ }
-    ensures { λ r. ⌜ r ≡ reportAt count (now (table .entry)) (128 * m .row + firstFrom (isBadIn (now (table .entry)) (m .row)) 0 128) ⌝ }
+    requires { ⌜ ColumnOf (now table) m (firstFrom (isBadIn (m .estimate) (now table) (m .row)) 0 128) ⌝ }
+    ensures { λ r. ⌜ r ≡ reportAt (m .estimate) count (now (table .entry)) (128 * m .row + firstFrom (isBadIn (m .estimate) (now (table .entry)) (m .row)) 0 128) ⌝ }
 {
     let row = m.row;
     let column = first_in_row(table, m) as u64;
     let k = 128 * row + column;
-    match test_cell(m, column, table[k as usize]) {
+    let estimate = m.estimate;
+    match test_at(estimate, row, column, table[k as usize]) {
         CellVerdict::Disallowed(witness) => Report {
             count,
             outcome: Outcome::Bad(BadCell {
@@ -203,16 +206,16 @@ fn bad_report(table: &[u8], m: RowMultiples, count: u64) -> Report
 
 // The report of 2,048 bytes from 0 to 4, in one pass: a row's multiples are worked out before its columns start, and handed to the count of its bad cells
 // and to the test of the first.
-fn check_rows(table: &[u8]) -> Report
+fn check_rows(estimate: Estimate, table: &[u8]) -> Report
     requires { ⌜ Table (now table) ⌝ }
-    ensures { λ r. ⌜ r ≡ tableReport (now (table .entry)) ⌝ }
+    ensures { λ r. ⌜ r ≡ tableReport estimate (now (table .entry)) ⌝ }
 {
     let mut row: usize = 0;
     while row < 16 {
-        let m = row_multiples(row as u64);
+        let m = row_multiples(estimate, row as u64);
         let count = count_row(table, m);
         if 0 < count {
-            return bad_report(table, m, count_from(table, row + 1, count as u64));
+            return bad_report(table, m, count_from(estimate, table, row + 1, count as u64));
         }
         row += 1;
     }
@@ -223,8 +226,8 @@ fn check_rows(table: &[u8]) -> Report
 }
 
 // The number of bad cells, and the first of them with its witness.
-pub fn check_table(table: &[u8]) -> Report
-    ensures { λ r. ⌜ (r ≡ reportOf (now (table .entry))) × (Checked (now (table .entry)) r) ⌝ }
+pub fn check_table(estimate: Estimate, table: &[u8]) -> Report
+    ensures { λ r. ⌜ (r ≡ reportOf estimate (now (table .entry))) × (Checked estimate (now (table .entry)) r) ⌝ }
 {
     if table.len() != 2048 {
         return refused_report(8, 0);
@@ -233,7 +236,7 @@ pub fn check_table(table: &[u8]) -> Report
     if above < 2048 {
         return refused_report(9, above as u64);
     }
-    check_rows(table)
+    check_rows(estimate, table)
 }
 
 // The index of a bad cell.
@@ -245,10 +248,10 @@ fn place_of(cell: BadCell) -> u64
 }
 
 // What every other call makes of a table: it takes it, or it gives the check's number and place alone.
-fn admit_table(table: &[u8]) -> Admission
-    ensures { λ r. ⌜ r ≡ admission (reportOf (now (table .entry))) ⌝ }
+fn admit_table(estimate: Estimate, table: &[u8]) -> Admission
+    ensures { λ r. ⌜ r ≡ admission (reportOf estimate (now (table .entry))) ⌝ }
 {
-    let report = check_table(table);
+    let report = check_table(estimate, table);
     let outcome = report.outcome;
     match outcome {
         Outcome::Passed => Admission::Admitted,
@@ -262,10 +265,10 @@ fn admit_table(table: &[u8]) -> Admission
 
 // The refusal of a call that is lent a table: that of its other arguments, or else the table's.
 pub fn admit_after(arguments: Admission, table: &[u8]) -> Admission
-    ensures { λ r. ⌜ r ≡ firstOf arguments (firstRefusal (tableRules (now (table .entry)))) ⌝ }
+    ensures { λ r. ⌜ r ≡ firstOf arguments (firstRefusal (tableRules EightBits (now (table .entry)))) ⌝ }
 {
     match arguments {
         Admission::Refused(f) => Admission::Refused(f),
-        Admission::Admitted => admit_table(table),
+        Admission::Admitted => admit_table(Estimate::EightBits, table),
     }
 }

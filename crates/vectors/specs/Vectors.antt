@@ -17,6 +17,7 @@ use Rattle.vectors.specs.declared.Vector.{Vector}
 use Rattle.vectors.specs.declared.Counts.{Counts}
 use Rattle.vectors.specs.declared.FileRun.{FileRun}
 use Rattle.vectors.specs.declared.FileRun.the-variants.{Unread, Counted}
+use Rattle.selection.specs.declared.Estimate.the-variants.{EightBits}
 
 -- the value of a hexadecimal digit, 0 to 9 and a to f; of another byte 0
 abbrev pub nibbleOf : ℕ → ℕ
@@ -73,7 +74,7 @@ differsFrom v x = cond (eqb (x .refusal .number) 0) (cond (eqb (x .pattern) (v .
 
 -- the unit's answer: a root, or a quotient through the kept table
 abbrev pub answerOf : Bool → ℕ → ℕ → ℕ → Binary64Answer
-answerOf root a b direction = cond root (rootBinary64Of direction a) (binary64Of madeTable direction a b)
+answerOf root a b direction = cond root (rootBinary64Of direction a) (binary64Of (madeTable EightBits) direction a b)
 
 -- the unit's answer differs from a case
 abbrev pub differsIn : Vector → Bool

@@ -2,8 +2,8 @@
 
 use crate::exports::*;
 pub use crate::exports::{
-    AffectedCount as Affected, AffectedMark as AffectedWhole, Averages, Binary64, Cell, Comparison, Limits, Made as Make, Packed, Ran as Run, Repaired as Repair,
-    Report as Table, Root, Samples, Stepped, Visits, Whole,
+    AffectedCount as Affected, AffectedMark as AffectedWhole, Averages, Binary64, Cell, Comparison, Limits,
+    Made as Make, Packed, Ran as Run, Repaired as Repair, Report as Table, Root, Samples, Stepped, Visits, Whole,
 };
 
 /// A call with a lent table or list to read, which it leaves as it was.
@@ -20,6 +20,29 @@ pub fn check_cell(row: u64, column: u64, byte: u8) -> Cell {
 
 pub fn check_table(table: &[u8]) -> Table {
     lend(table, |t, length| unsafe { quendaric_check_table(t, length) })
+}
+
+/// The table calls for a divider that adds so many bits of each word.
+pub fn check_cell_for(estimate_bits: u64, row: u64, column: u64, byte: u8) -> Cell {
+    unsafe { quendaric_check_cell_for(estimate_bits, row, column, byte) }
+}
+
+pub fn check_table_for(estimate_bits: u64, table: &[u8]) -> Table {
+    lend(table, |t, length| unsafe { quendaric_check_table_for(estimate_bits, t, length) })
+}
+
+pub fn row_limits_for(estimate_bits: u64, row: u64) -> Limits {
+    unsafe { quendaric_row_limits_for(estimate_bits, row) }
+}
+
+pub fn make_table_for(estimate_bits: u64, buffer: &mut [u8]) -> Make {
+    unsafe { quendaric_make_table_for(estimate_bits, buffer.as_mut_ptr(), buffer.len()) }
+}
+
+pub fn repair_table_for(estimate_bits: u64, table: &[u8], repaired: &mut [u8], changed: &mut [u8]) -> Repair {
+    let (r, r_length) = (repaired.as_mut_ptr(), repaired.len());
+    let (c, c_length) = (changed.as_mut_ptr(), changed.len());
+    lend(table, |t, length| unsafe { quendaric_repair_table_for(estimate_bits, t, length, r, r_length, c, c_length) })
 }
 
 pub fn row_limits(row: u64) -> Limits {

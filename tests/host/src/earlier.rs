@@ -1,6 +1,6 @@
 //! The check as it was before the rows' multiples, in the same 64-bit words: a rule in small numbers says which cells are bad,
 //! and a search for the least witness from below and from above judges a single cell. What the estimate leaves out at most, the
-//! span, is given, so that there is one for the finer estimate and one for the estimate before it.
+//! span, is given, so that there is one for each estimate.
 use crate::calls::{Cell, Table};
 use crate::document::CELLS;
 
@@ -17,8 +17,8 @@ pub struct Check {
     units: u64,
 }
 
-pub const FINER: Check = Check { units: 3 };
-pub const COARSER: Check = Check { units: 4 };
+pub const SEVEN: Check = Check { units: 4 };
+pub const EIGHT: Check = Check { units: 3 };
 
 /// The least D from `start` on with x <= 8D and, for k = 0, y < 4D, for k = 1, y < D.
 fn least_divisor(start: u64, x: u64, y: u64, k: u64) -> u64 {

@@ -228,4 +228,17 @@ extern "C" {
     pub fn quendaric_compare_ratios(a: u64, b: u64, c: u64, d: u64) -> Comparison;
     pub fn quendaric_root_whole(a: u64) -> Root;
     pub fn quendaric_root_binary64(a: u64, direction: u64) -> Binary64;
+    pub fn quendaric_check_cell_for(estimate_bits: u64, row: u64, column: u64, byte: u8) -> Cell;
+    pub fn quendaric_check_table_for(estimate_bits: u64, table: *const u8, table_length: usize) -> Report;
+    pub fn quendaric_row_limits_for(estimate_bits: u64, row: u64) -> Limits;
+    pub fn quendaric_make_table_for(estimate_bits: u64, buffer: *mut u8, buffer_length: usize) -> Made;
+    pub fn quendaric_repair_table_for(
+        estimate_bits: u64,
+        table: *const u8,
+        table_length: usize,
+        repaired: *mut u8,
+        repaired_length: usize,
+        changed: *mut u8,
+        changed_length: usize,
+    ) -> Repaired;
 }

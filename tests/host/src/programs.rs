@@ -17,7 +17,8 @@ pub fn written(name: &str, input: &[u8]) -> Output {
     written_with(name, &[], input)
 }
 
-fn written_with(name: &str, arguments: &[&str], input: &[u8]) -> Output {
+/// The same with arguments.
+pub fn written_with(name: &str, arguments: &[&str], input: &[u8]) -> Output {
     let program = format!("{}/../../target/bin/{name}", env!("CARGO_MANIFEST_DIR"));
     let mut child = Command::new(&program)
         .args(arguments)

@@ -1,13 +1,20 @@
 //! Would catch a cell judged wrongly, a witness that is no point, breaks nothing or is not the least, and a made digit
 //! or limit that is not the one nearest zero. The other check is first held against a list of all points, and the points
 //! against all pairs of words. The draws are from the fixed seed below.
-use host::calls::{check_cell, make_table, row_limits, Cell, Limits};
-use host::document::{breaks, coarser, rule, Unit, CELLS, COARSER, FULL};
+use host::calls::{
+    check_cell, check_cell_for, make_table, make_table_for, row_limits, row_limits_for, Cell, Limits, Make,
+};
+use host::document::{breaks, rule, seven, Rule, Unit, CELLS, EIGHT, SEVEN};
 use host::draw::Draw;
-use host::earlier::FINER;
+use host::earlier::{self, Check};
 
 const SEED: u64 = 0x5EED_0128;
 const DIGITS: [i128; 5] = [-2, -1, 0, 1, 2];
+
+/// Both estimates: the bits, the scale, the rule, and the check as it was before the rows' multiples.
+fn estimates() -> [(u64, Unit, &'static Rule, Check); 2] {
+    [(7, SEVEN, seven(), earlier::SEVEN), (8, EIGHT, rule(), earlier::EIGHT)]
+}
 
 fn cells() -> impl Iterator<Item = (i128, i128, i128)> {
     (0..CELLS as i128).flat_map(|k| DIGITS.map(|q| (k / 128, k % 128, q)))
@@ -15,7 +22,7 @@ fn cells() -> impl Iterator<Item = (i128, i128, i128)> {
 
 /// Both estimates at small scales.
 fn small(powers: &[u32]) -> impl Iterator<Item = Unit> + '_ {
-    powers.iter().flat_map(|&power| [Unit::finer(power), Unit::coarser(power)])
+    powers.iter().flat_map(|&power| [Unit::seven(power), Unit::eight(power)])
 }
 
 /// Every e of a column occurs, and no other: the remainders of all pairs of words, by the column of each pair.
@@ -43,7 +50,7 @@ fn the_remainders_of_a_column_are_those_of_all_pairs_of_words_at_small_scales() 
 #[test]
 fn the_remainder_of_two_words_is_in_their_column() {
     let mut draw = Draw::new(SEED + 1);
-    for unit in [FULL, COARSER] {
+    for unit in [SEVEN, EIGHT] {
         let below = (1u64 << (64 - unit.bits)) - 1;
         let mut met = [false; 2];
         for turn in 0..1_000_000 {
@@ -59,7 +66,7 @@ fn the_remainder_of_two_words_is_in_their_column() {
         }
         assert_eq!(met, [true, true]);
     }
-    assert_eq!((FULL.column(64), COARSER.column(64)), ((0, 3 * (1 << 56) - 2), (0, (1 << 58) - 2)));
+    assert_eq!((SEVEN.column(64), EIGHT.column(64)), ((0, (1 << 58) - 2), (0, 3 * (1 << 56) - 2)));
 }
 
 #[test]
@@ -84,7 +91,7 @@ fn cells_without_a_point() {
         }
     }
     // at full scale they are the cells that allow all five digits, and no other cell allows both -2 and 2
-    for (unit, rule, count) in [(FULL, rule(), 981), (COARSER, coarser(), 976)] {
+    for ((_, unit, rule, _), count) in estimates().into_iter().zip([976, 981]) {
         let without: Vec<usize> = (0..CELLS).filter(|k| !unit.has_point(*k as i128 / 128, *k as i128 % 128)).collect();
         let five: Vec<usize> = (0..CELLS).filter(|&k| rule.allowed(k).len() == 5).collect();
         let both: Vec<usize> =
@@ -97,7 +104,7 @@ fn cells_without_a_point() {
 #[test]
 fn the_other_check_agrees_with_each_divisor_near_the_corners_at_full_scale() {
     let mut draw = Draw::new(SEED);
-    for (unit, (row, column, q)) in [FULL, COARSER].into_iter().flat_map(|unit| cells().map(move |cell| (unit, cell))) {
+    for (unit, (row, column, q)) in [SEVEN, EIGHT].into_iter().flat_map(|unit| cells().map(move |cell| (unit, cell))) {
         let (first, last) = unit.divisors(row);
         let mut divisors = vec![first, first + 1, first + 2, last - 2, last - 1, last];
         for _ in 0..6 {
@@ -119,31 +126,45 @@ fn the_other_check_agrees_with_each_divisor_near_the_corners_at_full_scale() {
 
 #[test]
 fn every_byte_of_every_cell() {
-    let mut disallowed = 0;
-    for (row, column, q) in cells() {
-        let got = check_cell(row as u64, column as u64, (q + 2) as u8);
-        let want = match rule().witness((128 * row + column) as usize, (q + 2) as u8) {
-            None => Cell { allowed: 1, ..Default::default() },
-            Some((d, p)) => Cell { divisor: d as u64, remainder: p as i64, ..Default::default() },
-        };
-        assert_eq!(got, want, "cell {row}/{column}, digit {q}");
-        assert_eq!(got, FINER.check_cell(row as u64, column as u64, (q + 2) as u8), "{row}/{column} {q}: earlier");
-        assert_eq!(got.allowed == 1, FINER.allows(row as u64, column as u64, (q + 2) as u8), "{row}/{column} {q}");
-        if got.allowed == 0 {
-            disallowed += 1;
-            let (d, p) = (i128::from(got.divisor), i128::from(got.remainder));
-            let (first, _) = FULL.divisors(row);
-            assert!(FULL.is_point(row, column, (d, p)), "{row}/{column} {q}: no point");
-            assert!(breaks(q, (d, p)), "{row}/{column} {q}: breaks nothing");
-            assert_eq!(FULL.broken_at(column, q, d), Some(p), "{row}/{column} {q}: a smaller remainder");
-            for smaller in [d - 1, d - 2, first, (first + d) / 2] {
-                if (first..d).contains(&smaller) {
-                    assert_eq!(FULL.broken_at(column, q, smaller), None, "{row}/{column} {q}: a smaller divisor");
+    for (bits, unit, rule, check) in estimates() {
+        let mut disallowed = 0;
+        for (row, column, q) in cells() {
+            let (r, c, byte) = (row as u64, column as u64, (q + 2) as u8);
+            let what = format!("{bits} bits, cell {row}/{column}, digit {q}");
+            let got = check_cell_for(bits, r, c, byte);
+            assert_eq!(got, rule.check_cell((128 * row + column) as usize, byte), "{what}");
+            assert_eq!(got, check.check_cell(r, c, byte), "{what}: earlier");
+            assert_eq!(got.allowed == 1, check.allows(r, c, byte), "{what}: earlier");
+            if got.allowed == 0 {
+                disallowed += 1;
+                let (d, p) = (i128::from(got.divisor), i128::from(got.remainder));
+                let (first, _) = unit.divisors(row);
+                assert!(unit.is_point(row, column, (d, p)), "{what}: no point");
+                assert!(breaks(q, (d, p)), "{what}: breaks nothing");
+                assert_eq!(unit.broken_at(column, q, d), Some(p), "{what}: a smaller remainder");
+                for smaller in [d - 1, d - 2, first, (first + d) / 2] {
+                    if (first..d).contains(&smaller) {
+                        assert_eq!(unit.broken_at(column, q, smaller), None, "{what}: a smaller divisor");
+                    }
                 }
             }
         }
+        assert_eq!(disallowed, if bits == 7 { 4_176 } else { 4_130 });
+        // a byte above 4 is no digit
+        for k in 0..CELLS as u64 {
+            for byte in 5..=255 {
+                let want = Cell { refusal: 9, place: k, ..Default::default() };
+                assert_eq!(check_cell_for(bits, k / 128, k % 128, byte), want);
+            }
+        }
     }
-    assert_eq!(disallowed, 4_130);
+    // the call without bits is that of eight
+    for k in 0..CELLS as u64 {
+        for byte in 0..=255 {
+            let (row, column) = (k / 128, k % 128);
+            assert_eq!(check_cell(row, column, byte), check_cell_for(8, row, column, byte), "cell {k}, byte {byte}");
+        }
+    }
 }
 
 #[test]
@@ -162,25 +183,54 @@ fn worked_examples() {
     let w = check_cell(0, 75, 4);
     assert_eq!((w.divisor, w.remainder), (33 * (1 << 55) + 1, 11 * (1 << 57)));
     assert_eq!(row_limits(0), Limits { refusal: 0, place: 0, limits: [40, 51, 59, 68, 76, 87] });
+    // case 5 by seven bits
+    let allowed: Vec<u8> = (0..5).filter(|&b| check_cell_for(7, 0, 51, b).allowed == 1).collect();
+    assert_eq!(allowed, [1]);
 }
 
-#[test]
-fn made_table_and_limits() {
-    let made = rule().made();
+/// A call that makes a table, on buffers that just fit and that are longer.
+fn makes(call: impl Fn(&mut [u8]) -> Make, made: &[u8]) {
     for extra in [0usize, 1, 77] {
         let tail: Vec<u8> = (0..extra).map(|i| 0xA0 ^ i as u8).collect();
         let mut buffer = vec![0xEE; CELLS];
         buffer.extend(&tail);
-        let answer = make_table(&mut buffer);
-        assert_eq!((answer.refusal, answer.place), (0, 0));
+        assert_eq!(call(&mut buffer), Make::default());
         assert_eq!(buffer[..CELLS], made[..]);
         assert_eq!(buffer[CELLS..], tail[..]);
     }
-    for row in 0..16usize {
-        let bytes = &made[128 * row..128 * (row + 1)];
-        let changes: Vec<u8> = (1..128u8).filter(|&c| bytes[c as usize] != bytes[c as usize - 1]).collect();
-        let begins: Vec<u8> = changes.iter().map(|&c| bytes[c as usize]).collect();
-        assert_eq!(begins, [0, 1, 2, 3, 4, 2]);
-        assert_eq!(row_limits(row as u64).limits[..], changes[..]);
+}
+
+#[test]
+fn made_table_and_limits() {
+    for (bits, _, rule, _) in estimates() {
+        let made = rule.made();
+        makes(|buffer| make_table_for(bits, buffer), &made);
+        for row in 0..16usize {
+            let limits = rule.limits(row);
+            let begins: Vec<u8> = limits.iter().map(|&c| made[128 * row + c as usize]).collect();
+            assert_eq!(begins, [0, 1, 2, 3, 4, 2]);
+            let want = Limits { refusal: 0, place: 0, limits: limits.try_into().expect("six columns") };
+            assert_eq!(row_limits_for(bits, row as u64), want, "{bits} bits, row {row}");
+        }
     }
+    makes(make_table, &rule().made());
+    (0..16).for_each(|row| assert_eq!(row_limits(row), row_limits_for(8, row)));
+}
+
+/// The limits that the specification prints, section 5.3: of a row six by eight bits, then six by seven.
+#[test]
+fn the_limits_of_the_specification() {
+    let page = include_str!("../../../docs/SPECIFICATION.md");
+    let mut rows = 0;
+    for line in page.lines() {
+        let numbers: Vec<u8> = line.split(['|', ' ']).filter_map(|word| word.parse().ok()).collect();
+        let [row, eight @ .., _, _, _, _, _, _] = &numbers[..] else { continue };
+        if numbers.len() == 13 {
+            assert_eq!(u64::from(*row), rows);
+            assert_eq!(row_limits_for(8, rows).limits, eight, "row {row}");
+            assert_eq!(row_limits_for(7, rows).limits, numbers[7..], "row {row}");
+            rows += 1;
+        }
+    }
+    assert_eq!(rows, 16);
 }

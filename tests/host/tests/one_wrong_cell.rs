@@ -3,7 +3,7 @@
 //! divides all rightly, and is refused too. docs/ONE-WRONG-CELL.md tells the story with these numbers. The draws are from
 //! the fixed seed below.
 use host::calls::{self, Binary64, Run, Samples, Whole};
-use host::document::{breaks, coarser, rule, run, run_by, Trace, COARSER, FULL};
+use host::document::{breaks, rule, run, run_by, seven, Trace, EIGHT, SEVEN};
 use host::draw::Draw;
 
 const SEED: u64 = 0x5EED_0991;
@@ -140,11 +140,11 @@ fn the_words_go_on_as_if_the_dividend_were_32_less() {
     assert_eq!(3175.0 - answer * 1343.0, 32.0);
 }
 
-/// By the estimate before the finer one, which adds the words' top seven bits, and the digits farthest from zero by its rule.
+/// By seven bits, and the digits farthest from zero by their rule.
 #[test]
 fn the_division_of_1994_by_seven_bits() {
-    let good = coarser().farthest();
-    let run = |table: &[u8], digits| run_by(COARSER, table, DIVIDEND_1994, DIVISOR_1994, digits);
+    let good = seven().farthest();
+    let run = |table: &[u8], digits| run_by(SEVEN, table, DIVIDEND_1994, DIVISOR_1994, digits);
     let right = run(&good, DIGITS);
     assert_eq!(digits(&right), RIGHT_1994);
     assert_eq!(right.quotient, 12013986555418245);
@@ -164,8 +164,8 @@ fn the_division_of_1994_by_seven_bits() {
         assert_eq!(answer, 4195579.0 / 3145727.0);
         assert_eq!(4195835.0 - answer * 3145727.0, 256.0);
         // by eight bits it does not come to the cell, and is right
-        let finer = host::document::run(&table, DIVIDEND_1994, DIVISOR_1994, DIGITS);
-        assert_eq!((met(&finer), finer.quotient), (vec![], right.quotient));
+        let eight = host::document::run(&table, DIVIDEND_1994, DIVISOR_1994, DIGITS);
+        assert_eq!((met(&eight), eight.quotient), (vec![], right.quotient));
     }
 }
 
@@ -176,7 +176,7 @@ fn the_check_refuses_the_table_with_its_witness() {
     assert_eq!((report.count, report.row, report.column), (1, 4, 91));
     assert_eq!((report.divisor, report.remainder), (1459166279268040704, 3891110078048108544));
     let witness = (i128::from(report.divisor), i128::from(report.remainder));
-    assert!(FULL.is_point(4, 91, witness) && breaks(0, witness));
+    assert!(EIGHT.is_point(4, 91, witness) && breaks(0, witness));
 }
 
 #[test]
@@ -273,7 +273,7 @@ fn three_of_the_five_are_met_through_no_table() {
     for ((row, column), all) in FIVE.into_iter().zip([Some(44), None, Some(60), None, Some(76)]) {
         let last = |q: i128| {
             let holds = |c: &i128| rule().allowed(128 * row as usize + *c as usize).contains(&((q + 2) as u8));
-            (0..128).filter(|&c| FULL.has_point(row.into(), c)).filter(holds).max().expect("a column")
+            (0..128).filter(|&c| EIGHT.has_point(row.into(), c)).filter(holds).max().expect("a column")
         };
         let greatest = bounds(row.into(), last).into_iter().max();
         let begins = Some(2 * (i128::from(column) - 64));

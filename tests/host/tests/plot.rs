@@ -2,15 +2,32 @@
 //! outlined that is not so or the reverse, a title that names another cell, digit or allowed digits, a wrong count,
 //! lines or axes that do not fit the cells: the picture is read back and held against the other table check. The draws
 //! are from the fixed seed below.
-use host::document::{rule, CELLS, FULL};
+use host::document::{rule, seven, Rule, Unit, CELLS, EIGHT, SEVEN};
 use host::draw::Draw;
-use host::programs::printed;
+use host::programs::{printed, printed_with};
 use host::svg::{colour, elements, lines, rectangle, styles, Element, Rectangle, Spot};
 use std::collections::BTreeMap;
 
 const SEED: u64 = 0x5EED_0384;
 const KEPT: &[u8] = include_bytes!("../../../tables/kept.table");
+const KEPT_SEVEN: &[u8] = include_bytes!("../../../tables/kept-seven-bits.table");
 const PENTIUM: &[u8] = include_bytes!("../../../tables/pentium-1994.table");
+
+/// The estimate that a picture is drawn by.
+#[derive(Clone, Copy)]
+struct By {
+    name: &'static str,
+    unit: Unit,
+    rule: &'static Rule,
+}
+
+fn by_seven() -> By {
+    By { name: "seven", unit: SEVEN, rule: seven() }
+}
+
+fn by_eight() -> By {
+    By { name: "eight", unit: EIGHT, rule: rule() }
+}
 
 /// Up to so many bad cells have rings.
 const FEW: usize = 16;
@@ -194,14 +211,14 @@ fn digit_colours(picture: &Picture) -> Result<Vec<[i32; 3]>, String> {
 }
 
 /// What a browser shows of a cell under the pointer.
-fn title(cell: usize, byte: u8) -> String {
+fn title(by: By, cell: usize, byte: u8) -> String {
     let (row, column) = (cell / 128, cell % 128);
     let digit = |byte: u8| byte as i32 - 2;
     let place = format!("row {row}, column {column}, digit {}", digit(byte));
-    if !FULL.has_point(row as i128, column as i128) {
+    if !by.unit.has_point(row as i128, column as i128) {
         return format!("{place}, out of range: any digit will do");
     }
-    let allowed = rule().allowed(cell);
+    let allowed = by.rule.allowed(cell);
     let bad = if allowed.contains(&byte) { "" } else { ", bad" };
     let names: String = allowed.iter().map(|&byte| format!(" {}", digit(byte))).collect();
     format!("{place}{bad}, allowed:{names}")
@@ -209,10 +226,10 @@ fn title(cell: usize, byte: u8) -> String {
 
 /// Each cell of the columns 16 to 111 once, in the colour of its digit, faded where it has no point, with its title. The
 /// other cells have no point.
-fn compare_cells(picture: &Picture, table: &[u8]) -> Result<(), String> {
+fn compare_cells(picture: &Picture, by: By, table: &[u8]) -> Result<(), String> {
     let legend = digit_colours(picture)?;
     for (cell, &byte) in table.iter().enumerate() {
-        let has_point = FULL.has_point(cell as i128 / 128, cell as i128 % 128);
+        let has_point = by.unit.has_point(cell as i128 / 128, cell as i128 % 128);
         if !(16..112).contains(&(cell % 128)) {
             ensure(!has_point && !picture.cells.contains_key(&cell), format!("cell {cell} outside the picture"))?;
             continue;
@@ -220,14 +237,14 @@ fn compare_cells(picture: &Picture, table: &[u8]) -> Result<(), String> {
         let (class, shown) = picture.cells.get(&cell).ok_or_else(|| format!("cell {cell} is not drawn"))?;
         let drawn = picture.shade(class)?;
         ensure(drawn == (legend[byte as usize], !has_point), format!("cell {cell}, byte {byte}: {drawn:?}"))?;
-        ensure(*shown == title(cell, byte), format!("cell {cell}, byte {byte}: {shown}"))?;
+        ensure(*shown == title(by, cell, byte), format!("cell {cell}, byte {byte}: {shown}"))?;
     }
     Ok(())
 }
 
 /// Each bad cell outlined once and no other, those that follow each other in a row together; the legend has one outline
 /// more.
-fn compare_marks(picture: &Picture, table: &[u8]) -> Result<(), String> {
+fn compare_marks(picture: &Picture, by: By, table: &[u8]) -> Result<(), String> {
     let marks: Vec<Rectangle> = picture.marks.iter().copied().filter(|r| r.left < across(2.0)).collect();
     ensure(picture.marks.len() == marks.len() + 1, "the legend's outline")?;
     let mut marked = Vec::new();
@@ -237,7 +254,7 @@ fn compare_marks(picture: &Picture, table: &[u8]) -> Result<(), String> {
         ensure(together, format!("{mark:?} starts inside a stretch"))?;
         marked.extend(cells);
     }
-    let bad: Vec<usize> = rule().bad_cells(table).iter().map(|&(cell, _)| cell).collect();
+    let bad: Vec<usize> = by.rule.bad_cells(table).iter().map(|&(cell, _)| cell).collect();
     ensure(marked == bad, format!("outlined {marked:?}, bad {bad:?}"))?;
     compare_rings(picture, if bad.len() <= FEW { &marks } else { &[] })
 }
@@ -257,9 +274,11 @@ fn compare_rings(picture: &Picture, marks: &[Rectangle]) -> Result<(), String> {
     Ok(())
 }
 
-/// The line that says whether the table passed.
-fn compare_verdict(picture: &Picture, table: &[u8]) -> Result<(), String> {
-    let report = rule().check(table);
+/// The heading, and the line that says whether the table passed.
+fn compare_verdict(picture: &Picture, by: By, table: &[u8]) -> Result<(), String> {
+    let heading = format!("P-D plot by {} bits: the quotient digit in each cell of the table", by.name);
+    picture.has_text(100.0, 32.0, &heading)?;
+    let report = by.rule.check(table);
     let bad = format!("Bad cells: {}; the first is row {}, column {}", report.count, report.row, report.column);
     let passed = "The table passes the check: no bad cell.".to_string();
     picture.has_text(100.0, 60.0, if report.count == 0 { &passed } else { &bad })
@@ -318,7 +337,7 @@ fn compare_axes(picture: &Picture) -> Result<(), String> {
 }
 
 /// What differs between a picture and the table, if anything.
-fn compare(svg: &str, table: &[u8]) -> Result<(), String> {
+fn compare(svg: &str, by: By, table: &[u8]) -> Result<(), String> {
     ensure(svg.is_ascii() && !svg.contains('&'), "a sign that is not in ASCII")?;
     ensure(svg.len() < 300_000, "a picture that is too large")?;
     let picture = Picture::read(svg)?;
@@ -329,9 +348,9 @@ fn compare(svg: &str, table: &[u8]) -> Result<(), String> {
         let strokes = picture.styles.get(class).is_some_and(|rule| rule.keys().all(|name| name.starts_with("stroke")));
         ensure(strokes && !picture.property(class, "stroke").is_empty(), format!("{class} is no line"))?;
     }
-    compare_cells(&picture, table)?;
-    compare_marks(&picture, table)?;
-    compare_verdict(&picture, table)?;
+    compare_cells(&picture, by, table)?;
+    compare_marks(&picture, by, table)?;
+    compare_verdict(&picture, by, table)?;
     compare_lines(&picture, &picture.lines, &[1, 2, 4, 5, -1, -2, -4, -5])?;
     compare_lines(&picture, &picture.range, &[8, -8])?;
     compare_choices(&picture)?;
@@ -339,7 +358,17 @@ fn compare(svg: &str, table: &[u8]) -> Result<(), String> {
 }
 
 fn check(table: &[u8]) {
-    assert_eq!(compare(&printed("plot", table), table), Ok(()));
+    assert_eq!(compare(&printed("plot", table), by_eight(), table), Ok(()));
+}
+
+/// By the argument 7, and 8 is as none.
+#[test]
+fn by_either_estimate() {
+    let mut draw = Draw::new(SEED + 2);
+    for table in [KEPT, KEPT_SEVEN, PENTIUM, &seven().passing(&mut draw), &rule().passing(&mut draw)] {
+        assert_eq!(compare(&printed_with("plot", &["7"], table), by_seven(), table), Ok(()));
+        assert_eq!(printed_with("plot", &["8"], table), printed("plot", table));
+    }
 }
 
 #[test]
@@ -399,10 +428,10 @@ fn what_is_no_table_gets_two_lines() {
 #[test]
 fn a_changed_picture_is_seen() {
     let svg = printed("plot", PENTIUM);
-    assert_eq!(compare(&svg, PENTIUM), Ok(()));
+    assert_eq!(compare(&svg, by_eight(), PENTIUM), Ok(()));
     let differs = |from: &str, to: &str| {
         let text = svg.replacen(from, to, 1);
-        assert!(text != svg && compare(&text, PENTIUM).is_err(), "{from} made {to} is not seen");
+        assert!(text != svg && compare(&text, by_eight(), PENTIUM).is_err(), "{from} made {to} is not seen");
     };
     let cells = svg.lines().filter(|line| line.contains("<title>row")).step_by(61);
     // the legend is to the right of 800

@@ -12,9 +12,7 @@ const CANARY: u8 = 0x5A;
 
 /// A table read back, and what the specification makes of it: the repaired table, its marks and the number of changes.
 fn wanted(table: &[u8]) -> (Vec<u8>, Vec<u8>, u64) {
-    let made = rule().made();
-    let stays = |cell: usize| table[cell] <= 4 && rule().witness(cell, table[cell]).is_none();
-    let repaired: Vec<u8> = (0..CELLS).map(|k| if stays(k) { table[k] } else { made[k] }).collect();
+    let repaired = rule().repaired(table, &rule().made());
     let marks: Vec<u8> = (0..CELLS).map(|k| u8::from(repaired[k] != table[k])).collect();
     let count = marks.iter().map(|&mark| u64::from(mark)).sum();
     (repaired, marks, count)
@@ -170,7 +168,7 @@ fn program(input: &[u8]) {
     for k in (0..CELLS).filter(|&k| table[k] != input[k]) {
         text += &format!("{} {} {} {}\n", k / 128, k % 128, input[k], table[k]);
     }
-    text += &format!("changes {count}\n");
+    text += &format!("changes {count} for 8 bits\n");
     assert!(output.stdout == table);
     assert_eq!(said, text);
 }

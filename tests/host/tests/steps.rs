@@ -1,7 +1,7 @@
 //! Would catch a step that is not the run's: another digit, other words, exchanged words, a lost carry; a remainder at the edge
 //! of its range that is refused, or one beyond that is not. The draws are from the fixed seed below.
 use host::calls::{self, Stepped};
-use host::document::{rule, step, FULL};
+use host::document::{rule, step, EIGHT};
 use host::draw::Draw;
 
 const SEED: u64 = 0x5EED_0091;
@@ -22,7 +22,7 @@ fn model(sum: u64, carry: u64, divisor: u64, table: &[u8]) -> Stepped {
         return Stepped { refusal: 14, ..Default::default() };
     }
     let row = (divisor >> 56) as usize - 16;
-    let q = i128::from(table[128 * row + FULL.column_of(sum, carry)]) - 2;
+    let q = i128::from(table[128 * row + EIGHT.column_of(sum, carry)]) - 2;
     let (sum, carry) = step(sum, carry, q, divisor);
     Stepped { refusal: 0, place: 0, digit: q as i64, sum, carry }
 }

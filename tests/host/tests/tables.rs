@@ -4,7 +4,7 @@
 use host::calls::{check_table, Table};
 use host::document::{rule, CELLS};
 use host::draw::Draw;
-use host::earlier::FINER;
+use host::earlier::EIGHT;
 
 const SEED: u64 = 0x5EED_2048;
 
@@ -12,7 +12,7 @@ const SEED: u64 = 0x5EED_2048;
 fn checked(table: &[u8], what: &str) -> Table {
     let got = check_table(table);
     assert_eq!(got, rule().check(table), "{what}");
-    assert_eq!(got, FINER.check_table(table), "the earlier check: {what}");
+    assert_eq!(got, EIGHT.check_table(table), "the earlier check: {what}");
     got
 }
 

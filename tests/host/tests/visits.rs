@@ -3,7 +3,7 @@
 //! without its condition, out of order or with a wrong place; and a picture of visits with a cell left out, drawn twice, in a wrong
 //! place or shade, or with another number. The draws are from the fixed seed below.
 use host::calls::{count_visits, Visits};
-use host::document::{rule, run, CELLS, FULL};
+use host::document::{rule, run, CELLS, EIGHT};
 use host::draw::Draw;
 use host::programs::printed_with;
 use host::svg::{elements, rectangle};
@@ -141,7 +141,7 @@ fn compare_picture(table: &[u8]) {
         assert_eq!((edge.right - edge.left, edge.bottom - edge.top), (40.0, 6.0));
         let cell = 128 * row as usize + column as usize;
         assert!(row.fract() == 0.0 && column.fract() == 0.0 && drawn.insert(cell), "{row} {column}");
-        let in_range = FULL.has_point(row as i128, column as i128);
+        let in_range = EIGHT.has_point(row as i128, column as i128);
         assert_eq!(pair[0].get("class"), class(visits[cell], in_range), "{row} {column}");
         let end = if in_range { "" } else { ", out of range" };
         assert_eq!(pair[1].text, format!("row {row}, column {column}, visits: {}{end}", visits[cell]));

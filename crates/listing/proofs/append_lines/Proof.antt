@@ -7,10 +7,10 @@ use Rattle.listing.proofs.append_lines.Statement.{statement}
 use Rattle.listing.proofs.append_lines.Tie as tie
 
 abbrev Inv-loop : tie.InvT-loop
-Inv-loop out₀ at table next₀ k₀ out next k = (k ≤ 2048) × Growing out₀ at (linesUpto table k) out next (at + 107 * k)
+Inv-loop estimate out₀ at table next₀ k₀ out next k = (k ≤ 2048) × Growing out₀ at (linesUpto estimate table k) out next (at + 107 * k)
 
 abbrev μ-loop : tie.MeasureT-loop
-μ-loop out₀ at table next₀ k₀ out next k = 2048 - k
+μ-loop estimate out₀ at table next₀ k₀ out next k = 2048 - k
 
 loop-holds : tie.Need-loop-holds Inv-loop μ-loop
 unfolding linesUpto
@@ -19,7 +19,7 @@ loop-holds c = (omega arith, record { size = refl; within = omega arith; text = 
 loop-again : tie.Need-loop-again Inv-loop μ-loop
 loop-again c =
     let line = c .before .before in
-    (omega arith, growing-more (line .before .before .before .before .loop .inv .1) (line .append-line .ensures .0) (lines-more _ _ (line .before .line-of .ensures .0)) (omega arith) (omega arith))
+    (omega arith, growing-more (line .before .before .before .before .loop .inv .1) (line .append-line .ensures .0) (lines-more _ _ _ (line .before .line-of .ensures .0)) (omega arith) (omega arith))
 
 returns : tie.Need-returns Inv-loop μ-loop
 returns c = let e : c .before .loop .k ≡ 2048 = omega arith in (rw e at (c .before .loop .inv .1 .text), omega arith)

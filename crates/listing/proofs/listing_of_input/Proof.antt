@@ -7,4 +7,4 @@ use Rattle.listing.proofs.listing_of_input.Tie as tie
 pub listing-of-input-spec : {M : Type 1} → statement M
 listing-of-input-spec =
     tie.close (tie.spec (λ c. search needs) (λ c κs. search needs)
-    (λ c. let text = c .listing .ensures in (lists-read (omega arith) (text .0 .0), text .1)))
+    (λ c. let text = c .listing .ensures in (lists-read _ (omega arith) (text .0 .0), text .1)))

@@ -5,10 +5,11 @@ use Rattle.recurrence.specs.Run.{runValues}
 use Rattle.recurrence.proofs.Refusals.{spans, run-answered}
 use Rattle.recurrence.proofs.run.Statement.{statement}
 use Rattle.recurrence.proofs.run.Tie as tie
+use Rattle.selection.specs.declared.Estimate.the-variants.{EightBits}
 
 run-admitted-requires : tie.Need-run-admitted-requires
 run-admitted-requires c κs =
-    let k = admitted-both _ (c .before .before .before .admit-after .ensures) (c .before .enum-told .given .1) in
+    let k = admitted-both EightBits _ (c .before .before .before .admit-after .ensures) (c .before .enum-told .given .1) in
     (k .1, spans _ _ _ _ _ (sym (c .before .before .before .before .argument-refusal .ensures) ∙ k .0))
 
 returns : tie.Need-returns

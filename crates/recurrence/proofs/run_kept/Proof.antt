@@ -7,6 +7,7 @@ use Rattle.recurrence.proofs.Refusals.{spans, kept-last, run-answered}
 use Rattle.recurrence.proofs.Rows.{row-of-kept}
 use Rattle.recurrence.proofs.run_kept.Statement.{statement}
 use Rattle.recurrence.proofs.run_kept.Tie as tie
+use Rattle.selection.specs.declared.Estimate.the-variants.{EightBits}
 
 run-part-requires : tie.Need-run-part-requires
 run-part-requires c κs =
@@ -16,15 +17,15 @@ run-part-requires c κs =
 returns : tie.Need-returns
 returns c =
     let k = c .before .before .before .before in
-    run-answered madeTable _ _ _ _ _ (k .argument-refusal .ensures) (kept-last _) (c .before .before .admission .given .1) (c .zeros .ensures, refl)
+    run-answered (madeTable EightBits) _ _ _ _ _ (k .argument-refusal .ensures) (kept-last _) (c .before .before .admission .given .1) (c .zeros .ensures, refl)
 
 returns-2 : tie.Need-returns-2
 returns-2 c =
     let ran = c .before .before .before in
     let row = ran .before .before .before in
     let k = row .before .before .before in
-    let r = ran .run-part .ensures madeTable kept-passes (row .kept-row .ensures) in
-    run-answered madeTable _ _ _ (now (k .before .before .args .buffer)) _ (k .argument-refusal .ensures) (kept-last _) (row .before .enum-told .given .1) (c .values .ensures ∙ ap runValues (r .1), r .0)
+    let r = ran .run-part .ensures (madeTable EightBits) (kept-passes EightBits) (row .kept-row .ensures) in
+    run-answered (madeTable EightBits) _ _ _ (now (k .before .before .args .buffer)) _ (k .argument-refusal .ensures) (kept-last _) (row .before .enum-told .given .1) (c .values .ensures ∙ ap runValues (r .1), r .0)
 
 pub run-kept-spec : {M : Type 1} → statement M
 run-kept-spec =

@@ -4,6 +4,7 @@ use Rattle.recurrence.specs.Run.{written}
 use Rattle.laws.proofs.Lists.{part-length, put-back}
 use Rattle.recurrence.proofs.run_part.Statement.{statement}
 use Rattle.recurrence.proofs.run_part.Tie as tie
+use Rattle.selection.specs.declared.Estimate.the-variants.{EightBits}
 
 returns : tie.Need-returns
 returns c t ok is =
@@ -12,8 +13,8 @@ returns c t ok is =
     let e = ran .run-row .ensures t ok is in
     let n = part-length (a .buffer .now) (a .place) (a .n) (omega arith) in (
       put-back (a .buffer .now) (ran .run-row .last .1 .1 .1 .0) (a .place) (a .n)
-          ∙ ap (λ (ds : List ℕ). written (a .buffer .now) (a .place) ds (a .n)) (e .0 ∙ ap (digits t (a .dividend) (a .divisor)) n),
-      e .1 ∙ ap (resultOf t (a .dividend) (a .divisor)) n,
+          ∙ ap (λ (ds : List ℕ). written (a .buffer .now) (a .place) ds (a .n)) (e .0 ∙ ap (digits EightBits t (a .dividend) (a .divisor)) n),
+      e .1 ∙ ap (resultOf EightBits t (a .dividend) (a .divisor)) n,
     )
 
 pub run-part-spec : {M : Type 1} → statement M

@@ -11,10 +11,11 @@ use Rattle.recurrence.proofs.Loop.{Reached, stands-divisor, move, reach
 use Rattle.recurrence.proofs.Rows.{step-ready}
 use Rattle.recurrence.proofs.run_row.Statement.{statement}
 use Rattle.recurrence.proofs.run_row.Tie as tie
+use Rattle.selection.specs.declared.Estimate.the-variants.{EightBits}
 
 abbrev Inv-loop : tie.InvT-loop
 Inv-loop bytes dividend divisor out₀ multiples tops state₀ i₀ out state i =
-    (t : List ℕ) → Passes t → bytes ≡ rowBytes t (row divisor) → Reached t dividend divisor out₀ out state i
+    (t : List ℕ) → Passes EightBits t → bytes ≡ rowBytes t (row divisor) → Reached t dividend divisor out₀ out state i
 
 abbrev μ-loop : tie.MeasureT-loop
 μ-loop bytes dividend divisor out₀ multiples tops state₀ i₀ out state i = length out₀ - i
@@ -36,8 +37,8 @@ next-requires c κs =
     let l = c .before .before in
     let tops = l .before .before in
     let s = start l in
-    step-ready (after (s .pre .0 .table) (s .args .dividend) (s .args .divisor) (l .loop .i)) (s .pre .1 .most) (s .pre .0) (reached l .stands)
-    (divisor-after _ _ _ (l .loop .i)) (tops .before .before .divisor-multiples .ensures) (tops .all-top-bits .ensures)
+    step-ready (after EightBits (s .pre .0 .table) (s .args .dividend) (s .args .divisor) (l .loop .i)) (s .pre .1 .most) (s .pre .0) (reached l .stands)
+    (divisor-after EightBits _ _ _ (l .loop .i)) (tops .before .before .divisor-multiples .ensures) (tops .all-top-bits .ensures)
 
 -- one turn: what the call of next gives
 loop-again : tie.Need-loop-again Inv-loop μ-loop
@@ -45,7 +46,7 @@ loop-again c t ok is =
     let l = c .before .before .before in
     let r = l .loop .inv t ok is in
     let a = start l .args in
-    move r (c .before .before .loop-test .taken) (c .next .ensures t (rw (stands-divisor t (a .dividend) (a .divisor) (l .loop .i) (r .stands)) is))
+    move r (c .before .before .loop-test .taken) (c .next .ensures t (rw (stands-divisor EightBits t (a .dividend) (a .divisor) (l .loop .i) (r .stands)) is))
 
 -- by the table that the caller has, the turn is one of those that it asked for
 turn : (c : tie.In-loop Inv-loop μ-loop) → c .before .loop .i < length (start (c .before) .args .out .now)
@@ -57,11 +58,11 @@ returns c t ok is =
     let s = start l in
     let i = l .loop .i in
     let r = l .loop .inv t ok is in
-    let k = invariant-after t (s .args .dividend) (s .args .divisor) ok (s .pre .1) i in
+    let k = invariant-after EightBits t (s .args .dividend) (s .args .divisor) ok (s .pre .1) i in
     let d = done r (c .before .loop-test .left) in
     rw (← d .0) (
       d .1,
-      c .corrected .ensures ∙ rw (r .stands) (result-from-word _ _ _ i (k .0) (k .1) (omega (arith, d .0, s .pre)) (omega (arith, d .0, s .pre)) (pair-after t _ _ (ok .table .digits) i)),
+      c .corrected .ensures ∙ rw (r .stands) (result-from-word EightBits _ _ _ i (k .0) (k .1) (omega (arith, d .0, s .pre)) (omega (arith, d .0, s .pre)) (pair-after EightBits t _ _ (ok .table .digits) i)),
     )
 
 pub run-row-spec : {M : Type 1} → statement M
@@ -70,4 +71,4 @@ run-row-spec =
     (λ c κs. search needs) (λ c κs. search needs) loop-holds next-requires
     (λ c. c .before .before .loop-test .taken) (λ c. let w = c .before .before in omega (arith, turn w, start (w .before) .pre))
     (λ c. omega (arith, turn (c .before .before))) loop-again
-    (λ c κs. rw (reached (c .before) .stands, divisor-after) (start (c .before) .pre .1 .most)) (λ c. reached-length (reached (c .before .before))) returns)
+    (λ c κs. rw (reached (c .before) .stands, divisor-after EightBits) (start (c .before) .pre .1 .most)) (λ c. reached-length (reached (c .before .before))) returns)

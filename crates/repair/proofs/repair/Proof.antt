@@ -9,7 +9,7 @@ use Rattle.repair.proofs.repair.Tie as tie
 abbrev start : tie.After-repair-table → tie.Start
 start r = r .before .before .before .before
 
-called : (r : tie.After-repair-table) → Called (start r .args .bytes .now) (start r .args .table .now) (replicate 2048 0) (r .repair-table .result)
+called : (r : tie.After-repair-table) → Called (start r .args .estimate) (start r .args .bytes .now) (start r .args .table .now) (replicate 2048 0) (r .repair-table .result)
 called r = record { table-room = omega arith; marks-room = length-replicate {A = ℕ} 2048 0; answer = r .repair-table .ensures .0 }
 
 returns : tie.Need-returns
@@ -17,19 +17,19 @@ returns c =
     let r = c .before .before .before .before .before in
     let text = c .append-refusal .ensures .0 in
     let size = appended-size text (omega arith) in
-    (writes-refusal (called r) (c .before .before .if1 .taken) (appended-take text), (omega arith, counts (c .append-refusal .last .0) (omega arith)))
+    (writes-refusal _ (called r) (c .before .before .if1 .taken) (appended-take text), (omega arith, counts (c .append-refusal .last .0) (omega arith)))
 
 returns-2 : tie.Need-returns-2
 returns-2 c =
     let e = c .before .before .before .before in
     let r = e .before .before .before in
-    let table = r .repair-table .last .1 .0 in
-    let whole = sizes (called r) (e .if1 .left) (r .repair-table .ensures .1) in
+    let table = r .repair-table .last .1 .1 .0 in
+    let whole = sizes _ (called r) (e .if1 .left) (r .repair-table .ensures .1) in
     let text = c .append-changes .ensures .0 in
-    let writes = writes-table (called r) (e .if1 .left) (r .repair-table .ensures .1) (appended-take text) in
+    let writes = writes-table _ (called r) (e .if1 .left) (r .repair-table .ensures .1) (appended-take text) in
     (rw (take-all 2048 table (omega arith)) writes, (counts table (omega arith), counts (c .append-changes .last .0) (omega (arith, appended-size text (omega arith)))))
 
 pub repair-spec : {M : Type 1} → statement M
 repair-spec =
     tie.close (tie.spec (λ c. search needs) (λ c κs. search needs) (λ c κs. search needs) returns
-    (λ c κs. let e = c .before .before .before in let r = e .before .before .before in omega (arith, sizes (called r) (e .if1 .left) (r .repair-table .ensures .1))) returns-2)
+    (λ c κs. let e = c .before .before .before in let r = e .before .before .before in omega (arith, sizes _ (called r) (e .if1 .left) (r .repair-table .ensures .1))) returns-2)

@@ -7,4 +7,4 @@ use Rattle.repair.proofs.repair_input.Tie as tie
 pub repair-input-spec : {M : Type 1} → statement M
 repair-input-spec =
     tie.close (tie.spec (λ c. search needs) (λ c κs. search needs)
-    (λ c. let r = c .repair .ensures in (writes-read (omega arith) (r .0), r .1)))
+    (λ c. let r = c .repair .ensures in (writes-read _ (omega arith) (r .0), r .1)))

@@ -6,7 +6,6 @@ use Rattle.selection.proofs.check_cell.Tie as tie
 
 pub check-cell-spec : {M : Type 1} → statement M
 check-cell-spec =
-    tie.close (tie.spec (λ c. answers _ _ _ (search tests)) (λ c. answers _ _ _ (search tests))
-    (λ c. search needs) (λ c. search needs) (λ c. answers _ _ _ (search tests))
-    (λ c κs. search needs) (λ c κs. search needs)
-    (λ c. answers _ _ _ (rw (← c .before .row-multiples .ensures .1) (c .test-cell .ensures))))
+    tie.close (tie.spec (λ c. answers _ _ _ _ (search tests)) (λ c. answers _ _ _ _ (search tests))
+    (λ c. search needs) (λ c. search needs) (λ c. answers _ _ _ _ (search tests))
+    (λ c κs. search needs) (λ c. answers _ _ _ _ (c .test-at .ensures)))

@@ -4,10 +4,11 @@ use Rattle.selection.proofs.Orders.{admitted-both, first-lent}
 use Rattle.division.proofs.Calls.{whole-spans}
 use Rattle.division.proofs.whole.divide_whole.Statement.{statement}
 use Rattle.division.proofs.whole.divide_whole.Tie as tie
+use Rattle.selection.specs.declared.Estimate.the-variants.{EightBits}
 
 divide-requires : tie.Need-divide-requires
 divide-requires c κs =
-    let k = admitted-both _ (c .before .before .admit-after .ensures) (c .enum-told .given .1) in
+    let k = admitted-both EightBits _ (c .before .before .admit-after .ensures) (c .enum-told .given .1) in
     let s = whole-spans _ _ (sym (c .before .before .before .refusal-of .ensures) ∙ k .0) in
     (k .1, s .0, s .1, s .2)
 
@@ -15,6 +16,6 @@ pub divide-whole-spec : {M : Type 1} → statement M
 divide-whole-spec =
     tie.close (tie.spec (λ c κs. search needs) (λ c κs. search needs) (λ c. search needs)
     (λ c κs. search needs) (λ c. search needs) divide-requires (λ c κs. search needs)
-    (λ c. let k = c .before .before .before .before in rw (first-lent _ _ (k .admit-after .ensures) (k .before .refusal-of .ensures) (c .before .before .admission .given .1)) (c .zeros .ensures))
-    (λ c. let k = c .before .before .before .before in rw (first-lent _ _ (k .admit-after .ensures) (k .before .refusal-of .ensures) (c .before .before .enum-told .given .1), ← c .before .divide .ensures)
+    (λ c. let k = c .before .before .before .before in rw (first-lent EightBits _ _ (k .admit-after .ensures) (k .before .refusal-of .ensures) (c .before .before .admission .given .1)) (c .zeros .ensures))
+    (λ c. let k = c .before .before .before .before in rw (first-lent EightBits _ _ (k .admit-after .ensures) (k .before .refusal-of .ensures) (c .before .before .enum-told .given .1), ← c .before .divide .ensures)
     (c .values .ensures)))

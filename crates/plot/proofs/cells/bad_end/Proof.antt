@@ -5,10 +5,10 @@ use Rattle.plot.proofs.cells.bad_end.Statement.{statement}
 use Rattle.plot.proofs.cells.bad_end.Tie as tie
 
 abbrev Inv-loop : tie.InvT-loop
-Inv-loop table row from end₀ end = BadSoFar table row from end
+Inv-loop estimate table row from end₀ end = BadSoFar estimate table row from end
 
 abbrev μ-loop : tie.MeasureT-loop
-μ-loop table row from end₀ end = 128 - end
+μ-loop estimate table row from end₀ end = 128 - end
 
 returns : tie.Need-returns Inv-loop μ-loop
 returns c =
@@ -18,7 +18,7 @@ returns c =
 loop-again : tie.Need-loop-again Inv-loop μ-loop
 loop-again c =
     let w = c .before .cell-at .ensures .own .no (c .if1 .left) in
-    bad-more (c .before .before .before .loop .inv) (omega arith) (record { divisor = w .divisor; remainder = w .remainder; against = w .against })
+    bad-more _ (c .before .before .before .loop .inv) (omega arith) (record { divisor = w .divisor; remainder = w .remainder; against = w .against })
 
 returns-2 : tie.Need-returns-2 Inv-loop μ-loop
 returns-2 c = let i = c .before .loop .inv in record { starts = i .starts; within = i .within; bad = i .bad; next = λ h. absurd (omega arith) }

@@ -7,10 +7,11 @@ use Rattle.recurrence.specs.Step.{stepValues}
 use Rattle.recurrence.proofs.StepRange.{step-span, step-answered}
 use Rattle.recurrence.proofs.step.step.Statement.{statement}
 use Rattle.recurrence.proofs.step.step.Tie as tie
+use Rattle.selection.specs.declared.Estimate.the-variants.{EightBits}
 
 admitted-requires : tie.Need-admitted-requires
 admitted-requires c κs =
-    let k = admitted-both _ (c .before .before .admit-after .ensures) (c .enum-told .given .1) in
+    let k = admitted-both EightBits _ (c .before .before .admit-after .ensures) (c .enum-told .given .1) in
     (k .1, step-span _ _ _ (sym (c .before .before .before .refusal-of .ensures) ∙ k .0))
 
 returns : tie.Need-returns

@@ -4,10 +4,11 @@ use Rattle.selection.proofs.Orders.{admitted-both}
 use Rattle.recurrence.proofs.VisitCounts.{visits-spans, visits-told}
 use Rattle.recurrence.proofs.visits.count_visits.Statement.{statement}
 use Rattle.recurrence.proofs.visits.count_visits.Tie as tie
+use Rattle.selection.specs.declared.Estimate.the-variants.{EightBits}
 
 visit-all-requires : tie.Need-visit-all-requires
 visit-all-requires c κs =
-    let k = admitted-both _ (c .before .before .before .admit-after .ensures) (c .before .enum-told .given .1) in
+    let k = admitted-both EightBits _ (c .before .before .before .admit-after .ensures) (c .before .enum-told .given .1) in
     (k .1, visits-spans _ _ _ (sym (c .before .before .before .before .refusal-of .ensures) ∙ k .0))
 
 returns : tie.Need-returns

@@ -9,6 +9,7 @@ use Rattle.recurrence.proofs.Rows.{step-ready}
 use Rattle.recurrence.proofs.Visiting.{turned-all, Visited, visited-none, visited-more, visited-room, cell-small}
 use Rattle.recurrence.proofs.visits.visit_row.Statement.{statement}
 use Rattle.recurrence.proofs.visits.visit_row.Tie as tie
+use Rattle.selection.specs.declared.Estimate.the-variants.{EightBits}
 
 abbrev Inv-loop : tie.InvT-loop
 Inv-loop bytes start dividend divisor n visits₀ multiples tops state₀ i₀ visits state i =
@@ -42,8 +43,8 @@ next-requires c κs =
     let l = c .before .before .before in
     let tops = l .before .before in
     let s = start l in
-    step-ready (after (s .pre .0 .row .table) (s .args .dividend) (s .args .divisor) (l .loop .i)) (s .pre .0 .small) (s .pre .0 .row) (visited l .stands)
-    (divisor-after _ _ _ (l .loop .i)) (tops .before .before .divisor-multiples .ensures) (tops .all-top-bits .ensures)
+    step-ready (after EightBits (s .pre .0 .row .table) (s .args .dividend) (s .args .divisor) (l .loop .i)) (s .pre .0 .small) (s .pre .0 .row) (visited l .stands)
+    (divisor-after EightBits _ _ _ (l .loop .i)) (tops .before .before .divisor-multiples .ensures) (tops .all-top-bits .ensures)
 
 loop-again : tie.Need-loop-again Inv-loop μ-loop
 loop-again c t is =
@@ -51,7 +52,7 @@ loop-again c t is =
     let s = start l in
     let x = l .loop .inv t is in
     visited-more t _ _ _ x (s .pre .0 .begins) (c .before .before .before .loop-test .taken) (s .pre .1 .size)
-    (c .next .ensures t (rw (stands-divisor t (s .args .dividend) (s .args .divisor) (l .loop .i) (x .stands)) is))
+    (c .next .ensures t (rw (stands-divisor EightBits t (s .args .dividend) (s .args .divisor) (l .loop .i) (x .stands)) is))
 
 returns : tie.Need-returns Inv-loop μ-loop
 unfolding runVisits

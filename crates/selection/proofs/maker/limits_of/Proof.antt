@@ -15,4 +15,4 @@ limits-of-spec =
     (λ c. omega (arith, columns (c .before .before .before .before .row-multiples .ensures .0)))
     (λ c. omega (arith, columns (c .before .before .before .before .before .row-multiples .ensures .0)))
     (λ c. let half = c .before .before .before in omega (arith, columns (half .before .before .before .row-multiples .ensures .0)))
-    (λ c. limits-answer _ (search needs) (cc)))
+    (λ c. limits-answer _ _ (search needs) (cc)))

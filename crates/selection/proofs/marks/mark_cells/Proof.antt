@@ -8,16 +8,16 @@ use Rattle.selection.proofs.marks.mark_cells.Statement.{statement}
 use Rattle.selection.proofs.marks.mark_cells.Tie as tie
 
 abbrev Inv-loop : tie.InvT-loop
-Inv-loop table marks₀ row₀ marks row = (row ≤ 16) × (marks ≡ filled (changeMark table) (128 * row) marks₀)
+Inv-loop estimate table marks₀ row₀ marks row = (row ≤ 16) × (marks ≡ filled (changeMark estimate table) (128 * row) marks₀)
 
 abbrev μ-loop : tie.MeasureT-loop
-μ-loop table marks₀ row₀ marks row = 16 - row
+μ-loop estimate table marks₀ row₀ marks row = 16 - row
 
 loop-again : tie.Need-loop-again Inv-loop μ-loop
 loop-again c =
     let m = c .before .before in
     let l = m .before .before .before .before .loop in
-    (omega arith, rows-more _ _ (l .row) (l .inv .1) (m .mark-row .ensures) (m .before .before .row-multiples .ensures .1))
+    (omega arith, rows-more _ _ (l .row) (l .inv .1) (rw (m .before .before .row-multiples .ensures .1) at (m .mark-row .ensures)) (m .before .before .row-multiples .ensures .2))
 
 pub mark-cells-spec : {M : Type 1} → statement M
 mark-cells-spec =

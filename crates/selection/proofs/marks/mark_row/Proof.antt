@@ -6,7 +6,7 @@ use Rattle.selection.proofs.marks.mark_row.Statement.{statement}
 use Rattle.selection.proofs.marks.mark_row.Tie as tie
 
 abbrev Inv-loop : tie.InvT-loop
-Inv-loop table m marks₀ start c₀ marks c = RowFilled (changeMark table) (m .row) marks₀ marks c
+Inv-loop table m marks₀ start c₀ marks c = RowFilled (changeMark (m .estimate) table) (m .row) marks₀ marks c
 
 abbrev μ-loop : tie.MeasureT-loop
 μ-loop table m marks₀ start c₀ marks c = 128 - c

@@ -23,6 +23,7 @@ returns c =
         );
       },
       refl,
+      refl,
     )
 
 pub row-multiples-spec : {M : Type 1} → statement M

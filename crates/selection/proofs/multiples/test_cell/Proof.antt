@@ -10,10 +10,10 @@ use Rattle.selection.proofs.multiples.test_cell.Tie as tie
 columns : (c : tie.Else1) → let a = c .before .before .args in (20 ≤ a .column) × (a .column ≤ 106)
 columns c = let a = c .before .before in found-columns (a .pre .row) (a .pre .column) (a .pre .byte) (sym (c .before .allows .ensures .0) ∙ c .if1 .left)
 
-low : (c : tie.Then2) → let a = c .before .before .before .before .args in let d = lowDivisor (a .m .smallest) (a .column) (a .byte) in (d ≤ 2 ^ 61) × (Disallowed (witnessOf d (lowAt d (a .column))) ≡ cellOf (a .m .row) (a .column) (a .byte))
+low : (c : tie.Then2) → let a = c .before .before .before .before .args in let d = lowDivisor (a .m .estimate) (a .m .smallest) (a .column) (a .byte) in (d ≤ 2 ^ 61) × (Disallowed (witnessOf d (lowAt d (a .column))) ≡ cellOf (a .m .estimate) (a .m .row) (a .column) (a .byte))
 low c = let a = c .before .before .before .before in low-found (a .pre .row) (a .pre .column) (a .pre .byte) (sym (c .before .before .before .allows .ensures .0) ∙ c .before .before .if1 .left) (rw (← c .before .greatest-byte .ensures .0) (c .if2 .taken))
 
-high : (c : tie.Else2) → let a = c .before .before .before .before .args in let d = highDivisor (a .m .smallest) (a .column) (a .byte) in (d ≤ 2 ^ 61) × (Disallowed (witnessOf d (highAt d (a .column) (a .byte))) ≡ cellOf (a .m .row) (a .column) (a .byte))
+high : (c : tie.Else2) → let a = c .before .before .before .before .args in let d = highDivisor (a .m .estimate) (a .m .smallest) (a .column) (a .byte) in (d ≤ 2 ^ 61) × (Disallowed (witnessOf d (highAt d (a .column) (a .byte))) ≡ cellOf (a .m .estimate) (a .m .row) (a .column) (a .byte))
 high c = let a = c .before .before .before .before in high-found (a .pre .row) (a .pre .column) (a .pre .byte) (sym (c .before .before .before .allows .ensures .0) ∙ c .before .before .if1 .left) (rw (← c .before .greatest-byte .ensures .0) (c .if2 .left))
 
 pub test-cell-spec : {M : Type 1} → statement M

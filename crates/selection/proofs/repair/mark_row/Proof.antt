@@ -10,7 +10,7 @@ use Rattle.selection.proofs.repair.mark_row.Tie as tie
 
 abbrev Inv-loop : tie.InvT-loop
 Inv-loop table m changed₀ start count₀ c₀ changed count c =
-    RowFilled (changeMark table) (m .row) changed₀ changed c × (count ≡ countBelow (λ c. isReplaced table (128 * m .row + c)) c)
+    RowFilled (changeMark (m .estimate) table) (m .row) changed₀ changed c × (count ≡ countBelow (λ c. isReplaced (m .estimate) table (128 * m .row + c)) c)
 
 abbrev μ-loop : tie.MeasureT-loop
 μ-loop table m changed₀ start count₀ c₀ changed count c = 128 - c
@@ -21,7 +21,7 @@ loop-again c =
     let s = l .before .before .before in
     let t = s .args .table .now in
     let mark = mark-is t (l .loop .c) (s .pre .row) (omega arith) (c .mark-of .ensures .0) in
-    (row-more _ _ _ (l .loop .inv .0) (s .pre .row .small) (omega arith) (s .pre .room) mark, count-mark t (s .args .m .row) (l .loop .c) (l .loop .inv .1) mark)
+    (row-more _ _ _ (l .loop .inv .0) (s .pre .row .small) (omega arith) (s .pre .room) mark, count-mark (s .args .m .estimate) t (s .args .m .row) (l .loop .c) (l .loop .inv .1) mark)
 
 pub mark-row-spec : {M : Type 1} → statement M
 mark-row-spec =

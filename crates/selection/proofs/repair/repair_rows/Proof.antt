@@ -1,20 +1,22 @@
 -- `repair_rows` meets its contract: row by row, the marks before the bytes.
-use Rattle.laws.proofs.Basics.{_+_, _*_, _-_, _≤_, ℕ, _≡_, refl, sym, ap, _∙_, arith, needs}
+use Rattle.laws.proofs.Basics.{_+_, _*_, _-_, _≤_, ℕ, _≡_, sym, ap₂, _∙_, arith, needs}
 use Rattle.laws.proofs.Lists.{fill-none}
 use Rattle.laws.specs.Counting.{countBelow}
 use Rattle.laws.proofs.Counting.{count-start, count-most}
 use Rattle.selection.specs.Allowed.{isReplaced}
+use Rattle.selection.specs.Computed.{repairedByte, changeMark}
+use Rattle.selection.specs.declared.Estimate.{Estimate}
 use Rattle.selection.specs.RepairRows.{RepairedTo}
 use Rattle.selection.proofs.Counts.{row-counted}
-use Rattle.selection.proofs.RepairRows.{rows-more, rows-size, row-at}
+use Rattle.selection.proofs.RepairRows.{rows-by, rows-more, rows-size, row-at}
 use Rattle.selection.proofs.repair.repair_rows.Statement.{statement}
 use Rattle.selection.proofs.repair.repair_rows.Tie as tie
 
 abbrev Inv-loop : tie.InvT-loop
-Inv-loop table repaired₀ changed₀ count₀ row₀ repaired changed count row = (row ≤ 16) × RepairedTo table (128 * row) repaired₀ changed₀ repaired changed count
+Inv-loop estimate table repaired₀ changed₀ count₀ row₀ repaired changed count row = (row ≤ 16) × RepairedTo estimate table (128 * row) repaired₀ changed₀ repaired changed count
 
 abbrev μ-loop : tie.MeasureT-loop
-μ-loop table repaired₀ changed₀ count₀ row₀ repaired changed count row = 16 - row
+μ-loop estimate table repaired₀ changed₀ count₀ row₀ repaired changed count row = 16 - row
 
 -- the marks of a row whose bytes are written
 abbrev marks : tie.After-slice-known4 Inv-loop μ-loop → tie.After-mark-row Inv-loop μ-loop
@@ -24,29 +26,31 @@ byte-row-requires : tie.Need-byte-row-requires Inv-loop μ-loop
 byte-row-requires c κs =
     let m = c .before .before .before .before .before in
     let l = m .before .before .before .before .loop in
-    let e = rows-more _ _ (l .row) (l .inv .1 .marks) (m .mark-row .ensures .0) (m .before .before .row-multiples .ensures .1) in
+    let e = rows-more _ _ (l .row) (l .inv .1 .marks) (rw (m .before .before .row-multiples .ensures .1) at (m .mark-row .ensures .0)) (m .before .before .row-multiples .ensures .2) in
     let changed = rows-size _ _ (l .row + 1) (search needs) (omega arith) e in
     let repaired = rows-size _ _ _ (search needs) (l .inv .0) (l .inv .1 .bytes) in
-    record { size = search needs; row = omega arith; limits = search needs; changed-room = omega arith; repaired-room = omega arith; marks = row-at _ _ (l .row) e }
+    rw (m .before .before .row-multiples .ensures .1, m .before .before .row-multiples .ensures .2) (record { size = search needs; row = omega arith; limits = search needs; changed-room = omega arith; repaired-room = omega arith; marks = row-at _ _ (l .row) e })
 
 add-count : tie.Need-add-count Inv-loop μ-loop
 add-count c =
     let l = marks c .before .before .before .before in
-    omega (arith, l .loop .inv .1 .count, count-most (isReplaced (l .before .before .before .before .args .table .now)) (128 * l .loop .row))
+    omega (arith, l .loop .inv .1 .count, count-most (isReplaced (l .before .before .before .before .args .estimate) (l .before .before .before .before .args .table .now)) (128 * l .loop .row))
 
 loop-again : tie.Need-loop-again Inv-loop μ-loop
 loop-again c =
     let m = marks c in
     let l = m .before .before .before .before in
     let i = l .loop .inv .1 in
-    let row = m .before .before .row-multiples .ensures .1 in
+    let same = m .before .before .row-multiples .ensures .1 in
+    let row = m .before .before .row-multiples .ensures .2 in
+    let E = l .before .before .before .before .args .estimate in
     let t = l .before .before .before .before .args .table .now in
-    let n = m .mark-row .ensures .1 ∙ ap (λ (r : ℕ). countBelow (λ c. isReplaced t (128 * r + c)) 128) row in (
+    let n = m .mark-row .ensures .1 ∙ ap₂ (λ (z : Estimate) (r : ℕ). countBelow (λ c. isReplaced z t (128 * r + c)) 128) same row in (
       omega arith,
       record {
-        bytes = rows-more _ _ (l .loop .row) (i .bytes) (c .before .before .byte-row .ensures) refl;
-        marks = rows-more _ _ (l .loop .row) (i .marks) (m .mark-row .ensures .0) row;
-        count = row-counted (isReplaced t) (l .loop .row) (i .count) n;
+        bytes = rows-more _ _ (l .loop .row) (i .bytes) (rows-by (λ z. repairedByte z t) _ same (c .before .before .byte-row .ensures)) row;
+        marks = rows-more _ _ (l .loop .row) (i .marks) (rows-by (λ z. changeMark z t) _ same (m .mark-row .ensures .0)) row;
+        count = row-counted (isReplaced E t) (l .loop .row) (i .count) n;
       },
     )
 

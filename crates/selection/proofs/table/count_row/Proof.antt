@@ -6,7 +6,7 @@ use Rattle.selection.proofs.table.count_row.Statement.{statement}
 use Rattle.selection.proofs.table.count_row.Tie as tie
 
 abbrev Inv-loop : tie.InvT-loop
-Inv-loop table m count₀ c₀ count c = (c ≤ 128) × (count ≡ countBelow (isBadIn table (m .row)) c)
+Inv-loop table m count₀ c₀ count c = (c ≤ 128) × (count ≡ countBelow (isBadIn (m .estimate) table (m .row)) c)
 
 abbrev μ-loop : tie.MeasureT-loop
 μ-loop table m count₀ c₀ count c = 128 - c
@@ -14,7 +14,7 @@ abbrev μ-loop : tie.MeasureT-loop
 loop-again : tie.Need-loop-again Inv-loop μ-loop
 loop-again c =
     let l = c .before .before .before in
-    let f = isBadIn (l .before .before .args .table .now) (l .before .before .args .m .row) in
+    let f = isBadIn (l .before .before .args .m .estimate) (l .before .before .args .table .now) (l .before .before .args .m .row) in
     let is = sym (c .before .is-bad .ensures) in
     ⊎-elim (λ w. omega (arith, count-one f (l .loop .c) (is ∙ w .0 .taken))) (λ w. omega (arith, count-other f (l .loop .c) (is ∙ w .0 .left))) (c .if1 .came)
 

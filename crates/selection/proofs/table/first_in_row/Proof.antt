@@ -12,7 +12,7 @@ record Lesser (f : ℕ → Bool) (first column : ℕ) : Type 0 where
   is : firstFrom f 0 128 ≡ min first (firstFrom f column (128 - column))
 
 abbrev Inv-loop : tie.InvT-loop
-Inv-loop table m first₀ column₀ first column = Lesser (isBadIn table (m .row)) first column
+Inv-loop table m first₀ column₀ first column = Lesser (isBadIn (m .estimate) table (m .row)) first column
 
 abbrev μ-loop : tie.MeasureT-loop
 μ-loop table m first₀ column₀ first column = 128 - column

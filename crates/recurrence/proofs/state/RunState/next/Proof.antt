@@ -6,6 +6,7 @@ use Rattle.recurrence.specs.FastRun.{withColumn, stateOf}
 use Rattle.recurrence.proofs.Rows.{row-at}
 use Rattle.recurrence.proofs.state.RunState.next.Statement.{statement}
 use Rattle.recurrence.proofs.state.RunState.next.Tie as tie
+use Rattle.selection.specs.declared.Estimate.the-variants.{EightBits}
 
 returns : tie.Need-returns
 unfolding nextOf
@@ -14,7 +15,7 @@ returns c =
     let p = s .args .self in
     let d = c .before .digit-at in
     λ t f.
-    let e : d .result ≡ getD t (cellAt (stateOf p)) 0 = d .ensures .0 ∙ rw (f, s .pre .current) (row-at t (row (p .divisor)) (column (p .sum) (p .carry)) (omega arith)) in
+    let e : d .result ≡ getD t (cellAt EightBits (stateOf p)) 0 = d .ensures .0 ∙ rw (f, s .pre .current) (row-at t (row (p .divisor)) (column EightBits (p .sum) (p .carry)) (omega arith)) in
     c .step-by .ensures ∙ ap (λ (n : ℕ). withColumn (stepBy n (stateOf p))) e
 
 pub next-spec : {M : Type 1} → statement M
