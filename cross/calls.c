@@ -119,25 +119,36 @@ quendaric_repaired quendaric_repair_table(const uint8_t *table, size_t table_len
   return answer;
 }
 
-void quendaric_proved_affected_samples(void *, const void *, const void *, const void *, const void *);
-quendaric_affected_count quendaric_affected_samples(const uint8_t *table, size_t table_length, const uint64_t *currents,
-                                                    size_t currents_length, const uint64_t *sensitivities,
-                                                    size_t sensitivities_length, uint8_t *QUENDARIC_RESTRICT affected,
-                                                    size_t affected_length) {
+void quendaric_proved_affected_samples(void *, uint64_t, const void *, const void *, const void *, const void *);
+quendaric_affected_count quendaric_affected_samples(uint64_t estimate_bits, const uint8_t *table, size_t table_length,
+                                                    const uint64_t *currents, size_t currents_length,
+                                                    const uint64_t *sensitivities, size_t sensitivities_length,
+                                                    uint8_t *QUENDARIC_RESTRICT affected, size_t affected_length) {
   quendaric_affected_count answer;
   const slice lent_table = {table, table_length};
   const slice lent_currents = {currents, currents_length};
   const slice lent_sensitivities = {sensitivities, sensitivities_length};
   const slice lent_affected = {affected, affected_length};
-  quendaric_proved_affected_samples(&answer, &lent_table, &lent_currents, &lent_sensitivities, &lent_affected);
+  quendaric_proved_affected_samples(&answer, estimate_bits, &lent_table, &lent_currents, &lent_sensitivities,
+      &lent_affected);
   return answer;
 }
 
-void quendaric_proved_affected_whole(void *, const void *, uint64_t, uint64_t);
-quendaric_affected_mark quendaric_affected_whole(const uint8_t *table, size_t table_length, uint64_t a, uint64_t b) {
+void quendaric_proved_affected_whole(void *, uint64_t, const void *, uint64_t, uint64_t);
+quendaric_affected_mark quendaric_affected_whole(uint64_t estimate_bits, const uint8_t *table, size_t table_length,
+                                                 uint64_t a, uint64_t b) {
   quendaric_affected_mark answer;
   const slice lent_table = {table, table_length};
-  quendaric_proved_affected_whole(&answer, &lent_table, a, b);
+  quendaric_proved_affected_whole(&answer, estimate_bits, &lent_table, a, b);
+  return answer;
+}
+
+void quendaric_proved_affected_run(void *, uint64_t, const void *, uint64_t, uint64_t, uint64_t);
+quendaric_affected_mark quendaric_affected_run(uint64_t estimate_bits, const uint8_t *table, size_t table_length,
+                                               uint64_t dividend, uint64_t divisor, size_t digits) {
+  quendaric_affected_mark answer;
+  const slice lent_table = {table, table_length};
+  quendaric_proved_affected_run(&answer, estimate_bits, &lent_table, dividend, divisor, digits);
   return answer;
 }
 

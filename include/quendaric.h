@@ -10,8 +10,9 @@
 
    Dividers of seven bits. A divider may add the top seven bits of each word instead, modulo 128, and read that sum as
    signed. It leaves more of the remainder out, so it allows fewer digits: a table that passes for seven bits passes for
-   eight too, and serves in every call here; the kept table passes for eight bits alone. A call whose name ends in _for
-   takes estimate_bits, the number of bits that the divider adds of each word, 7 or 8, and speaks of that divider.
+   eight too, and serves in every call here; the kept table passes for eight bits alone. A call whose name ends in _for,
+   and each of the quendaric_affected_ calls, takes estimate_bits, the number of bits that the divider adds of each word,
+   7 or 8, and speaks of that divider.
 
    Answers. Every call returns, and returns its answer by value. The first two fields of an answer are the refusal and
    its place. Refusal 0 means that the call did what its comment says. Invalid input returns a refusal number and an
@@ -33,9 +34,7 @@
 
    Target. The archive of `rt staticlib` is for x86-64 with the System V calling convention and a size_t of 64 bits. It
    needs no library and uses vector registers. cross/build makes archives for little-endian Arm, AArch64 and RISC-V from
-   the same proved functions (docs/TARGETS.md). A call uses at most QUENDARIC_STACK bytes of stack below its caller's;
-   quendaric_affected_samples and quendaric_affected_whole, which are for a dock or a desk, use at most
-   QUENDARIC_STACK_AFFECTED.
+   the same proved functions (docs/TARGETS.md). A call uses at most QUENDARIC_STACK bytes of stack below its caller's.
 
    Interrupts. The archive for x86-64 is compiled with System V's red zone: a call keeps values in the 128 bytes below
    its stack pointer. An interrupt that is taken on the same stack overwrites them; the call may then crash, or return a
@@ -72,6 +71,7 @@
 #define quendaric_repair_table quendaric_cross_repair_table
 #define quendaric_affected_samples quendaric_cross_affected_samples
 #define quendaric_affected_whole quendaric_cross_affected_whole
+#define quendaric_affected_run quendaric_cross_affected_run
 #define quendaric_average_windows quendaric_cross_average_windows
 #define quendaric_divide_packed quendaric_cross_divide_packed
 #define quendaric_count_visits quendaric_cross_count_visits
@@ -119,9 +119,9 @@ extern "C" {
 #endif
 
 /* The version of these calls. CHANGELOG.md says what changed in each. */
-#define QUENDARIC_VERSION "2.6.0"
-#define QUENDARIC_VERSION_MAJOR 2
-#define QUENDARIC_VERSION_MINOR 6
+#define QUENDARIC_VERSION "3.0.0"
+#define QUENDARIC_VERSION_MAJOR 3
+#define QUENDARIC_VERSION_MINOR 0
 #define QUENDARIC_VERSION_PATCH 0
 
 #define QUENDARIC_TABLE_LENGTH 2048
@@ -132,11 +132,10 @@ extern "C" {
    measured, over drawn operands, with tables that pass and with tables that are refused: quendaric_count_visits uses
    580 where it refuses a table by 10, and 512 is the most of any call that refuses none. */
 #define QUENDARIC_STACK 1024 /* (580 measured) */
-#define QUENDARIC_STACK_AFFECTED 8192 /* (4497 measured) */
 
 /* Refusals. The maker of the table has to mend 8 to 10, the caller all others. */
 #define QUENDARIC_REFUSED_CELL 1      /* the row is above 15 or the column above 127 */
-#define QUENDARIC_REFUSED_DIGITS 2    /* the number of digits is 0 or above 28 */
+#define QUENDARIC_REFUSED_DIGITS 2    /* the number of digits is 0 or above 28; in quendaric_affected_run, above 31 */
 #define QUENDARIC_REFUSED_SPAN 3      /* the divisor is below 2^60, or it or the dividend is 2^61 or more */
 #define QUENDARIC_REFUSED_TOO_LARGE 4 /* a whole number is 2^60 or more */
 #define QUENDARIC_REFUSED_BY_ZERO 5   /* a divisor is 0 */
@@ -281,14 +280,14 @@ typedef struct {
   uint64_t count;
 } quendaric_repaired;
 
-/* count: the number of affected samples. */
+/* count is the number of affected samples. */
 typedef struct {
   uint64_t refusal;
   uint64_t place;
   uint64_t count;
 } quendaric_affected_count;
 
-/* affected: 1 or 0. */
+/* affected is 1 where the division went wrong, else 0. */
 typedef struct {
   uint64_t refusal;
   uint64_t place;
@@ -413,31 +412,39 @@ quendaric_samples quendaric_divide_samples(const uint8_t *table, size_t table_le
                                            size_t sensitivities_length, uint64_t *QUENDARIC_RESTRICT concentrations,
                                            size_t concentrations_length, uint64_t direction);
 
-/* Finds the records that a wrong table affected. The table is the one that was burned, with its bad cells: no byte of it
-   is refused. The call writes affected[j] for every j below currents_length: 1 if a step of the division of currents[j]
-   by sensitivities[j] through this table reads a bad cell or a byte above 4, else 0. count is the number of ones. Where
-   affected[j] is 0, the pattern and the flags that are formed from the burned table's own digits are those of IEEE 754,
-   in every direction. Where it is 1, nothing is said of the answer: it may have been right. A sample with a zero, an
-   infinity or a NaN takes no digit, and its mark is 0. The record must come from a divider that steps as this unit does,
-   with its estimate of eight bits and 28 digits; of one that adds seven bits, as all dividers built before do, nothing is
-   said, and a count of 0 does not say that its records are right. Later bytes of affected keep their contents. affected
-   may overlap nothing else. Uses at most QUENDARIC_STACK_AFFECTED bytes of stack. Beside a refusal nothing is written,
-   and a count of 0 does not say that no sample is affected. Refuses 11, 7, 8, in this order. */
+/* Finds the records that a wrong table made wrong. The table is the one that was burned, with its bad cells: no byte of it
+   is refused. estimate_bits is how many bits of each remainder word the divider adds that filed the records, 7 or 8: the
+   two read different cells, so there is no default. The call writes affected[j] for every j below currents_length: 0 if
+   each byte that 28 steps of currents[j] / sensitivities[j] read in this table is 4 or less and the quotient and remainder
+   that these digits form are right, else 1. count is the number of ones. Where affected[j] is 0, the pattern and the flags
+   that are formed from the burned table's own digits are those of IEEE 754, in every direction. Where it is 1, the
+   quotient of the 28 digits is wrong, or a byte above 4 was read; rounded to a binary64 such a quotient may still be the
+   right one. A sample with a zero, an infinity or a NaN takes no digit, and its mark is 0. All this is said of a divider
+   that steps as this unit does and corrects by the sign of its last remainder. Later bytes of affected keep their
+   contents. affected may overlap nothing else. Beside a refusal nothing is written, and a count of 0 does not say that no
+   sample is affected. Refuses 17, 11, 7, 8, in this order. */
 QUENDARIC_ANSWER
-quendaric_affected_count quendaric_affected_samples(const uint8_t *table, size_t table_length, const uint64_t *currents,
-                                                    size_t currents_length, const uint64_t *sensitivities,
-                                                    size_t sensitivities_length, uint8_t *QUENDARIC_RESTRICT affected,
-                                                    size_t affected_length);
+quendaric_affected_count quendaric_affected_samples(uint64_t estimate_bits, const uint8_t *table, size_t table_length,
+                                                    const uint64_t *currents, size_t currents_length,
+                                                    const uint64_t *sensitivities, size_t sensitivities_length,
+                                                    uint8_t *QUENDARIC_RESTRICT affected, size_t affected_length);
 
-/* Does the same for one division of whole numbers below 2^60, as quendaric_divide_whole takes it: affected is 1 if a
-   step through the table as it was burned reads a bad cell or a byte above 4, else 0. Where it is 0, the quotient and
-   the remainder that are formed from the burned table's own digits are those of a / b. The record must come from a
-   divider that steps as this unit does, with its estimate of eight bits and exactly (d + 1) / 2 + 1 digits, the half
-   rounded down, where d is by how many bits a is longer than b, or 0 where it is not longer. A divider that takes
-   another number of digits, as this unit did before version 2.2.2, reads other cells, and nothing is said of it. Uses
-   at most QUENDARIC_STACK_AFFECTED bytes of stack. Writes nothing. Refuses 4, 5, 8. */
+/* Does the same for one division of whole numbers below 2^60: affected is 1 exactly if the quotient or the remainder of
+   a / b, formed from the digits of the table as it was burned, is wrong, or a byte above 4 was read. This is for a divider
+   that shifts its operands left as quendaric_divide_whole does and takes exactly (d + 1) / 2 + 1 digits, the half rounded
+   down, where d is by how many bits a is longer than b, or 0 where it is not longer; for another one, as this unit was
+   before version 2.2.2, take quendaric_affected_run. Writes nothing. Refuses 17, 4, 5, 8. */
 QUENDARIC_ANSWER
-quendaric_affected_mark quendaric_affected_whole(const uint8_t *table, size_t table_length, uint64_t a, uint64_t b);
+quendaric_affected_mark quendaric_affected_whole(uint64_t estimate_bits, const uint8_t *table, size_t table_length,
+                                                 uint64_t a, uint64_t b);
+
+/* Does the same for one run of 1 to 31 digits: affected is 0 exactly if each byte that its steps read in the table as it
+   was burned is 4 or less and the quotient and remainder that these digits form are those of
+   dividend * 4^(digits - 1) / divisor, else 1. Dividend and divisor are those with which the divider begins, as in
+   quendaric_run. Writes nothing. Refuses 17, then 2 where digits is 0 or above 31, then 3, 8. */
+QUENDARIC_ANSWER
+quendaric_affected_mark quendaric_affected_run(uint64_t estimate_bits, const uint8_t *table, size_t table_length,
+                                               uint64_t dividend, uint64_t divisor, size_t digits);
 
 /* Averages readings over a sliding window. The readings are parts per billion below 2^40. For every full window of
    width readings the call writes the mean, rounded down, and what rounding left over: means[j] * width + remainders[j]

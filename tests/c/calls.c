@@ -329,7 +329,8 @@ static void no_mark(quendaric_affected_mark answer, uint64_t refusal) {
   SAME(answer.affected, 0);
 }
 
-/* Which records a table with a bad cell, and with a byte above 4, has affected: 1.0 by 1.0 reads the cell 72 first. */
+/* Which records a table with a bad cell, and with a byte above 4, has affected: 1.0 by 1.0 reads the cell 72 first, by seven bits and
+   by eight. */
 static void rechecks(const uint8_t *kept) {
   static uint8_t burned[QUENDARIC_TABLE_LENGTH];
   static const uint64_t current[5] = {0x3FF0000000000000ull, 0x3FF0000000000000ull, 0, 0x3FF0000000000000ull, 0x7FF8000000000000ull};
@@ -337,35 +338,67 @@ static void rechecks(const uint8_t *kept) {
                                           0x3FF0000000000000ull};
   static const uint8_t marks[6] = {1, 0, 0, 0, 0, 0xC3};
   static const uint8_t none[6] = {0, 0, 0, 0, 0, 0xC3};
+  static const uint64_t others[5] = {0, 6, 9, 263, UINT64_MAX}; /* 263 is 7 modulo 256 */
   const size_t size = QUENDARIC_TABLE_LENGTH;
   uint8_t affected[6];
   memset(affected, untouched, sizeof affected);
   memcpy(burned, kept, size);
-  no_count(quendaric_affected_samples(burned, 5, current, 5, sensitivity, 4, affected, 4), QUENDARIC_REFUSED_LISTS);
-  no_count(quendaric_affected_samples(burned, 5, current, 5, sensitivity, 5, affected, 4), QUENDARIC_REFUSED_ROOM);
-  no_count(quendaric_affected_samples(burned, size - 1, current, 5, sensitivity, 5, affected, 5), QUENDARIC_REFUSED_LENGTH);
-  no_count(quendaric_affected_samples(NULL, 0, NULL, 0, NULL, 0, NULL, 0), QUENDARIC_REFUSED_LENGTH);
-  no_count(quendaric_affected_samples(burned, size, NULL, 0, NULL, 0, NULL, 0), 0);
-  SAME(all_untouched(affected, sizeof affected), 1);
-  for (uint8_t byte = 2; byte < 8; byte++) {
-    burned[72] = byte;
-    const int bad = byte != 3; /* 1 is the only digit that is allowed there */
-    quendaric_affected_count answer = quendaric_affected_samples(burned, size, current, 5, sensitivity, 5, affected, 6);
-    SAME(answer.refusal, 0);
-    SAME(answer.place, 0);
-    SAME(answer.count, bad);
-    SAME(memcmp(affected, bad ? marks : none, 6), 0);
-    quendaric_affected_mark whole = quendaric_affected_whole(burned, size, 17, 16);
-    SAME(whole.refusal, 0);
-    SAME(whole.place, 0);
-    SAME(whole.affected, bad);
-    SAME(quendaric_affected_whole(burned, size, 16, 17).affected, 0);
+  for (int k = 0; k < 5; k++) {
+    no_count(quendaric_affected_samples(others[k], burned, size, current, 5, sensitivity, 5, affected, 5), QUENDARIC_REFUSED_ESTIMATE_BITS);
+    no_count(quendaric_affected_samples(others[k], burned, 5, current, 5, sensitivity, 4, affected, 4), QUENDARIC_REFUSED_ESTIMATE_BITS);
+    no_mark(quendaric_affected_whole(others[k], burned, size, 17, 16), QUENDARIC_REFUSED_ESTIMATE_BITS);
+    no_mark(quendaric_affected_whole(others[k], burned, 5, one, 0), QUENDARIC_REFUSED_ESTIMATE_BITS);
+    no_mark(quendaric_affected_run(others[k], burned, size, one, one, 28), QUENDARIC_REFUSED_ESTIMATE_BITS);
+    no_mark(quendaric_affected_run(others[k], burned, 5, 0, 0, 0), QUENDARIC_REFUSED_ESTIMATE_BITS);
   }
-  no_mark(quendaric_affected_whole(burned, 5, one, 0), QUENDARIC_REFUSED_TOO_LARGE);
-  no_mark(quendaric_affected_whole(burned, 5, 1, one), QUENDARIC_REFUSED_TOO_LARGE);
-  no_mark(quendaric_affected_whole(burned, 5, 1, 0), QUENDARIC_REFUSED_BY_ZERO);
-  no_mark(quendaric_affected_whole(burned, 5, 1, 1), QUENDARIC_REFUSED_LENGTH);
-  no_mark(quendaric_affected_whole(NULL, 0, 1, 1), QUENDARIC_REFUSED_LENGTH);
+  for (uint64_t bits = 7; bits <= 8; bits++) {
+    memset(affected, untouched, sizeof affected);
+    no_count(quendaric_affected_samples(bits, burned, 5, current, 5, sensitivity, 4, affected, 4), QUENDARIC_REFUSED_LISTS);
+    no_count(quendaric_affected_samples(bits, burned, 5, current, 5, sensitivity, 5, affected, 4), QUENDARIC_REFUSED_ROOM);
+    no_count(quendaric_affected_samples(bits, burned, size - 1, current, 5, sensitivity, 5, affected, 5), QUENDARIC_REFUSED_LENGTH);
+    no_count(quendaric_affected_samples(bits, NULL, 0, NULL, 0, NULL, 0, NULL, 0), QUENDARIC_REFUSED_LENGTH);
+    no_count(quendaric_affected_samples(bits, burned, size, NULL, 0, NULL, 0, NULL, 0), 0);
+    SAME(all_untouched(affected, sizeof affected), 1);
+    for (uint8_t byte = 2; byte < 8; byte++) {
+      burned[72] = byte;
+      const int bad = byte != 3; /* 1 is the only digit that is allowed there */
+      quendaric_affected_count answer = quendaric_affected_samples(bits, burned, size, current, 5, sensitivity, 5, affected, 6);
+      SAME(answer.refusal, 0);
+      SAME(answer.place, 0);
+      SAME(answer.count, bad);
+      SAME(memcmp(affected, bad ? marks : none, 6), 0);
+      quendaric_affected_mark whole = quendaric_affected_whole(bits, burned, size, 17, 16);
+      SAME(whole.refusal, 0);
+      SAME(whole.place, 0);
+      SAME(whole.affected, bad && byte != 4); /* 17 by 16 takes one digit: 2 is corrected to 1, and 1 is left */
+      SAME(quendaric_affected_whole(bits, burned, size, 16, 17).affected, 0);
+      /* the same run as that of 17 by 16, and one of two digits: of these 2 is corrected to 1 no more */
+      SAME(quendaric_affected_run(bits, burned, size, 17ull << 56, one, 1).affected, bad && byte != 4);
+      SAME(quendaric_affected_run(bits, burned, size, one, one, 2).affected, bad);
+    }
+    no_mark(quendaric_affected_whole(bits, burned, 5, one, 0), QUENDARIC_REFUSED_TOO_LARGE);
+    no_mark(quendaric_affected_whole(bits, burned, 5, 1, one), QUENDARIC_REFUSED_TOO_LARGE);
+    no_mark(quendaric_affected_whole(bits, burned, 5, 1, 0), QUENDARIC_REFUSED_BY_ZERO);
+    no_mark(quendaric_affected_whole(bits, burned, 5, 1, 1), QUENDARIC_REFUSED_LENGTH);
+    no_mark(quendaric_affected_whole(bits, NULL, 0, 1, 1), QUENDARIC_REFUSED_LENGTH);
+    no_mark(quendaric_affected_run(bits, burned, 5, 0, 0, 0), QUENDARIC_REFUSED_DIGITS);
+    no_mark(quendaric_affected_run(bits, burned, 5, 0, 0, 32), QUENDARIC_REFUSED_DIGITS);
+    no_mark(quendaric_affected_run(bits, burned, 5, 0, one - 1, 31), QUENDARIC_REFUSED_SPAN);
+    no_mark(quendaric_affected_run(bits, burned, 5, 0, 2 * one, 31), QUENDARIC_REFUSED_SPAN);
+    no_mark(quendaric_affected_run(bits, burned, 5, 2 * one, one, 31), QUENDARIC_REFUSED_SPAN);
+    no_mark(quendaric_affected_run(bits, burned, 5, 2 * one - 1, 2 * one - 1, 31), QUENDARIC_REFUSED_LENGTH);
+    no_mark(quendaric_affected_run(bits, NULL, 0, one, one, 1), QUENDARIC_REFUSED_LENGTH);
+    no_mark(quendaric_affected_run(bits, kept, size, 0, 2 * one - 1, 31), 0);
+    burned[72] = kept[72];
+    /* the estimates told apart: through the table made for eight bits this pair is wrong by seven, and right by eight */
+    static const uint64_t number = 0x3FF0B00000000000ull, divisor = 0x3FF1080000000000ull;
+    quendaric_affected_count answer = quendaric_affected_samples(bits, kept, size, &number, 1, &divisor, 1, affected, 1);
+    SAME(answer.refusal, 0);
+    SAME(answer.count, bits == 7);
+    SAME(affected[0], bits == 7);
+    SAME(quendaric_affected_run(bits, kept, size, 0x10B0ull << 48, 0x1108ull << 48, 28).affected, bits == 7);
+    SAME(quendaric_affected_whole(bits, kept, size, 0x10Bull << 51, 0x1108ull >> 3).affected, bits == 7);
+  }
 }
 
 /* An answer, every byte of it, and what is wanted. Each of these answers is made of words alone. */

@@ -17,8 +17,9 @@ void ignored(const uint8_t *table, uint8_t *buffer, uint64_t *words, uint32_t *n
   quendaric_divide_binary64(table, 2048, 1, 1, QUENDARIC_NEAREST);
   quendaric_divide_binary64_kept(1, 1, QUENDARIC_NEAREST);
   quendaric_divide_samples(table, 2048, words, 1, words + 1, 1, words + 2, 1, QUENDARIC_NEAREST);
-  quendaric_affected_samples(table, 2048, words, 1, words + 1, 1, buffer, 1);
-  quendaric_affected_whole(table, 2048, 1, 1);
+  quendaric_affected_samples(7, table, 2048, words, 1, words + 1, 1, buffer, 1);
+  quendaric_affected_whole(7, table, 2048, 1, 1);
+  quendaric_affected_run(7, table, 2048, 1, 1, 1);
   quendaric_average_windows(words, 1, 1, false, words + 1, 1, words + 2, 1);
   quendaric_divide_packed(table, buffer);
   quendaric_repair_table(table, 2048, buffer, 2048, buffer + 2048, 2048);

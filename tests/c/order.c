@@ -78,11 +78,15 @@ static const uint8_t *burned(void) {
 static void affected_samples(const uint64_t *x, reply *y) {
   static const uint64_t current[2] = {0x3FF0000000000000ull, 0x3FF0000000000000ull},
                         sensitivity[2] = {0x4008000000000000ull, 0x3FF0000000000000ull};
-  REPLY(y, quendaric_affected_samples(burned(), x[0], current, x[1], sensitivity, x[2], y->buffer, x[3]));
+  REPLY(y, quendaric_affected_samples(x[0], burned(), x[1], current, x[2], sensitivity, x[3], y->buffer, x[4]));
 }
 /* 17 by 16 takes one digit, from that cell. */
 static void affected_whole(const uint64_t *x, reply *y) {
-  REPLY(y, quendaric_affected_whole(burned(), x[0], x[1], x[2]));
+  REPLY(y, quendaric_affected_whole(x[0], burned(), x[1], x[2], x[3]));
+}
+/* So does one digit of 2^60 + 2^55 by 2^60: 0 is too small there. Of 2^60 by 2^60 + 2^55 it is right. */
+static void affected_run(const uint64_t *x, reply *y) {
+  REPLY(y, quendaric_affected_run(x[0], burned(), x[1], x[2], x[3], x[4]));
 }
 /* Both lists have one length: of two, no answer tells which is whose. */
 static void average_windows(const uint64_t *x, reply *y) {
@@ -182,9 +186,11 @@ static const struct {
      {2048, 1, 1, 2, 3},
      {{0, 0, 1, 1}, {0x55, 0x55, 0x55, 0x55, 0x55, 0x55, 0xD5, 0x3F}}},
     /* .., lengths of the three lists */
-    {"affected_samples", affected_samples, 4, {2048, 2, 2, 3}, {{0, 0, 1}, {0, 1, 0}}},
+    {"affected_samples", affected_samples, 5, {8, 2048, 2, 2, 3}, {{0, 0, 1}, {0, 1, 0}}},
     /* .., a, b */
-    {"affected_whole", affected_whole, 3, {2048, 17, 16}, {{0, 0, 1}, {0}}},
+    {"affected_whole", affected_whole, 4, {8, 2048, 17, 16}, {{0, 0, 1}, {0}}},
+    /* .., dividend, divisor, digits */
+    {"affected_run", affected_run, 5, {8, 2048, 33ull << 55, 1ull << 60, 1}, {{0, 0, 1}, {0}}},
     /* number of readings, width, newest first, length of the lists: 142 and 101 by 4 */
     {"average_windows", average_windows, 4, {5, 4, 1, 3}, {{0, 0, 35, 25, 0, 0, 0, 2, 1}, {0}}},
     /* 98 by 15: the last bytes of the two are the highest of their words here */

@@ -18,7 +18,7 @@ uint64_t calls(uint8_t *table, uint8_t *bytes, uint8_t *more, uint64_t *list, ui
   refusals += quendaric_repair_table(table, SIZE, bytes, SIZE, more, SIZE).refusal;
   refusals += quendaric_repair_table_for(7, table, SIZE, bytes, SIZE, more, SIZE).refusal;
   refusals += quendaric_make_table_for(7, table, SIZE).refusal;
-  refusals += quendaric_affected_samples(table, SIZE, list, MANY, list, MANY, bytes, SIZE).refusal;
+  refusals += quendaric_affected_samples(8, table, SIZE, list, MANY, list, MANY, bytes, SIZE).refusal;
   refusals += quendaric_run(table, SIZE, one, one, 28, bytes, 28, 0).refusal;
   refusals += quendaric_run_kept(one, one, 28, bytes, 28, 0).refusal;
   refusals += quendaric_make_table(table, SIZE).refusal;
@@ -36,7 +36,7 @@ uint64_t calls(uint8_t *table, uint8_t *bytes, uint8_t *more, uint64_t *list, ui
   refusals += quendaric_repair_table_for(7, table, SIZE, table, SIZE, bytes, SIZE).refusal;           /* overlaps */
   refusals += quendaric_repair_table_for(7, table, SIZE, bytes, SIZE, table, SIZE).refusal;           /* overlaps */
   refusals += quendaric_repair_table_for(7, table, SIZE, bytes, SIZE, bytes, SIZE).refusal;           /* overlaps */
-  refusals += quendaric_affected_samples(table, SIZE, list, MANY, other, MANY, table, SIZE).refusal;  /* overlaps */
+  refusals += quendaric_affected_samples(8, table, SIZE, list, MANY, other, MANY, table, SIZE).refusal; /* overlaps */
   refusals += quendaric_run(table, SIZE, one, one, 28, table, SIZE, 0).refusal;                       /* overlaps */
   return refusals;
 }

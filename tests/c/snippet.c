@@ -76,8 +76,27 @@ static int in_order(void) {
   return compare(&less, &more) < 0 && compare(&more, &less) > 0 && compare(&less, &less) == 0;
 }
 
+/* ---- records filed through a wrong table: of the table made for eight bits in a divider that adds seven the second is wrong */
+
+enum { RECORDS = 3 };
+
+static size_t filed, again;
+static uint64_t right;
+
+static void file_again(size_t j, uint64_t pattern) {
+  filed++, again = j, right = pattern;
+}
+
+static int records(void) {
+  static const uint64_t currents[RECORDS] = {0x3FF0000000000000ull, 0x3FF0B00000000000ull, 0},
+                        sensitivities[RECORDS] = {0x3FF0000000000000ull, 0x3FF1080000000000ull, 0};
+#include "records.h"
+  return found.refusal == 0 && found.count == 1 && filed == 1 && again == 1 &&
+         right == quendaric_pattern(1.04296875 / 1.064453125);
+}
+
 int main(void) {
-  if (!averages() || !steps() || !in_order())
+  if (!averages() || !steps() || !in_order() || !records())
     return printf("a use on the page fails\n"), 1;
   return 0;
 }

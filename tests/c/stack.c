@@ -53,9 +53,11 @@ static uint64_t bits(void) {
   CALL(divide_packed, QUENDARIC_STACK, quendaric_divide_packed(digit, digit + 8).quotient[0])                          \
   CALL(repair_table, QUENDARIC_STACK,                                                                                  \
        quendaric_repair_table(read_back, size, repaired, size, changed, size).count)                                   \
-  CALL(affected_samples, QUENDARIC_STACK_AFFECTED,                                                                     \
-       quendaric_affected_samples(read_back, size, &a, 1, &b, 1, changed, 1).count)                                    \
-  CALL(affected_whole, QUENDARIC_STACK_AFFECTED, quendaric_affected_whole(read_back, size, x, y).affected)             \
+  CALL(affected_samples, QUENDARIC_STACK,                                                                              \
+       quendaric_affected_samples(7 + a % 2, read_back, size, &a, 1, &b, 1, changed, 1).count)                         \
+  CALL(affected_whole, QUENDARIC_STACK, quendaric_affected_whole(7 + a % 2, read_back, size, x, y).affected)           \
+  CALL(affected_run, QUENDARIC_STACK,                                                                                  \
+       quendaric_affected_run(7 + a % 2, read_back, size, a >> 3, 1ull << 60 | b >> 4, 1 + a % 31).affected)           \
   CALL(count_visits, QUENDARIC_STACK, quendaric_count_visits(lent, size, 1 + a % 2, digits, visits, size).refusal)     \
   CALL(compare_ratios, QUENDARIC_STACK, (uint64_t)quendaric_compare_ratios(x, y, x + a % 2, y + b % 2).order)          \
   CALL(root_binary64, QUENDARIC_STACK, quendaric_root_binary64(a >> 1, b % 4).pattern)                                 \

@@ -1,7 +1,9 @@
 /* What a call costs: bytes of stack below the caller's, on a painted stack, and on a Cortex-M processor
    instructions, as qemu counts them under -icount shift=0 (TICK tenths of one are a tick of the SysTick). TURNS
    drawn operands each; of the instructions the mean, of the stack the most. Beside the calls the compiler's own
-   division of doubles and of 64 bits. Status 1 where a call uses more stack than include/quendaric.h promises. */
+   division of doubles and of 64 bits. An affected_ call ends a division at the digit that makes it wrong, and read_back
+   has many such; the two rows affected_of_ go through a table that passes, the last one that repair_table_for made.
+   Status 1 where a call uses more stack than include/quendaric.h promises. */
 
 #include "port.h"
 #include "quendaric.h"
@@ -71,8 +73,12 @@ static uint64_t number(uint64_t from) {
   CALL(divide_binary64_kept, quendaric_divide_binary64_kept(number(a), number(b), 0).pattern)                          \
   CALL(divide_100_samples,                                                                                             \
        quendaric_divide_samples(table, size, currents, 100, sensitivities, 100, concentrations, 100, 0).flags)         \
-  CALL(affected_samples, quendaric_affected_samples(read_back, size, &a, 1, &b, 1, changed, 1).count)                  \
-  CALL(affected_whole, quendaric_affected_whole(read_back, size, x, y).affected)                                       \
+  CALL(affected_samples, quendaric_affected_samples(7, read_back, size, &a, 1, &b, 1, changed, 1).count)               \
+  CALL(affected_whole, quendaric_affected_whole(7, read_back, size, x, y).affected)                                    \
+  CALL(affected_run_of_28, quendaric_affected_run(7, read_back, size, dividend, divisor, 28).affected)                 \
+  CALL(affected_of_100_samples,                                                                                        \
+       quendaric_affected_samples(7, repaired, size, currents, 100, sensitivities, 100, changed, 100).count)           \
+  CALL(affected_of_a_right_run, quendaric_affected_run(7, repaired, size, dividend, divisor, 28).affected)             \
   CALL(average_windows, quendaric_average_windows(readings, 8, 4, a % 2, means, 8, remainders, 8).refusal)             \
   CALL(divide_packed, quendaric_divide_packed(decimals, decimals + 8).quotient[0])                                     \
   CALL(count_visits, quendaric_count_visits(table, size, 2, 28, visits, size).refusal)                                 \
@@ -129,10 +135,6 @@ static uint64_t ticks_of(void (*call)(void)) {
 #endif
 }
 
-static uint32_t promised(const char *name) {
-  return name[0] == 'a' && name[1] == 'f' ? QUENDARIC_STACK_AFFECTED : QUENDARIC_STACK;
-}
-
 int main(void) {
   uint64_t nothing = 0;
   int status = 0;
@@ -160,7 +162,7 @@ int main(void) {
     if (TICK != 0)
       say_number(each - nothing), say(" instructions, ");
     say_number(most), say(" bytes of stack");
-    if (most > promised(calls[i].name))
+    if (most > QUENDARIC_STACK)
       status = 1, say(", MORE THAN PROMISED");
     say("\n");
   }

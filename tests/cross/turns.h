@@ -140,21 +140,35 @@ static void turn_repair_table(void) {
 }
 
 static void turn_affected_samples(void) {
+  const uint64_t estimate_bits = drawn_number("estimate_bits");
   const lent table = drawn_list("table", sizeof(uint8_t), false);
   const lent currents = drawn_list("currents", sizeof(uint64_t), false);
   const lent sensitivities = drawn_list("sensitivities", sizeof(uint64_t), false);
   const lent affected = drawn_list("affected", sizeof(uint8_t), true);
-  const quendaric_affected_count r = quendaric_affected_samples(table.start, table.length, currents.start,
-      currents.length, sensitivities.start, sensitivities.length, affected.start, affected.length);
+  const quendaric_affected_count r = quendaric_affected_samples(estimate_bits, table.start, table.length,
+      currents.start, currents.length, sensitivities.start, sensitivities.length, affected.start, affected.length);
   note(r.count);
   end(r.refusal, r.place);
 }
 
 static void turn_affected_whole(void) {
+  const uint64_t estimate_bits = drawn_number("estimate_bits");
   const lent table = drawn_list("table", sizeof(uint8_t), false);
   const uint64_t a = drawn_number("a");
   const uint64_t b = drawn_number("b");
-  const quendaric_affected_mark r = quendaric_affected_whole(table.start, table.length, a, b);
+  const quendaric_affected_mark r = quendaric_affected_whole(estimate_bits, table.start, table.length, a, b);
+  note(r.affected);
+  end(r.refusal, r.place);
+}
+
+static void turn_affected_run(void) {
+  const uint64_t estimate_bits = drawn_number("estimate_bits");
+  const lent table = drawn_list("table", sizeof(uint8_t), false);
+  const uint64_t dividend = drawn_number("dividend");
+  const uint64_t divisor = drawn_number("divisor");
+  const size_t digits = (uint32_t)drawn_number("digits");
+  const quendaric_affected_mark r = quendaric_affected_run(estimate_bits, table.start, table.length, dividend, divisor,
+      digits);
   note(r.affected);
   end(r.refusal, r.place);
 }
@@ -282,6 +296,7 @@ static void turn_repair_table_for(void) {
   TURN(repair_table, TABLE_SETS) \
   TURN(affected_samples, TABLE_SETS) \
   TURN(affected_whole, TABLE_SETS) \
+  TURN(affected_run, TABLE_SETS) \
   TURN(average_windows, SETS) \
   TURN(divide_packed, SETS) \
   TURN(count_visits, TABLE_SETS) \

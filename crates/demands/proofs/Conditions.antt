@@ -14,6 +14,7 @@ use Rattle.recurrence.specs.Visits.{visitsRules}
 use Rattle.recurrence.proofs.Refusals.{run-lent}
 use Rattle.recurrence.proofs.StepRange.{step-lent}
 use Rattle.recurrence.proofs.VisitCounts.{visits-lent}
+use Rattle.recurrence.proofs.RecheckRun.{affected-run-digits, affected-run-operands, affected-run-length, affected-run-told}
 use Rattle.division.proofs.Calls.{whole-lent, binary64-rules, binary64-lent}
 use Rattle.division.proofs.SampleRuns.{samples-lent}
 use Rattle.division.proofs.RootCalls.{root-rules}
@@ -65,6 +66,10 @@ conditions = record {
   recheck-by-zero = recheck-by-zero;
   recheck-whole-length = recheck-whole-length;
   recheck-whole-told = recheck-whole-told;
+  recheck-digits = affected-run-digits;
+  recheck-operands = affected-run-operands;
+  recheck-run-length = affected-run-length;
+  recheck-run-told = affected-run-told;
   packed-dividend = packed-dividend;
   packed-divisor = packed-divisor;
   packed-by-zero = packed-by-zero;

@@ -24,14 +24,17 @@ use Rattle.recurrence.specs.Run.{runRules}
 use Rattle.recurrence.proofs.Refusals.{run-rules, run-lent}
 use Rattle.recurrence.proofs.StepRange.{step-lent}
 use Rattle.recurrence.proofs.VisitCounts.{visits-right}
+use Rattle.recurrence.specs.Recheck.{affectedRunRules, markZeros}
+use Rattle.recurrence.proofs.RecheckRun.{affected-run-rules, run-rechecks-right}
 use Rattle.division.specs.Whole.{wholeRules}
 use Rattle.division.specs.Rounding.{directionRules}
 use Rattle.demands.specs.Demand1.{Carries, CheckRefuses, ByBits, Demand1}
 use Rattle.demands.proofs.Conditions.{conditions}
 use Rattle.division.proofs.Calls.{whole-rules, whole-lent, binary64-rules, binary64-lent}
 use Rattle.division.proofs.SampleRuns.{samples-lent}
-use Rattle.division.proofs.Rechecking.{rechecks-right}
-use Rattle.division.proofs.RecheckingWhole.{whole-rechecks-right}
+use Rattle.division.specs.Recheck.{recheckZeros}
+use Rattle.division.proofs.Rechecking.{recheck-rules, rechecks-right}
+use Rattle.division.proofs.RecheckingWhole.{recheck-whole-rules, whole-rechecks-right}
 use Rattle.division.proofs.PackedCalls.{packed-refuses}
 use Rattle.division.proofs.RatioCalls.{ratios-refuse}
 use Rattle.division.proofs.RootCalls.{root-rules}
@@ -87,7 +90,7 @@ checked-for bits t =
     }
 
 pub demand-1 : Demand1
-unfolding rank
+unfolding rank affectedRunRules
 demand-1 =
     record {
       zeros = search;
@@ -108,6 +111,10 @@ demand-1 =
         repair = λ t rs cs. by-bits repairZeros _;
         repaired = λ t rs cs. by-bits (λ f. rs) _;
         changed = λ t rs cs. by-bits (λ f. cs) _;
+        affected-samples = λ t currents sensitivities given. by-bits recheckZeros _;
+        affected = λ t currents sensitivities given. by-bits (λ f. given) _;
+        affected-whole = λ t a b. by-bits markZeros _;
+        affected-run = λ t N D n. by-bits markZeros _;
       };
       check-cell = cell-refuses;
       row-limits = λ E r. limits-told E r refl .1 .refuses;
@@ -140,7 +147,14 @@ demand-1 =
       binary64 = λ t direction a b. refuses (binary64-lent direction t) _ _ _ refl (λ f. refl) refl;
       samples = λ t direction currents sensitivities given. refuses-lent (samples-lent direction (length currents) (length sensitivities) (length given) t) _ _ _ given _ refl (λ f. refl) refl;
       recheck = λ E t currents sensitivities given. let r = rechecks-right E t currents sensitivities given in record { answer = r .refuses; kept = r .keeps };
+      recheck-run = λ E t N D n. run-rechecks-right E t N D n .refuses;
       recheck-whole = λ E t a b. whole-rechecks-right E t a b .refuses;
+      recheck-for = λ bits t currents sensitivities given.
+          let c = recheck-rules (length t) (length currents) (length sensitivities) (length given) in
+          let r = rechecks-right (estimateOf bits) t currents sensitivities given in
+          record { answer = bits-refuses bits c tt recheckZeros _ (λ x. x .refusal) (λ f. refl) (r .refuses); kept = λ n p. bits-besides bits c tt (λ f. given) _ n p (r .keeps n p) };
+      recheck-run-for = λ bits t N D n. bits-refuses bits (affected-run-rules (length t) N D n) tt markZeros _ (λ x. x .refusal) (λ f. refl) (run-rechecks-right (estimateOf bits) t N D n .refuses);
+      recheck-whole-for = λ bits t a b. bits-refuses bits (recheck-whole-rules (length t) a b) tt markZeros _ (λ x. x .refusal) (λ f. refl) (whole-rechecks-right (estimateOf bits) t a b .refuses);
       run-kept = λ N D n b place. refuses-lent (run-rules N D n (length b) place) _ _ _ b _ refl (λ f. refl) (passed-last EightBits (kept-passes EightBits) (runRules N D n (length b) place));
       whole-kept = λ a b. refuses (whole-rules a b) _ _ _ refl (λ f. refl) (passed-last EightBits (kept-passes EightBits) (wholeRules a b));
       binary64-kept = λ direction a b. refuses (binary64-rules direction) _ _ _ refl (λ f. refl) (passed-last EightBits (kept-passes EightBits) (directionRules direction));

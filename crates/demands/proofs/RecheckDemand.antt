@@ -1,48 +1,54 @@
 -- Which records a wrong table affected, and that all others are right.
-use Rattle.laws.proofs.Basics.{_≡_, refl, sym, ap, _∙_, subst, Bool, true, false, List, _⊎_, inl, inr, ⊎-elim, ℕ, _+_, _*_, _≤_, arith, length, getD}
+use Rattle.laws.proofs.Basics.{_≡_, refl, sym, ap, _∙_, subst, List, [], _∷_, ⊎-elim, ℕ, _+_, _*_, _≤_, arith, length, getD}
 use lib.Count.{leadingZeros}
 use Rattle.laws.specs.Lists.{listFrom}
 use Rattle.laws.specs.Counting.{countBelow}
 use Rattle.laws.specs.Sums.{sumBelow}
-use Rattle.laws.proofs.Tests.{Decides}
 use Rattle.laws.proofs.Counting.{tally-as}
 use Rattle.selection.specs.Allowed.{allowsOf}
-use Rattle.laws.proofs.Lists.{fill-all}
-use Rattle.selection.specs.Computed.{madeTable, madeOf, repairedByte}
-use Rattle.selection.proofs.MadeTables.{kept-passes}
-use Rattle.selection.proofs.RepairAnswers.{repair-admits}
 use Rattle.selection.specs.Cell.{row, column}
-use Rattle.recurrence.specs.Recurrence.{stepBy, after, nextOf, resultOf}
-use Rattle.recurrence.specs.Recheck.{Marks, readsBad, repairedTable}
+use Rattle.selection.specs.Computed.{madeTable, madeOf}
+use Rattle.selection.proofs.MadeTables.{kept-passes}
+use Rattle.recurrence.specs.Recurrence.{Operands, after, nextOf, resultOf}
+use Rattle.recurrence.specs.Recheck.{straysBelow, affectedRunRules, affectedRunOf}
 use Rattle.recurrence.proofs.Digits.{divisor-after}
-use Rattle.recurrence.proofs.SameRuns.{runs-claim, reads-decides, repair-copies, repair-passes}
+use Rattle.recurrence.proofs.RightRuns.{wrong-decides, run-mark-right, run-mark-claim, mark-is}
+use Rattle.recurrence.proofs.RecheckRun.{run-rechecks-right, run-rechecks-one, affected-run-told, affected-run-claim}
+use Rattle.recurrence.proofs.RunDemand.{result-divides}
 use Rattle.division.specs.Binary64Steps.{ratioThrough, binary64Through}
 use Rattle.division.specs.Binary64.{binary64Of}
 use Rattle.division.specs.Format.{binary64Values}
 use Rattle.division.specs.WholeSteps.{shiftedRun}
-use Rattle.division.specs.Recheck.{RecordClaim, isAffected, recheckOf}
+use Rattle.division.specs.Recheck.{RecordClaim, isAffected, recheckOf, affectedFor}
 use Rattle.division.specs.RecheckWhole.{recheckWholeOf}
 use Rattle.division.specs.declared.format.Binary64Answer.{Binary64Answer}
 use Rattle.division.proofs.Answers.{binary64-answer}
 use Rattle.division.proofs.Classes.{nonzero-quotient}
 use Rattle.division.proofs.Binary64Through.{binary64-through}
 use Rattle.division.proofs.Rechecking.{affected-decides, operand-right, rechecks-right, rechecks-one, recheck-told, recheck-claim}
-use Rattle.division.proofs.RecheckingWhole.{whole-rechecks-right, whole-rechecks-one, recheck-whole-told, recheck-whole-claim}
+use Rattle.division.proofs.RecheckingWhole.{whole-decides, whole-rechecks-right, whole-rechecks-one, recheck-whole-told, recheck-whole-claim}
 use Rattle.division.proofs.RecheckExamples.{recheck-examples}
 use Rattle.ieee.specs.Directions.{Pinned}
 use Rattle.ieee.proofs.Ieee754.{ieee-754}
-use Rattle.demands.specs.RecheckDemand.{RecheckTold, RecheckCallExample, RecheckDemand}
+use Rattle.demands.specs.RecheckDemand.{RecheckRunTold, RecheckTold, RecheckCallExample, EstimatesTold, RecheckDemand}
 use Rattle.selection.specs.declared.Estimate.{Estimate}
 use Rattle.selection.specs.declared.Estimate.the-variants.{EightBits}
 
--- a mark of what a test decides is 0 or 1
-mark-is : {P : Type 0} {m : ℕ} (x : Bool) → Decides P x → Marks P m → (m ≡ 0) ⊎ (m ≡ 1)
-mark-is true d r = inr (r .marked (d .yes refl))
-mark-is false d r = inl (r .unmarked (d .no refl))
-
 call-example : RecheckCallExample
-unfolding madeTable listFrom madeOf allowsOf after nextOf readsBad isAffected countBelow sumBelow leadingZeros
+unfolding madeTable listFrom madeOf allowsOf after nextOf straysBelow isAffected countBelow sumBelow leadingZeros
 call-example = record { marks = refl; count = refl; whole = refl; whole-unaffected = refl }
+
+by-seven : affectedFor 7 (madeTable EightBits) (0x3FF0_B000_0000_0000 ∷ []) (0x3FF1_0800_0000_0000 ∷ []) (9 ∷ []) ≡ 1 ∷ []
+unfolding madeTable listFrom madeOf allowsOf after nextOf straysBelow isAffected
+by-seven = refl
+
+by-eight : affectedFor 8 (madeTable EightBits) (0x3FF0_B000_0000_0000 ∷ []) (0x3FF1_0800_0000_0000 ∷ []) (9 ∷ []) ≡ 0 ∷ []
+unfolding madeTable listFrom madeOf allowsOf after nextOf straysBelow isAffected
+by-eight = refl
+
+estimates : EstimatesTold
+unfolding madeTable listFrom madeOf allowsOf after nextOf straysBelow affectedRunRules
+estimates = record { by-seven = by-seven; by-eight = by-eight; run-by-seven = refl; run-by-eight = refl }
 
 -- in a divider with the estimate E
 module _ (E : Estimate) where
@@ -50,7 +56,7 @@ module _ (E : Estimate) where
   as-kept : (t : List ℕ) (a b direction : ℕ) {m : ℕ} → RecordClaim E t a b m → m ≡ 0 → direction ≤ 3
       → (binary64Values (binary64Through E t direction a b) ≡ binary64Of (madeTable EightBits) direction a b) × Pinned direction a b (binary64Through E t direction a b .pattern)
   as-kept t a b direction c e h =
-      let k = ap binary64Values (c .same e direction ∙ binary64-through E (repairedTable E t) direction a b (repair-passes E t)) ∙ sym (binary64-answer (madeTable EightBits) (kept-passes EightBits) direction a b h) in
+      let k = ap binary64Values (c .same e EightBits (madeTable EightBits) (kept-passes EightBits) direction ∙ binary64-through EightBits (madeTable EightBits) direction a b (kept-passes EightBits)) ∙ sym (binary64-answer (madeTable EightBits) (kept-passes EightBits) direction a b h) in
       (k, subst (λ (x : Binary64Answer). Pinned direction a b (x .pattern)) (sym k) (ieee-754 .kept .pinned direction a b h))
 
   told : (t currents sensitivities given : List ℕ) → length t ≡ 2048 → length currents ≡ length sensitivities → length currents ≤ length given → RecheckTold E t currents sensitivities given
@@ -66,21 +72,38 @@ module _ (E : Estimate) where
         mark = λ j h. mark-is _ (affected-decides E t (getD currents j 0) (getD sensitivities j 0)) (marks .each j h);
         count = tally-as (λ j h. marks .each j h .marked) (λ j h. claim j h .affected) (marks .count);
         by-class = λ j h n. marks .each j h .unmarked (λ a. ⊎-elim (λ f. f (a .dividend)) (λ f. f (a .divisor)) n);
-        bad = λ j h a b i l w. marks .each j h .marked (record { dividend = a; divisor = b; reads = record { step = i; early = l; bad = w } });
-        cell = λ j h e. let r = claim j h .affected e .reads in (r .step, r .early, r .bad);
+        unmarked = λ j h a b. claim j h .run a b .right;
+        marked = λ j h a b. claim j h .run a b .wrong;
+        cell = λ j h e. let w = claim j h .affected e in let r = claim j h .run (w .dividend) (w .divisor) .bad e in (r .step, r .early, r .bad);
         kept = λ j h e direction l. as-kept t _ _ direction (claim j h) e l .0;
         pinned = λ j h e direction l. as-kept t _ _ direction (claim j h) e l .1;
+      }
+
+  run-told : (t : List ℕ) (N D n : ℕ) → length t ≡ 2048 → Operands N D → 1 ≤ n → n ≤ 31 → RecheckRunTold E t N D n
+  run-told t N D n size o h l =
+      let done = affected-run-told E t N D n o h l size in
+      let c = affected-run-claim E (affectedRunOf E t N D n) (run-rechecks-right E t N D n) done in
+      record {
+        done = done;
+        claim = c;
+        mark = mark-is _ (wrong-decides E t N D n o h) (run-rechecks-right E t N D n .rechecks (record { operands = o; some = h; most = l; size = size }));
+        unmarked = (λ z. let r = c .right .0 z in (r .digits, r .result), λ x. c .right .1 (record { digits = x .0; result = x .1 }));
+        marked = c .wrong;
+        words = c .words;
+        neither = λ z f. ⊎-elim (λ x. absurd (omega (arith, f (x .step) (x .early), x .above))) (λ x. (x .number, x .less-one)) (c .neither z);
       }
 
   pub recheck-demand : RecheckDemand E
   unfolding ratioThrough shiftedRun resultOf after nextOf
   recheck-demand = record {
-    step = λ t N D i. ap (λ (x : ℕ). stepBy (getD t (128 * row x + column E (after E t N D i .sum) (after E t N D i .carry)) 0) (after E t N D i)) (divisor-after E t N D i);
+    byte = λ t N D i. ap (λ (d : ℕ). getD t (128 * row d + column E (after E t N D i .sum) (after E t N D i .carry)) 0) (divisor-after E t N D i);
+    step = λ t N D i. refl;
     result = λ t N D n. refl;
-    runs = runs-claim E;
-    repair = λ t. (repair-copies E t, repair-passes E t);
-    repair-call = λ t rs cs h k l.
-        rw (repair-admits (length t) (length rs) (length cs) (record { repaired-room = omega arith; changed-room = omega arith; size = h })) (fill-all (repairedByte E t) rs 2048 (omega arith));
+    run = λ t N D n o h. run-mark-claim E t N D n o h (run-mark-right E t N D n o h);
+    passes = λ t p N D n o h. run-mark-claim E t N D n o h (run-mark-right E t N D n o h) .right .1 (record { digits = λ i l. p .table .digits _; result = result-divides E t N D n p o h });
+    run-answer = run-rechecks-right E;
+    run-one = λ t N D n x r. run-rechecks-one E x (affectedRunOf E t N D n) r (run-rechecks-right E t N D n);
+    run-told = run-told;
     operand = operand-right;
     formed = λ t a b. refl;
     rounds = λ t direction a b h k. rw (nonzero-quotient a b h k) refl;
@@ -96,12 +119,14 @@ module _ (E : Estimate) where
         record {
           done = d;
           claim = k;
-          mark = mark-is _ (reads-decides E t t _ _ _) m;
-          cell = λ x. let r = k .affected x in (r .step, r .early, r .bad);
-          bad = λ i l w. m .marked (record { step = i; early = l; bad = w });
+          mark = mark-is _ (whole-decides E t a b h p l) m;
+          unmarked = k .right;
+          marked = k .wrong;
+          cell = λ x. let r = k .run .bad x in (r .step, r .early, r .bad);
           formed = refl;
           digits = refl;
         };
     examples = recheck-examples;
     call-example = call-example;
+    estimates = estimates;
   }

@@ -23,13 +23,14 @@ use Rattle.selection.specs.Word.{signed}
 use Rattle.recurrence.specs.Run.{runRules, runZeros, runOf, bufferOf}
 use Rattle.recurrence.specs.Step.{stepRules, stepZeros, stepOf}
 use Rattle.recurrence.specs.Visits.{visitsRules, visitsAnswer, visitsLeft}
+use Rattle.recurrence.specs.Recheck.{affectedRunRules, markZeros, affectedRunOf, affectedRunFor}
 use Rattle.division.specs.Whole.{wholeRules, wholeZeros, wholeOf}
 use Rattle.division.specs.Binary64.{binary64Of}
 use Rattle.division.specs.Rounding.{directionRules}
 use Rattle.division.specs.Format.{binary64Zeros}
 use Rattle.division.specs.Samples.{samplesRules, samplesZeros, samplesOf, concentrationsOf}
-use Rattle.division.specs.Recheck.{recheckRules, recheckZeros, recheckOf, affectedOf}
-use Rattle.division.specs.RecheckWhole.{recheckWholeRules, recheckWholeZeros, recheckWholeOf}
+use Rattle.division.specs.Recheck.{recheckRules, recheckZeros, recheckOf, affectedOf, recheckFor, affectedFor}
+use Rattle.division.specs.RecheckWhole.{recheckWholeRules, recheckWholeOf, recheckWholeFor}
 use Rattle.division.specs.Packed.{packedNumber, Decimal, packedRules, packedZeros, packedOf}
 use Rattle.division.specs.Ratios.{ratiosRules, comparisonZeros, comparisonNumbers, comparedOf}
 use Rattle.division.specs.RootCalls.{rootRules, rootZeros, rootWholeOf, rootBinary64Of}
@@ -88,10 +89,14 @@ pub record Conditions : Type 0 where
       → recheckOf E t currents sensitivities given ≡ recheckZeros (refusal 8 0)
   pub recheck-told : (E : Estimate) (t currents sensitivities given : List ℕ) → length currents ≡ length sensitivities → length currents ≤ length given → length t ≡ 2048
       → recheckOf E t currents sensitivities given .refusal ≡ refusal 0 0
-  pub recheck-large : (E : Estimate) (t : List ℕ) (a b : ℕ) → (2 ^ 60 ≤ a) ⊎ (2 ^ 60 ≤ b) → recheckWholeOf E t a b ≡ recheckWholeZeros (refusal 4 0)
-  pub recheck-by-zero : (E : Estimate) (t : List ℕ) (a b : ℕ) → a < 2 ^ 60 → b ≡ 0 → recheckWholeOf E t a b ≡ recheckWholeZeros (refusal 5 0)
-  pub recheck-whole-length : (E : Estimate) (t : List ℕ) (a b : ℕ) → a < 2 ^ 60 → 0 < b → b < 2 ^ 60 → (length t ≡ 2048 → ⊥) → recheckWholeOf E t a b ≡ recheckWholeZeros (refusal 8 0)
+  pub recheck-large : (E : Estimate) (t : List ℕ) (a b : ℕ) → (2 ^ 60 ≤ a) ⊎ (2 ^ 60 ≤ b) → recheckWholeOf E t a b ≡ markZeros (refusal 4 0)
+  pub recheck-by-zero : (E : Estimate) (t : List ℕ) (a b : ℕ) → a < 2 ^ 60 → b ≡ 0 → recheckWholeOf E t a b ≡ markZeros (refusal 5 0)
+  pub recheck-whole-length : (E : Estimate) (t : List ℕ) (a b : ℕ) → a < 2 ^ 60 → 0 < b → b < 2 ^ 60 → (length t ≡ 2048 → ⊥) → recheckWholeOf E t a b ≡ markZeros (refusal 8 0)
   pub recheck-whole-told : (E : Estimate) (t : List ℕ) (a b : ℕ) → a < 2 ^ 60 → 0 < b → b < 2 ^ 60 → length t ≡ 2048 → recheckWholeOf E t a b .refusal ≡ refusal 0 0
+  pub recheck-digits : (E : Estimate) (t : List ℕ) (N D n : ℕ) → (n ≡ 0) ⊎ (31 < n) → affectedRunOf E t N D n ≡ markZeros (refusal 2 0)
+  pub recheck-operands : (E : Estimate) (t : List ℕ) (N D n : ℕ) → 1 ≤ n → n ≤ 31 → (D < 2 ^ 60) ⊎ ((2 ^ 61 ≤ D) ⊎ (2 ^ 61 ≤ N)) → affectedRunOf E t N D n ≡ markZeros (refusal 3 0)
+  pub recheck-run-length : (E : Estimate) (t : List ℕ) (N D n : ℕ) → Operands N D → 1 ≤ n → n ≤ 31 → (length t ≡ 2048 → ⊥) → affectedRunOf E t N D n ≡ markZeros (refusal 8 0)
+  pub recheck-run-told : (E : Estimate) (t : List ℕ) (N D n : ℕ) → Operands N D → 1 ≤ n → n ≤ 31 → length t ≡ 2048 → affectedRunOf E t N D n .refusal ≡ refusal 0 0
   pub packed-dividend : (xs ys : List ℕ) (p : ℕ) → p < 8 → (9 < getD xs p 0 / 16) ⊎ (9 < getD xs p 0 % 16) → ((i : ℕ) → i < p → (9 < getD xs i 0 / 16) ⊎ (9 < getD xs i 0 % 16) → ⊥)
       → packedOf xs ys ≡ packedZeros (refusal 15 p)
   pub packed-divisor : (xs ys : List ℕ) (p : ℕ) → Decimal xs → p < 8 → (9 < getD ys p 0 / 16) ⊎ (9 < getD ys p 0 % 16) → ((i : ℕ) → i < p → (9 < getD ys i 0 / 16) ⊎ (9 < getD ys i 0 % 16) → ⊥)
@@ -125,7 +130,7 @@ pub record ZerosBesides : Type 0 where
   pub packed : (f : Refusal) → packedZeros f ≡ record { refusal = f; quotient = 0 ∷ 0 ∷ 0 ∷ 0 ∷ 0 ∷ 0 ∷ 0 ∷ 0 ∷ []; remainder = 0 ∷ 0 ∷ 0 ∷ 0 ∷ 0 ∷ 0 ∷ 0 ∷ 0 ∷ [] }
   pub repair : (f : Refusal) → repairZeros f ≡ record { refusal = f; count = 0 }
   pub recheck : (f : Refusal) → recheckZeros f ≡ record { refusal = f; count = 0 }
-  pub recheck-whole : (f : Refusal) → recheckWholeZeros f ≡ record { refusal = f; affected = 0 }
+  pub recheck-one : (f : Refusal) → markZeros f ≡ record { refusal = f; affected = 0 }
   pub comparison : (f : Refusal) → comparisonZeros f ≡ record { refusal = f; order = pos 0 }
   pub whole : (f : Refusal) → wholeZeros f ≡ record { refusal = f; quotient = 0; remainder = 0 }
   pub binary64 : (f : Refusal) → binary64Zeros f ≡ record { refusal = f; pattern = 0; flags = 0 }
@@ -148,6 +153,11 @@ pub record ForBits : Type 0 where
   pub repair : (t rs cs : List ℕ) → ByBits (λ bits. repairFor bits t rs cs) (record { refusal = record { number = 17; place = 0 }; count = 0 }) (λ E. repairOf E t rs cs)
   pub repaired : (t rs cs : List ℕ) → ByBits (λ bits. repairedFor bits t rs cs) rs (λ E. repairedOf E t rs cs)
   pub changed : (t rs cs : List ℕ) → ByBits (λ bits. changedFor bits t rs cs) cs (λ E. changedOf E t rs cs)
+  pub affected-samples : (t currents sensitivities given : List ℕ)
+      → ByBits (λ bits. recheckFor bits t currents sensitivities given) (record { refusal = record { number = 17; place = 0 }; count = 0 }) (λ E. recheckOf E t currents sensitivities given)
+  pub affected : (t currents sensitivities given : List ℕ) → ByBits (λ bits. affectedFor bits t currents sensitivities given) given (λ E. affectedOf E t currents sensitivities given)
+  pub affected-whole : (t : List ℕ) (a b : ℕ) → ByBits (λ bits. recheckWholeFor bits t a b) (record { refusal = record { number = 17; place = 0 }; affected = 0 }) (λ E. recheckWholeOf E t a b)
+  pub affected-run : (t : List ℕ) (N D n : ℕ) → ByBits (λ bits. affectedRunFor bits t N D n) (record { refusal = record { number = 17; place = 0 }; affected = 0 }) (λ E. affectedRunOf E t N D n)
 
 pub record Demand1 : Type 0 where
   pub zeros : ZerosBesides
@@ -188,7 +198,13 @@ pub record Demand1 : Type 0 where
   -- a table as it was burned: no byte of it is refused
   pub recheck : (E : Estimate) (t currents sensitivities given : List ℕ)
       → RefusesLent (Wrongs (recheckRules (length t) (length currents) (length sensitivities) (length given))) (λ x. x .refusal) recheckZeros (recheckOf E t currents sensitivities given) given (affectedOf E t currents sensitivities given)
-  pub recheck-whole : (E : Estimate) (t : List ℕ) (a b : ℕ) → Refuses (Wrongs (recheckWholeRules (length t) a b)) (λ x. x .refusal) recheckWholeZeros (recheckWholeOf E t a b)
+  pub recheck-run : (E : Estimate) (t : List ℕ) (N D n : ℕ) → Refuses (Wrongs (affectedRunRules (length t) N D n)) (λ x. x .refusal) markZeros (affectedRunOf E t N D n)
+  pub recheck-whole : (E : Estimate) (t : List ℕ) (a b : ℕ) → Refuses (Wrongs (recheckWholeRules (length t) a b)) (λ x. x .refusal) markZeros (recheckWholeOf E t a b)
+  -- the calls: 17, then as above
+  pub recheck-for : (bits : ℕ) (t currents sensitivities given : List ℕ)
+      → RefusesLent (Wrongs (bitsRules bits ++ recheckRules (length t) (length currents) (length sensitivities) (length given))) (λ x. x .refusal) recheckZeros (recheckFor bits t currents sensitivities given) given (affectedFor bits t currents sensitivities given)
+  pub recheck-run-for : (bits : ℕ) (t : List ℕ) (N D n : ℕ) → Refuses (Wrongs (bitsRules bits ++ affectedRunRules (length t) N D n)) (λ x. x .refusal) markZeros (affectedRunFor bits t N D n)
+  pub recheck-whole-for : (bits : ℕ) (t : List ℕ) (a b : ℕ) → Refuses (Wrongs (bitsRules bits ++ recheckWholeRules (length t) a b)) (λ x. x .refusal) markZeros (recheckWholeFor bits t a b)
   -- over the kept table no table is refused
   pub run-kept : (N D n : ℕ) (b : List ℕ) (place : ℕ) → RunRefuses (Wrongs (runRules N D n (length b) place)) (madeTable EightBits) N D n b place
   pub whole-kept : (a b : ℕ) → Refuses (Wrongs (wholeRules a b)) (λ x. x .refusal) wholeZeros (wholeOf (madeTable EightBits) a b)

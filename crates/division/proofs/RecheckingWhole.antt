@@ -1,16 +1,20 @@
 -- Whether a wrong table affected a division of whole numbers: its mark, what it claims, the refusals of the call, and that no other answer fits.
-use Rattle.laws.proofs.Basics.{_≡_, refl, ap, _∙_, List, _⊎_, ℕ, _+_, _-_, _*_, _^_, _≤_, _<_, arith, length}
-use native.Mathlib.Nat.{pos-of-ne-zero}
+use Rattle.laws.proofs.Basics.{_≡_, refl, ap, _∙_, List, _⊎_, inl, inr, ⊎-elim, ℕ, _+_, _-_, _*_, _/_, _%_, _^_, _≤_, _<_, arith, length}
+use native.Mathlib.Nat.{pos-of-ne-zero, mul-div-cancel, le-div-iff-mul-le, lt-of-mul-lt-mul-right, mod-lt, div-add-mod'}
+use lib.Pow.{pow-pos}
+use Rattle.laws.proofs.Tests.{Decides}
 use Rattle.selection.proofs.Refusing.{refusal, answerBy, firstRefusal, rank, WellFormed, refuses-one, admits, refuses, cleared, clear-admits, refused-at}
 use Rattle.selection.specs.declared.Admission.{Admission}
 use Rattle.selection.specs.declared.Admission.the-variants.{Admitted}
-use Rattle.recurrence.specs.Recheck.{Marks, SameRun, readsBad, runMark, repairedTable}
-use Rattle.recurrence.proofs.SameRuns.{runs-claim, first-bad, reads-decides, run-mark-right, mark-none, mark-some, mark-one, repair-copies, repair-passes}
+use Rattle.recurrence.specs.Recheck.{exactResult, ShowsWrong, Marks, markZeros, markValues, runsWrong, runMark}
+use Rattle.recurrence.specs.Recurrence.{resultOf}
+use Rattle.recurrence.proofs.RightRuns.{wrong-decides, run-mark-right, run-mark-claim, mark-is, mark-one}
 use Rattle.laws.specs.Shifts.{shiftTo}
-use Rattle.division.specs.WholeSteps.{digitsAfter, shiftedRun, shiftedThrough, wholeThrough}
-use Rattle.division.specs.RecheckWhole.{wholeDividend, wholeDivisor, wholeCount, WholeAffected, recheckWholeRules, recheckWholeZeros, RecheckWholeAccepts, WholeRechecks, WholeClaim, wholeMark, recheckWholeValues, recheckWholeOf}
-use Rattle.division.specs.declared.recheck.AffectedWholeAnswer.{AffectedWholeAnswer}
-use Rattle.division.proofs.WholeThrough.{whole-divides}
+use Rattle.division.specs.WholeSteps.{digitsAfter, shiftedRun, shiftedThrough}
+use Rattle.division.specs.RecheckWhole.{wholeDividend, wholeDivisor, wholeCount, WholeAffected, WholeRight, recheckWholeRules, RecheckWholeAccepts, WholeRechecks, WholeClaim, wholeMark, recheckWholeOf}
+use Rattle.division.specs.declared.whole.WholeResult.{WholeResult}
+use Rattle.recurrence.specs.declared.recheck.AffectedMark.{AffectedMark}
+use Rattle.division.proofs.WholeThrough.{whole-operands, whole-dividend, whole-exact}
 use Rattle.selection.specs.declared.Estimate.{Estimate}
 
 -- ---- refusals
@@ -30,20 +34,48 @@ module _ (len a b : ℕ) where
 -- in a divider with the estimate E
 module _ (E : Estimate) where
   module _ (t : List ℕ) (a b : ℕ) where
-    whole-same : SameRun E t (repairedTable E t) (wholeDividend a b) (wholeDivisor b) (wholeCount a b) → wholeThrough E t a b ≡ wholeThrough E (repairedTable E t) a b
-    unfolding shiftedThrough shiftedRun
-    whole-same s = let r = s .result in rw r refl
+    module _ (ha : a < 2 ^ 60) (pb : 0 < b) (hb : b < 2 ^ 60) where
+      pub whole-decides : Decides (WholeAffected E t a b) (runsWrong E t (wholeDividend a b) (wholeDivisor b) (wholeCount a b))
+      whole-decides = wrong-decides E t _ _ _ (whole-operands a b ha pb hb) (omega arith)
 
-    pub whole-claim : {m : ℕ} → a < 2 ^ 60 → 0 < b → b < 2 ^ 60 → Marks (WholeAffected E t a b) m → WholeClaim E t a b m
-    whole-claim ha pb hb r =
-        let some = mark-some (readsBad E t t (wholeDividend a b) (wholeDivisor b) (wholeCount a b)) (reads-decides E t t (wholeDividend a b) (wholeDivisor b) (wholeCount a b)) r in
-        let same = runs-claim E t (repairedTable E t) (wholeDividend a b) (wholeDivisor b) (wholeCount a b) (repair-copies E t) .same in
-        record {
-          right = λ e. whole-same (same (mark-none r e)) ∙ whole-divides E (repairedTable E t) a b (repair-passes E t) ha pb hb;
-          run = λ e. same (mark-none r e);
-          affected = some;
-          first = λ e. first-bad E t t (wholeDividend a b) (wholeDivisor b) (wholeCount a b) (some e);
-        }
+      pub whole-mark-right : Marks (WholeAffected E t a b) (wholeMark E t a b)
+      whole-mark-right = run-mark-right E t _ _ _ (whole-operands a b ha pb hb) (omega arith)
+
+      -- a run with the right result gives a / b and a % b
+      whole-right : resultOf E t (wholeDividend a b) (wholeDivisor b) (wholeCount a b) ≡ exactResult (wholeDividend a b) (wholeDivisor b) (wholeCount a b) → WholeRight E t a b
+      unfolding shiftedThrough shiftedRun
+      whole-right e = let f = e ∙ whole-exact a b ha pb hb in rw (f, mul-div-cancel (a % b) (pow-pos (shiftTo 60 b)))
+
+      -- and one whose result shows itself wrong does not
+      whole-wrong : ShowsWrong (wholeDividend a b * 4 ^ (wholeCount a b - 1)) (wholeDivisor b) (resultOf E t (wholeDividend a b) (wholeDivisor b) (wholeCount a b)) → WholeRight E t a b → ⊥
+      unfolding shiftedThrough shiftedRun
+      whole-wrong w e =
+          let s = shiftTo 60 b in
+          let x = resultOf E t (wholeDividend a b) (wholeDivisor b) (wholeCount a b) in
+          let q : x .quotient ≡ a / b = ap (λ (y : WholeResult). y .quotient) e in
+          let r : x .remainder / 2 ^ s ≡ a % b = ap (λ (y : WholeResult). y .remainder) e in
+          ⊎-elim
+          (λ (h : b * 2 ^ s ≤ x .remainder). omega (arith, le-div-iff-mul-le {k = 2 ^ s} {x = b} {y = x .remainder} (pow-pos s) .1 h, mod-lt a pb))
+          (λ (h : wholeDividend a b * 4 ^ (wholeCount a b - 1) < x .quotient * (b * 2 ^ s)).
+          let l : a * 2 ^ s < a / b * b * 2 ^ s = omega (arith, whole-dividend a b ha pb hb, ap (λ (z : ℕ). z * (b * 2 ^ s)) q) in
+          omega (arith, lt-of-mul-lt-mul-right (2 ^ s) l, div-add-mod' a b))
+          w
+
+      pub whole-claim : {m : ℕ} → Marks (WholeAffected E t a b) m → WholeClaim E t a b m
+      whole-claim {m} r =
+          let c = run-mark-claim E t _ _ _ (whole-operands a b ha pb hb) (omega arith) r in
+          let is = mark-is _ whole-decides r in
+          record {
+            right = (
+              λ z. let x = c .right .0 z in (x .digits, whole-right (x .result)),
+              λ x. ⊎-elim (λ z. z) (λ z. absurd (⊎-elim (λ y. omega (arith, x .0 (y .step) (y .early), y .above)) (λ y. whole-wrong y (x .1)) (c .shown z))) is,
+            );
+            wrong = (
+              λ z. ⊎-elim inl (λ y. inr (whole-wrong y)) (c .shown z),
+              λ y. ⊎-elim (λ z. let x = c .right .0 z in absurd (⊎-elim (λ y. omega (arith, x .digits (y .step) (y .early), y .above)) (λ f. f (whole-right (x .result))) y)) (λ z. z) is,
+            );
+            run = c;
+          }
 
     -- what the code asks: its words are those of the definition
     pub whole-words : {s k n d r : ℕ} → s ≡ shiftTo 60 b → k ≡ digitsAfter a s + 1 → n ≡ a * 2 ^ (s - 2 * digitsAfter a s) → d ≡ b * 2 ^ s → r ≡ runMark E t n d k → r ≡ wholeMark E t a b
@@ -54,25 +86,25 @@ module _ (E : Estimate) where
   module _ (t : List ℕ) (a b : ℕ) where
     pub whole-rechecks-right : WholeRechecks E t a b (recheckWholeOf E t a b)
     whole-rechecks-right = record {
-      refuses = refuses (recheck-whole-rules (length t) a b) (λ y. y .refusal) recheckWholeZeros (recheckWholeValues (wholeMark E t a b)) refl (λ f. refl) refl;
-      rechecks = λ x. rw (recheck-whole-admits (length t) a b x) (run-mark-right E t (wholeDividend a b) (wholeDivisor b) (wholeCount a b));
+      refuses = refuses (recheck-whole-rules (length t) a b) (λ y. y .refusal) markZeros (markValues (wholeMark E t a b)) refl (λ f. refl) refl;
+      rechecks = λ x. rw (recheck-whole-admits (length t) a b x) (whole-mark-right t a b (x .dividend) (x .some) (x .divisor));
     }
 
     -- what the code asks: by the first refusal v
-    pub recheck-whole-answer : {v : Admission} {x : AffectedWholeAnswer} → firstRefusal (recheckWholeRules (length t) a b) ≡ v
-        → x ≡ answerBy recheckWholeZeros (recheckWholeValues (wholeMark E t a b)) v
+    pub recheck-whole-answer : {v : Admission} {x : AffectedMark} → firstRefusal (recheckWholeRules (length t) a b) ≡ v
+        → x ≡ answerBy markZeros (markValues (wholeMark E t a b)) v
         → (x ≡ recheckWholeOf E t a b) × WholeRechecks E t a b x
     recheck-whole-answer e g = rw (g, ← e) (refl, whole-rechecks-right)
 
     -- the conditions in numbers: where one holds and none before it, the call refuses so
-    pub recheck-large : (2 ^ 60 ≤ a) ⊎ (2 ^ 60 ≤ b) → recheckWholeOf E t a b ≡ recheckWholeZeros (refusal 4 0)
-    recheck-large h = ap (answerBy recheckWholeZeros _) (refused-at (recheck-whole-rules (length t) a b) 0 0 (refl, h))
+    pub recheck-large : (2 ^ 60 ≤ a) ⊎ (2 ^ 60 ≤ b) → recheckWholeOf E t a b ≡ markZeros (refusal 4 0)
+    recheck-large h = ap (answerBy markZeros _) (refused-at (recheck-whole-rules (length t) a b) 0 0 (refl, h))
 
-    pub recheck-by-zero : a < 2 ^ 60 → b ≡ 0 → recheckWholeOf E t a b ≡ recheckWholeZeros (refusal 5 0)
-    recheck-by-zero h e = ap (answerBy recheckWholeZeros _) (refused-at (recheck-whole-rules (length t) a b) 1 0 ((h, omega arith), (refl, e)))
+    pub recheck-by-zero : a < 2 ^ 60 → b ≡ 0 → recheckWholeOf E t a b ≡ markZeros (refusal 5 0)
+    recheck-by-zero h e = ap (answerBy markZeros _) (refused-at (recheck-whole-rules (length t) a b) 1 0 ((h, omega arith), (refl, e)))
 
-    pub recheck-whole-length : a < 2 ^ 60 → 0 < b → b < 2 ^ 60 → (length t ≡ 2048 → ⊥) → recheckWholeOf E t a b ≡ recheckWholeZeros (refusal 8 0)
-    recheck-whole-length h p k n = ap (answerBy recheckWholeZeros _) (refused-at (recheck-whole-rules (length t) a b) 2 0 ((h, k), ((λ e. omega arith), (refl, n))))
+    pub recheck-whole-length : a < 2 ^ 60 → 0 < b → b < 2 ^ 60 → (length t ≡ 2048 → ⊥) → recheckWholeOf E t a b ≡ markZeros (refusal 8 0)
+    recheck-whole-length h p k n = ap (answerBy markZeros _) (refused-at (recheck-whole-rules (length t) a b) 2 0 ((h, k), ((λ e. omega arith), (refl, n))))
 
     -- and where none does, it refuses nothing
     pub recheck-whole-told : a < 2 ^ 60 → 0 < b → b < 2 ^ 60 → length t ≡ 2048 → recheckWholeOf E t a b .refusal ≡ refusal 0 0
@@ -80,14 +112,14 @@ module _ (E : Estimate) where
 
   module _ {t : List ℕ} {a b : ℕ} where
     -- an answer that is not refused
-    pub recheck-whole-claim : (x : AffectedWholeAnswer) → WholeRechecks E t a b x → x .refusal ≡ refusal 0 0 → WholeClaim E t a b (x .affected)
+    pub recheck-whole-claim : (x : AffectedMark) → WholeRechecks E t a b x → x .refusal ≡ refusal 0 0 → WholeClaim E t a b (x .affected)
     recheck-whole-claim x r e =
         let k = recheck-whole-accepts (length t) a b (admits (recheck-whole-rules (length t) a b) (r .refuses .by .none .0 e)) in
         whole-claim t a b (k .dividend) (k .some) (k .divisor) (r .rechecks k)
 
     -- no other answer fits
-    pub whole-rechecks-one : (f g : AffectedWholeAnswer) → WholeRechecks E t a b f → WholeRechecks E t a b g → f ≡ g
+    pub whole-rechecks-one : (f g : AffectedMark) → WholeRechecks E t a b f → WholeRechecks E t a b g → f ≡ g
     whole-rechecks-one f g x y = refuses-one (recheck-whole-rules (length t) a b) (x .refuses) (y .refuses) (λ e r.
         let k = recheck-whole-accepts (length t) a b e in
-        let m = mark-one _ (reads-decides E t t (wholeDividend a b) (wholeDivisor b) (wholeCount a b)) (x .rechecks k) (y .rechecks k) in
+        let m = mark-one _ (whole-decides t a b (k .dividend) (k .some) (k .divisor)) (x .rechecks k) (y .rechecks k) in
         λ i. record { refusal = r i; affected = m i })

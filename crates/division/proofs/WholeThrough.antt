@@ -1,5 +1,5 @@
 -- Whole numbers through a table that passes: the run's digits give a / b and a % b.
-use Rattle.laws.proofs.Basics.{_≡_, List, ℕ, _+_, _-_, _*_, _/_, _%_, _^_, _≤_, _<_, arith, lit<}
+use Rattle.laws.proofs.Basics.{_≡_, _∙_, List, ℕ, _+_, _-_, _*_, _/_, _%_, _^_, _≤_, _<_, arith, lit<}
 use native.Mathlib.Nat.{mul-assoc, mul-div-cancel, mul-lt-mul-of-pos-right}
 use lib.Count.{leadingZeros, leading-length}
 use lib.Pow.{pow-add, pow-mono, pow-pos}
@@ -7,7 +7,8 @@ use Rattle.laws.proofs.Division.{scaled}
 use Rattle.laws.proofs.Powers.{four-pow, lifted, pow-cancel}
 use Rattle.laws.specs.Shifts.{shiftTo}
 use Rattle.selection.specs.Table.{Passes}
-use Rattle.recurrence.specs.Recurrence.{resultOf}
+use Rattle.recurrence.specs.Recurrence.{Operands, resultOf}
+use Rattle.recurrence.specs.Recheck.{exactResult}
 use Rattle.recurrence.proofs.RunDemand.{result-divides}
 use Rattle.division.specs.WholeSteps.{digitsAfter, shiftedRun, shiftedThrough, wholeThrough}
 use Rattle.selection.specs.declared.Estimate.{Estimate}
@@ -25,23 +26,36 @@ after-bounds a s h l =
     let r = room-above a h in
     (omega (arith, r .0), omega (arith, r .0), r .1 (s - 2 * digitsAfter a s) (omega (arith, r .0)))
 
+-- the operands of the run of a by b
+module _ (a b : ℕ) (ha : a < 2 ^ 60) (pb : 0 < b) (hb : b < 2 ^ 60) where
+  pub whole-operands : let s = shiftTo 60 b in Operands (a * 2 ^ (s - 2 * digitsAfter a s)) (b * 2 ^ s)
+  whole-operands =
+      let l = lifted 60 b (lit< tt) pb hb in
+      record { dividend = after-bounds a (shiftTo 60 b) ha (l .1) .2; least = l .2; most = l .3 }
+
+  -- with k + 1 digits a and b are both moved up by s
+  pub whole-dividend : let s = shiftTo 60 b in let k = digitsAfter a s in a * 2 ^ (s - 2 * k) * 4 ^ (k + 1 - 1) ≡ a * 2 ^ s
+  whole-dividend =
+      let s = shiftTo 60 b in
+      let k = digitsAfter a s in
+      let i : k + 1 - 1 ≡ k = omega arith in
+      let j : s - 2 * k + (k + k) ≡ s = omega (arith, after-bounds a s ha (lifted 60 b (lit< tt) pb hb .1) .1) in
+      rw (i, mul-assoc, four-pow k, ← pow-add 2 (s - 2 * k) (k + k), j)
+
+  -- so the right result is a / b and (a % b)·2^s
+  pub whole-exact : let s = shiftTo 60 b in let k = digitsAfter a s in
+      exactResult (a * 2 ^ (s - 2 * k)) (b * 2 ^ s) (k + 1) ≡ record { quotient = a / b; remainder = a % b * 2 ^ s; count = k + 1 }
+  whole-exact =
+      let free = scaled a {k = 2 ^ shiftTo 60 b} pb (pow-pos (shiftTo 60 b)) in
+      rw (whole-dividend, free .0, free .1)
+
 -- in a divider with the estimate E
 module _ (E : Estimate) where
   -- the run of a·2^(s − 2k) by b·2^s, k + 1 digits, gives a / b and (a % b)·2^s
   pub whole-through : (t : List ℕ) (a b : ℕ) → Passes E t → a < 2 ^ 60 → 0 < b → b < 2 ^ 60
       → let s = shiftTo 60 b in let k = digitsAfter a s in
       resultOf E t (a * 2 ^ (s - 2 * k)) (b * 2 ^ s) (k + 1) ≡ record { quotient = a / b; remainder = a % b * 2 ^ s; count = k + 1 }
-  whole-through t a b p ha pb hb =
-      let s = shiftTo 60 b in
-      let k = digitsAfter a s in
-      let l = lifted 60 b (lit< tt) pb hb in
-      let bounds = after-bounds a s ha (l .1) in
-      let e = result-divides E t (a * 2 ^ (s - 2 * k)) (b * 2 ^ s) (k + 1) p (record { dividend = bounds .2; least = l .2; most = l .3 }) (omega arith) in
-      let i : k + 1 - 1 ≡ k = omega arith in
-      let j : s - 2 * k + (k + k) ≡ s = omega (arith, bounds .1) in
-      let m : a * 2 ^ (s - 2 * k) * 4 ^ (k + 1 - 1) ≡ a * 2 ^ s = rw (i, mul-assoc, four-pow k, ← pow-add 2 (s - 2 * k) (k + k), j) in
-      let free = scaled a {k = 2 ^ s} pb (pow-pos s) in
-      rw (e, m, free .0, free .1)
+  whole-through t a b p ha pb hb = result-divides E t _ _ _ p (whole-operands a b ha pb hb) (omega arith) ∙ whole-exact a b ha pb hb
 
   -- so the call's quotient and remainder are a / b and a % b
   pub whole-divides : (t : List ℕ) (a b : ℕ) → Passes E t → a < 2 ^ 60 → 0 < b → b < 2 ^ 60 → wholeThrough E t a b ≡ record { quotient = a / b; remainder = a % b }

@@ -6,11 +6,12 @@ ghost use Rattle.selection.specs.Computed.{cellOf, reportOf, rowLimitsOf, makeO
 ghost use Rattle.recurrence.specs.Run.{runOf, bufferOf};
 ghost use Rattle.recurrence.specs.Step.{stepOf};
 ghost use Rattle.recurrence.specs.Visits.{visitsAnswer, visitsLeft};
+ghost use Rattle.recurrence.specs.Recheck.{affectedRunFor};
 ghost use Rattle.division.specs.Whole.{wholeOf};
 ghost use Rattle.division.specs.Binary64.{binary64Of};
 ghost use Rattle.division.specs.Samples.{samplesOf, concentrationsOf};
-ghost use Rattle.division.specs.Recheck.{recheckOf, affectedOf};
-ghost use Rattle.division.specs.RecheckWhole.{recheckWholeOf};
+ghost use Rattle.division.specs.Recheck.{recheckFor, affectedFor};
+ghost use Rattle.division.specs.RecheckWhole.{recheckWholeFor};
 ghost use Rattle.division.specs.Packed.{packedOf};
 ghost use Rattle.division.specs.Ratios.{comparedOf, comparisonNumbers};
 ghost use Rattle.division.specs.RootCalls.{rootWholeOf, rootBinary64Of};
@@ -20,11 +21,11 @@ use division::format::Binary64Answer;
 use division::packed::PackedAnswer;
 use division::ratio::ComparisonNumbers;
 use division::recheck::AffectedAnswer;
-use division::recheck::AffectedWholeAnswer;
 use division::root::RootAnswer;
 use division::samples::SamplesAnswer;
 use division::whole::WholeAnswer;
 use recurrence::RunAnswer;
+use recurrence::recheck::AffectedMark;
 use recurrence::step::StepAnswer;
 use selection::Estimate;
 use selection::Refusal;
@@ -165,31 +166,45 @@ pub extern "C" fn quendaric_repair_table(
     selection::repair::repair_table(Estimate::EightBits, table, repaired, changed)
 }
 
-// Which samples a table as it was burned has affected.
+// Which samples a table as it was burned has affected, in a divider that adds so many bits of each remainder word, 7 or 8.
 #[no_mangle]
 pub extern "C" fn quendaric_affected_samples(
+    estimate_bits: u64,
     table: &[u8],
     currents: &[u64],
     sensitivities: &[u64],
     affected: &mut [u8],
 ) -> AffectedAnswer
-    ensures { λ r. ⌜ (r ≡ recheckOf EightBits (now (table .entry)) (now (currents .entry)) (now (sensitivities .entry)) (now (affected .entry))) × (now (affected .exit) ≡ affectedOf EightBits (now (table .entry)) (now (currents .entry)) (now (sensitivities .entry)) (now (affected .entry))) ⌝ }
+    ensures { λ r. ⌜ (r ≡ recheckFor «estimate_bits» (now (table .entry)) (now (currents .entry)) (now (sensitivities .entry)) (now (affected .entry))) × (now (affected .exit) ≡ affectedFor «estimate_bits» (now (table .entry)) (now (currents .entry)) (now (sensitivities .entry)) (now (affected .entry))) ⌝ }
 {
-    division::recheck::affected_samples(
-        Estimate::EightBits,
-        table,
-        currents,
-        sensitivities,
-        affected,
-    )
+    division::recheck::affected_samples_for(estimate_bits, table, currents, sensitivities, affected)
 }
 
 // Whether it has affected a division of whole numbers.
 #[no_mangle]
-pub extern "C" fn quendaric_affected_whole(table: &[u8], a: u64, b: u64) -> AffectedWholeAnswer
-    ensures { λ r. ⌜ r ≡ recheckWholeOf EightBits (now (table .entry)) a b ⌝ }
+pub extern "C" fn quendaric_affected_whole(
+    estimate_bits: u64,
+    table: &[u8],
+    a: u64,
+    b: u64,
+) -> AffectedMark
+    ensures { λ r. ⌜ r ≡ recheckWholeFor «estimate_bits» (now (table .entry)) a b ⌝ }
 {
-    division::recheck::affected_whole(Estimate::EightBits, table, a, b)
+    division::recheck::affected_whole_for(estimate_bits, table, a, b)
+}
+
+// Whether it has affected a run of so many digits.
+#[no_mangle]
+pub extern "C" fn quendaric_affected_run(
+    estimate_bits: u64,
+    table: &[u8],
+    dividend: u64,
+    divisor: u64,
+    digits: usize,
+) -> AffectedMark
+    ensures { λ r. ⌜ r ≡ affectedRunFor «estimate_bits» (now (table .entry)) dividend divisor digits ⌝ }
+{
+    recurrence::recheck::affected_run_for(estimate_bits, table, dividend, divisor, digits)
 }
 
 // Mean and remainder of every full window of so many readings, the oldest window first, into two lists. The readings come oldest or newest first.

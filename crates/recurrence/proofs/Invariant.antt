@@ -27,7 +27,7 @@ step-meets d p S M v g f e =
     let s : 4 * S + d - 2 + 2 ≡ 4 * S + d = omega arith in
     (k, rw (← v) (omega (arith, step-law d p g f, ap (λ (n : ℕ). n * p .divisor) s)))
 
-quad : (N i : ℕ) → N * 4 ^ suc i ≡ N * 4 ^ i * 4
+pub quad : (N i : ℕ) → N * 4 ^ suc i ≡ N * 4 ^ i * 4
 quad N i = rw (pow-suc, mul-assoc)
 
 -- the dividend of n digits is a quarter of that of n steps
@@ -42,13 +42,12 @@ module _ (E : Estimate) where
     pub meets : biased (after E t N D i) + 4 * (S * D) ≡ N * 4 ^ i + 2 ^ 63
     pub size : S < 4 ^ i
 
-  module _ (t : List ℕ) (N D : ℕ) (ok : Passes E t) where
-    invariant-next : (i S : ℕ) → Invariant t N D i S → Invariant t N D (suc i) (4 * S + getD t (cellAt E (after E t N D i)) 0 - 2)
+  module _ (t : List ℕ) (N D : ℕ) where
+    invariant-next : (i S : ℕ) → Invariant t N D i S → AllowedAt (getD t (cellAt E (after E t N D i)) 0) (after E t N D i) → Invariant t N D (suc i) (4 * S + getD t (cellAt E (after E t N D i)) 0 - 2)
     unfolding after nextOf
-    invariant-next i S h =
+    invariant-next i S h f =
         let p = after E t N D i in
         let d = getD t (cellAt E p) 0 in
-        let f = table-digit-allowed E t p ok (h .in-range) in
         let m = step-meets d p S (N * 4 ^ i) (divisor-after E t N D i) (h .in-range) f (h .meets) in
         record {
           in-range = step-in-range d p (h .in-range) f;
@@ -57,8 +56,14 @@ module _ (E : Estimate) where
           size = omega (arith, f .byte, h .size);
         }
 
-    pub invariant-after : Operands N D → (i : ℕ) → (S : ℕ) × Invariant t N D i S
+    -- as long as each digit is allowed
+    pub invariant-while : Operands N D → (n : ℕ) → ((i : ℕ) → i < n → InRange (after E t N D i) → AllowedAt (getD t (cellAt E (after E t N D i)) 0) (after E t N D i)) → (S : ℕ) × Invariant t N D n S
     unfolding after value listFrom
-    invariant-after o zero =
+    invariant-while o zero f =
         (0, record { in-range = record { least = o .least; most = o .most; above = omega arith; below = omega arith }; makes = refl; meets = omega arith; size = omega arith })
-    invariant-after o (suc i) = (_, invariant-next i (invariant-after o i .0) (invariant-after o i .1))
+    invariant-while o (suc i) f =
+        let x = invariant-while o i (λ j h. f j (omega arith)) in
+        (_, invariant-next i (x .0) (x .1) (f i (omega arith) (x .1 .in-range)))
+
+    pub invariant-after : Passes E t → Operands N D → (i : ℕ) → (S : ℕ) × Invariant t N D i S
+    invariant-after ok o n = invariant-while o n (λ i h. table-digit-allowed E t (after E t N D i) ok)

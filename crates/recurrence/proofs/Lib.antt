@@ -13,5 +13,7 @@ pub mod StepRange
 pub mod StepDemand
 pub mod Visiting
 pub mod VisitCounts
-pub mod SameRuns
+pub mod Straying
+pub mod RightRuns
 pub mod RecheckRow
+pub mod RecheckRun

@@ -1,5 +1,5 @@
 -- The estimate ahead: the column of the next words, from the top bits of these words and of the multiple.
-use Rattle.laws.proofs.Basics.{_≡_, refl, _∙_, List, ℕ, _+_, _-_, _*_, _/_, _%_, _^_, _≤_, _<_, arith, ltb, getD}
+use Rattle.laws.proofs.Basics.{_≡_, refl, ap, _∙_, List, ℕ, _+_, _-_, _*_, _/_, _%_, _^_, _≤_, _<_, arith, lit<, ltb, getD}
 use native.Mathlib.Nat.{mod-add-mod, add-mod-mod}
 use lib.Bits.{bitAnd, bitXor, and-high}
 use Rattle.laws.proofs.Counting.{bit-most}
@@ -8,11 +8,12 @@ use Rattle.laws.proofs.Words.{same-mod, mod-sum}
 use Rattle.selection.specs.Cell.{column}
 use Rattle.recurrence.specs.CarrySave.{sum3, maj3, multiple, lowestCarry}
 use Rattle.recurrence.specs.Recurrence.{State, stepBy}
-use Rattle.recurrence.specs.FastRun.{withColumn, topBitsOf, divisorMultiples, allTopBits, renewed}
+use Rattle.recurrence.specs.FastRun.{withColumn, topBitsOf, divisorMultiples, allTopBits, maskOf, maskedMultiples, maskedTopBits, columnAhead, renewed}
 use Rattle.recurrence.specs.declared.state.RunState.{RunState}
 use Rattle.recurrence.proofs.CarrySave.{tops, majority}
 use Rattle.recurrence.proofs.Pair.{by-digit}
-use Rattle.selection.specs.declared.Estimate.the-variants.{EightBits}
+use Rattle.selection.specs.declared.Estimate.{Estimate}
+use Rattle.selection.specs.declared.Estimate.the-variants.{SevenBits, EightBits}
 
 shifted : (n : ℕ) → n * 4 % 2 ^ 64 / 2 ^ 56 ≡ n / 2 ^ 54 % 256
 shifted n = omega arith
@@ -63,6 +64,68 @@ top-bits-at ms = joined (λ d. topBitsOf (getD ms d 0)) (λ d. omega arith)
 pub multiple-at : (D d : ℕ) → d ≤ 4 → getD (divisorMultiples D) d 0 ≡ multiple d D
 multiple-at D = up-to-four (λ d. getD (divisorMultiples D) d 0 ≡ multiple d D) refl (omega arith) (omega arith) (omega arith) refl
 
+-- ---- the same for seven bits
+
+shifted-seven : (n : ℕ) → n * 4 % 2 ^ 64 / 2 ^ 57 ≡ n / 2 ^ 55 % 128
+shifted-seven n = omega arith
+
+halves-seven : (σ μ k t : ℕ) → k ≤ 1 → σ / 2 ^ 54 + μ / 2 ^ 54 * 2 ≡ t → σ / 2 ^ 55 + (μ * 2 + k) / 2 ^ 55 ≡ t / 2
+halves-seven σ μ k t h e = omega arith
+
+top-seven : (n : ℕ) → bitAnd (n % 2 ^ 62) (2 ^ 64 - 2 ^ 54) ≡ n / 2 ^ 54 % 256 * 2 ^ 54
+top-seven n = and-high (n % 2 ^ 62) 10 54 ∙ omega arith
+
+moved-up-seven : (u v : ℕ) → (u % 256 * 2 ^ 54 + v % 256 * 2 ^ 54) % 2 ^ 64 * 4 % 2 ^ 64 ≡ (2 * (u % 256) + 2 * (v % 256)) * 2 ^ 55 % 2 ^ 64
+moved-up-seven u v = omega arith
+
+half-mod : (a b x : ℕ) → (2 * (a % 256) + 2 * (b % 256) + (2 * x + 256) % 512) % 512 / 4 ≡ ((a + b + x) / 2 + 64) % 128
+half-mod a b x = rw (twice a, twice b, add-mod-mod, mod-sum (2 * a) (2 * b) (2 * x + 256) 512) (half (a + b + x) (omega arith))
+  where
+    twice : (n : ℕ) → 2 * (n % 256) ≡ 2 * n % 512
+    twice n = omega arith
+
+    half : (t : ℕ) {u : ℕ} → u ≡ 2 * t + 256 → u % 512 / 4 ≡ (t / 2 + 64) % 128
+    half t e = omega arith
+
+ahead-seven : (a b x k l : ℕ) → k ≤ 1 → l / 2 ^ 55 ≡ (2 * (x / 2 ^ 54) + 256) % 512
+    → ((bitAnd (a % 2 ^ 62) (2 ^ 64 - 2 ^ 54) + bitAnd (b % 2 ^ 62) (2 ^ 64 - 2 ^ 54)) % 2 ^ 64 * 4 % 2 ^ 64 + l) % 2 ^ 64 / 2 ^ 57
+    ≡ column SevenBits (sum3 a b x * 4 % 2 ^ 64) ((maj3 a b x * 2 + k) * 4 % 2 ^ 64)
+ahead-seven a b x k l h e =
+    let s = sum3 a b x in
+    let c = maj3 a b x * 2 + k in
+    rw (top-seven a, top-seven b, moved-up-seven (a / 2 ^ 54) (b / 2 ^ 54), added, e, shifted-seven s, shifted-seven c, mod-sum (s / 2 ^ 55) (c / 2 ^ 55) 64 128, halves-seven s (maj3 a b x) k _ h (tops a b x 54))
+    (half-mod (a / 2 ^ 54) (b / 2 ^ 54) (x / 2 ^ 54))
+
+carry-small : (d : ℕ) → lowestCarry d ≤ 1
+carry-small d = bit-most (ltb 2 d)
+
+-- the mask drops what the estimate does not need of a multiple
+masked-multiple : (D mask d : ℕ) → d ≤ 4 → getD (maskedMultiples (divisorMultiples D) mask) d 0 ≡ bitAnd (multiple d D) mask
+masked-multiple D mask = up-to-four (λ d. getD (maskedMultiples (divisorMultiples D) mask) d 0 ≡ bitAnd (multiple d D) mask) (at 0 (lit< tt)) (at 1 (lit< tt)) (at 2 (lit< tt)) (at 3 (lit< tt)) (at 4 (lit< tt))
+  where
+    at : (d : ℕ) → d < 5 → bitAnd (getD (divisorMultiples D) d 0) mask ≡ bitAnd (multiple d D) mask
+    at d l = ap (λ (x : ℕ). bitAnd x mask) (multiple-at D d (omega arith))
+
+masked-at : (D mask d : ℕ) → d ≤ 4 → maskedTopBits (divisorMultiples D) mask * 2 ^ (9 * d) % 2 ^ 64 / 2 ^ 55 ≡ topBitsOf (bitAnd (multiple d D) mask)
+masked-at D mask d h = top-bits-at (maskedMultiples (divisorMultiples D) mask) d h ∙ ap topBitsOf (masked-multiple D mask d h)
+
+masked-top : (x : ℕ) → (topBitsOf (bitAnd x (2 ^ 64 - 2 ^ 53)) ≡ topBitsOf x) × (topBitsOf (bitAnd x (2 ^ 64 - 2 ^ 54)) ≡ (2 * (x / 2 ^ 54) + 256) % 512)
+masked-top x = (rw (and-high x 11 53) (omega arith), rw (and-high x 10 54) (omega arith))
+
+-- the mask tells the estimate
+pub mask-one : (E F : Estimate) → maskOf E ≡ maskOf F → E ≡ F
+mask-one SevenBits SevenBits e = refl
+mask-one EightBits EightBits e = refl
+mask-one SevenBits EightBits e = absurd (omega arith)
+mask-one EightBits SevenBits e = absurd (omega arith)
+
+-- the next column for either estimate
+pub column-ahead : (E : Estimate) (p : State) (d : ℕ) → d ≤ 4 → columnAhead (maskOf E) (maskedTopBits (divisorMultiples (p .divisor)) (maskOf E)) d (p .sum) (p .carry) ≡ column E (stepBy d p .sum) (stepBy d p .carry)
+column-ahead SevenBits p d h =
+    ahead-seven (p .sum) (p .carry) (multiple d (p .divisor)) (lowestCarry d) _ (carry-small d) (masked-at (p .divisor) (2 ^ 64 - 2 ^ 54) d h ∙ masked-top (multiple d (p .divisor)) .1)
+column-ahead EightBits p d h =
+    ahead (p .sum) (p .carry) (multiple d (p .divisor)) (lowestCarry d) _ (carry-small d) (masked-at (p .divisor) (2 ^ 64 - 2 ^ 53) d h ∙ masked-top (multiple d (p .divisor)) .0)
+
 -- bits that the additions and shifts drop on the way, the last shift would have dropped
 carry-word : (m k : ℕ) → (m % 2 ^ 64 * 2 % 2 ^ 64 + k) * 4 % 2 ^ 64 ≡ (m * 2 + k) * 4 % 2 ^ 64
 carry-word m k = same-mod _ _ (2 ^ 64) (8 * (m / 2 ^ 64) + 4 * (m % 2 ^ 64 * 2 / 2 ^ 64)) 0 (omega arith)
@@ -84,4 +147,4 @@ pub step-code : (p : State) (d x l : ℕ) → d ≤ 4 → x ≡ multiple d (p .d
     }) (withColumn (stepBy d p))
 step-code p d x l b e h =
     let c = by-digit (p .value) (p .decremented) d b in
-    rw (majority, carry-word, ahead (p .sum) (p .carry) x (lowestCarry d) l (bit-most (ltb 2 d)) h, e, c .value, c .decremented)
+    rw (majority, carry-word, ahead (p .sum) (p .carry) x (lowestCarry d) l (carry-small d) h, e, c .value, c .decremented)

@@ -5,11 +5,14 @@ use Rattle.laws.proofs.Diff.{diff, diffs}
 use Rattle.laws.proofs.Tests.{up-to-four}
 use Rattle.laws.proofs.Words.{same-mod}
 use Rattle.selection.specs.Word.{Within}
-use Rattle.selection.specs.Cell.{row, column, digit}
+use Rattle.selection.specs.Cell.{row, column, digit, Allows}
 use Rattle.selection.specs.Table.{Passes}
+use Rattle.selection.specs.Repair.{ReplacedAt}
 use Rattle.selection.proofs.BiasedPoints.{signed-diff, digit-diff}
 use Rattle.selection.proofs.Columns.{row-in, column-small, column-of}
 use Rattle.selection.proofs.Reports.{passes-at}
+use Rattle.selection.proofs.Tables.{cell-row, cell-column}
+use Rattle.selection.proofs.RepairCells.{copied-byte}
 use Rattle.recurrence.specs.CarrySave.{sum3, maj3, multiple, lowestCarry}
 use Rattle.recurrence.specs.Recurrence.{State, residue, cellAt, stepBy}
 use Rattle.recurrence.proofs.CarrySave.{carry-save}
@@ -72,14 +75,25 @@ module _ (d : ℕ) (p : State) (g : InRange p) (f : AllowedAt d p) where
 
 -- in a divider with the estimate E
 module _ (E : Estimate) where
-  -- the digit of a table that passes: divisor and remainder are a point of the state's cell
-  pub table-digit-allowed : (t : List ℕ) (p : State) → Passes E t → InRange p → AllowedAt (getD t (cellAt E p) 0) p
-  table-digit-allowed t p ok g =
-      let d = getD t (cellAt E p) 0 in
-      let w = passes-at E ok (row (p .divisor)) (column E (p .sum) (p .carry)) (omega arith) (column-small E (p .sum) (p .carry)) (p .divisor) (residue p)
-      (record { row = row-in (p .divisor) (g .least) (g .most) .1; column = column-of E (p .sum) (p .carry); range = range-of p g }) in
+  -- a digit that the state's cell allows: divisor and remainder are a point of it
+  digit-allowed : (d : ℕ) (p : State) → InRange p → d ≤ 4 → Allows E (row (p .divisor)) (column E (p .sum) (p .carry)) (digit d) → AllowedAt d p
+  digit-allowed d p g h a =
+      let w = a (p .divisor) (residue p) (record { row = row-in (p .divisor) (g .least) (g .most) .1; column = column-of E (p .sum) (p .carry); range = range-of p g }) in
       record {
-        byte = ok .table .digits (cellAt E p);
+        byte = h;
         low = omega (arith, simp diffs at (rw (residue-biased p, digit-diff d) at (w .low)));
         high = omega (arith, simp diffs at (rw (residue-biased p, digit-diff d) at (w .high)));
       }
+
+  -- that of a table that passes, and that of a good cell
+  module _ (t : List ℕ) (p : State) where
+    pub table-digit-allowed : Passes E t → InRange p → AllowedAt (getD t (cellAt E p) 0) p
+    table-digit-allowed ok g = digit-allowed _ p g (ok .table .digits (cellAt E p)) (passes-at E ok (row (p .divisor)) (column E (p .sum) (p .carry)) (omega arith) (column-small E (p .sum) (p .carry)))
+
+    pub good-digit-allowed : (ReplacedAt E t (cellAt E p) → ⊥) → InRange p → AllowedAt (getD t (cellAt E p) 0) p
+    good-digit-allowed n g =
+        let r = row (p .divisor) in
+        let c = column E (p .sum) (p .carry) in
+        let h = column-small E (p .sum) (p .carry) in
+        let x = copied-byte E t (cellAt E p) (omega arith) n in
+        digit-allowed _ p g (x .0) (rw (cell-row r c h, cell-column r c h) at (x .1))

@@ -4,13 +4,15 @@ use mathlib.Core.Path.{_≡_}
 use mathlib.Core.Bool.{cond}
 use mathlib.Core.List.{List, [], _∷_}
 use Prim.Native.Nat.{ℕ, _+_, _-_, _*_, _/_, _%_, _^_, _≤_, _<_}
+use lib.Bits.{bitAnd}
 use lib.Dec.{ltb}
 use lib.ListN.{length, getD}
 use Rattle.selection.specs.Cell.{column}
 use Rattle.recurrence.specs.Recurrence.{State, appended}
 use Rattle.recurrence.specs.declared.state.RunState.{RunState}
 use Rattle.recurrence.specs.declared.RunResult.{RunResult}
-use Rattle.selection.specs.declared.Estimate.the-variants.{EightBits}
+use Rattle.selection.specs.declared.Estimate.{Estimate}
+use Rattle.selection.specs.declared.Estimate.the-variants.{SevenBits, EightBits}
 
 -- a state with its column, and without it
 abbrev pub withColumn : State → RunState
@@ -31,6 +33,22 @@ topBitsOf x = (x / 2 ^ 53 + 256) % 512
 abbrev pub allTopBits : List ℕ → ℕ
 allTopBits ms =
     ((((topBitsOf (getD ms 0 0) * 512 + topBitsOf (getD ms 1 0)) * 512 + topBitsOf (getD ms 2 0)) * 512 + topBitsOf (getD ms 3 0)) * 512 + topBitsOf (getD ms 4 0)) * 2 ^ 19
+
+-- the bits of a word that the next column of a divider with the estimate E needs, before the word is moved up by two bits
+abbrev pub maskOf : Estimate → ℕ
+maskOf SevenBits = 2 ^ 64 - 2 ^ 54
+maskOf EightBits = 2 ^ 64 - 2 ^ 53
+
+-- five multiples without the bits that the mask drops, and their top bits
+abbrev pub maskedMultiples : List ℕ → ℕ → List ℕ
+maskedMultiples ms mask = bitAnd (getD ms 0 0) mask ∷ bitAnd (getD ms 1 0) mask ∷ bitAnd (getD ms 2 0) mask ∷ bitAnd (getD ms 3 0) mask ∷ bitAnd (getD ms 4 0) mask ∷ []
+
+abbrev pub maskedTopBits : List ℕ → ℕ → ℕ
+maskedTopBits ms mask = allTopBits (maskedMultiples ms mask)
+
+-- the next column after the digit byte d, from the words s and k
+abbrev pub columnAhead : ℕ → ℕ → ℕ → ℕ → ℕ → ℕ
+columnAhead mask tops d s k = ((bitAnd (s % 2 ^ 62) mask + bitAnd (k % 2 ^ 62) mask) % 2 ^ 64 * 4 % 2 ^ 64 + tops * 2 ^ (9 * d) % 2 ^ 64) % 2 ^ 64 / 2 ^ 57
 
 -- 128 digit bytes
 pub record DigitBytes (bytes : List ℕ) : Type 0 where

@@ -12,13 +12,17 @@ ghost use Rattle.selection.specs.Cell as Cell;
 ghost use Rattle.selection.specs.Table.{rowBytes};
 ghost use Rattle.recurrence.specs.CarrySave.{lowestCarry};
 ghost use Rattle.recurrence.specs.Recurrence.{appended, stepBy, nextOf, stateFrom};
-ghost use Rattle.recurrence.specs.FastRun.{withColumn, stateOf, divisorMultiples, topBitsOf, allTopBits, DigitBytes, Multiples, StepReady, renewed, resultFromWord};
+ghost use Rattle.recurrence.specs.Recheck.{leftBy};
+ghost use Rattle.recurrence.specs.FastRun.{withColumn, stateOf, divisorMultiples, topBitsOf, allTopBits, maskOf, maskedTopBits, columnAhead, DigitBytes, Multiples, StepReady, renewed, resultFromWord};
 ghost use Rattle.selection.specs.declared.Estimate.the-variants.{EightBits};
 
 // The next column needs the bits 61 to 53 of a word: what is left of it by 2^62, without the bits below 2^53.
 const TOP_END: u64 = 0x4000_0000_0000_0000;
 
 const TOP_BITS: u64 = 0xffe0_0000_0000_0000;
+
+// The same of a divider that adds seven bits: without the bits below 2^54.
+const TOP_BITS_OF_SEVEN: u64 = 0xffc0_0000_0000_0000;
 
 // The sign bit of a word.
 pub(crate) const SIGN: u64 = 0x8000_0000_0000_0000;
@@ -56,6 +60,30 @@ pub(crate) fn all_top_bits(m: &[u64; 5]) -> u64
 {
     let high = (top_bits(m[0]) * 512 + top_bits(m[1])) * 512 + top_bits(m[2]);
     ((high * 512 + top_bits(m[3])) * 512 + top_bits(m[4])) * 524288
+}
+
+// The bits of a word that the next column needs, in a divider with this estimate.
+pub(crate) fn column_mask(estimate: Estimate) -> u64
+    ensures { λ r. ⌜ r ≡ maskOf estimate ⌝ }
+{
+    match estimate {
+        Estimate::SevenBits => TOP_BITS_OF_SEVEN,
+        Estimate::EightBits => TOP_BITS,
+    }
+}
+
+// The top bits of the five multiples without those that the mask drops.
+pub(crate) fn masked_top_bits(m: &[u64; 5], mask: u64) -> u64
+    ensures { λ r. ⌜ r ≡ maskedTopBits (now (m .entry)) mask ⌝ }
+{
+    let masked = [
+        m[0] & mask,
+        m[1] & mask,
+        m[2] & mask,
+        m[3] & mask,
+        m[4] & mask,
+    ];
+    all_top_bits(&masked)
 }
 
 // The column of two words: their truncated estimate, plus 64.
@@ -119,15 +147,36 @@ impl RunState {
         }
     }
 
-    // The column of the two words in a divider with this estimate: the one of eight bits is kept, the one of seven is formed.
+    // The column of the two words in a divider with this estimate.
     pub(crate) fn column_for(self, estimate: Estimate) -> u64
-        requires { ⌜ self .column ≡ column EightBits (self .sum) (self .carry) ⌝ }
         ensures { λ r. ⌜ r ≡ column estimate (self .sum) (self .carry) ⌝ }
     {
         match estimate {
             Estimate::SevenBits => ((self.sum >> 57) + (self.carry >> 57) + 64) % 128,
-            Estimate::EightBits => self.column,
+            Estimate::EightBits => column_of(self.sum, self.carry),
         }
+    }
+
+    // The column after a step by a digit byte, ahead of the next words.
+    pub(crate) fn column_after(self, digit: u8, mask: u64, tops: u64) -> u64
+        requires { ⌜ digit ≤ 4 ⌝ }
+        ensures { λ r. ⌜ r ≡ columnAhead mask tops digit (self .sum) (self .carry) ⌝ }
+    {
+        let words = wrapping_add_u64(self.sum % TOP_END & mask, self.carry % TOP_END & mask) << 2;
+        wrapping_add_u64(words, tops << (9 * digit)) >> 57
+    }
+
+    // What a digit leaves of the remainder, and one divisor more, modulo 2^64.
+    pub(crate) fn left_by(self, digit: u8, multiples: &[u64; 5]) -> u64
+        requires { ⌜ (digit ≤ 4) × (now multiples ≡ divisorMultiples (self .divisor)) × (self .divisor < 2 ^ 61) ⌝ }
+        ensures { λ r. ⌜ r ≡ leftBy digit (stateOf self) ⌝ }
+    {
+        let words = wrapping_add_u64(self.sum, self.carry);
+        let x = multiples[digit as usize];
+        wrapping_add_u64(
+            wrapping_add_u64(words, x),
+            lowest_carry(digit) + self.divisor,
+        )
     }
 
     // One step by a digit byte. The next column comes from the top bits of the words and of the multiple, ahead of the next words.

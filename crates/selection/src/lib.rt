@@ -3,7 +3,6 @@ pub mod bits;
 pub mod kept;
 mod kept_words;
 pub mod maker;
-pub mod marks;
 mod multiples;
 pub mod numbers;
 pub mod repair;

@@ -31,7 +31,7 @@ pub struct RepairAnswer {
 }
 
 // 1 for a byte that is to be changed: it is above 4, or its digit is not allowed. Else 0.
-pub(crate) fn mark_of(m: RowMultiples, c: u8, byte: u8) -> u8
+fn mark_of(m: RowMultiples, c: u8, byte: u8) -> u8
     requires { ⌜ RowOf m × (c ≤ 127) ⌝ }
     ensures { λ r. ⌜ (r ≡ cond (ltb 4 byte || not (allowsBy m c byte)) 1 0) × (r ≤ 1) ⌝ }
 {

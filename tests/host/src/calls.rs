@@ -2,8 +2,8 @@
 
 use crate::exports::*;
 pub use crate::exports::{
-    AffectedCount as Affected, AffectedMark as AffectedWhole, Averages, Binary64, Cell, Comparison, Limits,
-    Made as Make, Packed, Ran as Run, Repaired as Repair, Report as Table, Root, Samples, Stepped, Visits, Whole,
+    AffectedCount as Affected, AffectedMark, Averages, Binary64, Cell, Comparison, Limits, Made as Make, Packed,
+    Ran as Run, Repaired as Repair, Report as Table, Root, Samples, Stepped, Visits, Whole,
 };
 
 /// A call with a lent table or list to read, which it leaves as it was.
@@ -119,19 +119,29 @@ pub fn average_windows(
     })
 }
 
-pub fn affected_samples(table: &[u8], currents: &[u64], sensitivities: &[u64], affected: &mut [u8]) -> Affected {
+pub fn affected_samples(
+    estimate_bits: u64,
+    table: &[u8],
+    currents: &[u64],
+    sensitivities: &[u64],
+    affected: &mut [u8],
+) -> Affected {
     let (start, room) = (affected.as_mut_ptr(), affected.len());
     lend(table, |t, size| {
         lend(currents, |a, many| {
             lend(sensitivities, |b, as_many| unsafe {
-                quendaric_affected_samples(t, size, a, many, b, as_many, start, room)
+                quendaric_affected_samples(estimate_bits, t, size, a, many, b, as_many, start, room)
             })
         })
     })
 }
 
-pub fn affected_whole(table: &[u8], a: u64, b: u64) -> AffectedWhole {
-    lend(table, |t, size| unsafe { quendaric_affected_whole(t, size, a, b) })
+pub fn affected_whole(estimate_bits: u64, table: &[u8], a: u64, b: u64) -> AffectedMark {
+    lend(table, |t, size| unsafe { quendaric_affected_whole(estimate_bits, t, size, a, b) })
+}
+
+pub fn affected_run(estimate_bits: u64, table: &[u8], dividend: u64, divisor: u64, digits: usize) -> AffectedMark {
+    lend(table, |t, size| unsafe { quendaric_affected_run(estimate_bits, t, size, dividend, divisor, digits) })
 }
 
 pub fn divide_packed(dividend: &[u8; 8], divisor: &[u8; 8]) -> Packed {

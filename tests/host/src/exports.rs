@@ -196,6 +196,7 @@ extern "C" {
         changed_length: usize,
     ) -> Repaired;
     pub fn quendaric_affected_samples(
+        estimate_bits: u64,
         table: *const u8,
         table_length: usize,
         currents: *const u64,
@@ -205,7 +206,21 @@ extern "C" {
         affected: *mut u8,
         affected_length: usize,
     ) -> AffectedCount;
-    pub fn quendaric_affected_whole(table: *const u8, table_length: usize, a: u64, b: u64) -> AffectedMark;
+    pub fn quendaric_affected_whole(
+        estimate_bits: u64,
+        table: *const u8,
+        table_length: usize,
+        a: u64,
+        b: u64,
+    ) -> AffectedMark;
+    pub fn quendaric_affected_run(
+        estimate_bits: u64,
+        table: *const u8,
+        table_length: usize,
+        dividend: u64,
+        divisor: u64,
+        digits: usize,
+    ) -> AffectedMark;
     pub fn quendaric_average_windows(
         readings: *const u64,
         readings_length: usize,

@@ -226,8 +226,8 @@ fn both_estimates_give_one_quotient() {
     assert!(different > 1_000, "the digits differ in {different} runs only");
 }
 
-/// The kept table in a divider that adds seven bits: some quotients are wrong, and none of these records is marked, for the marks
-/// are about a divider that adds eight. Divided anew, each differs from what was filed.
+/// The kept table in a divider that adds seven bits: some quotients are wrong, and each of these records is marked for seven bits
+/// and none for eight.
 #[test]
 fn the_kept_table_in_a_divider_of_seven_bits() {
     let mut draw = Draw::new(SEED + 5);
@@ -242,11 +242,13 @@ fn the_kept_table_in_a_divider_of_seven_bits() {
         }
     }
     let wrong = currents.len();
-    println!("rechecked: the kept table by seven bits divides {wrong} of 100000 drawn pairs wrongly, and none is marked");
+    println!("rechecked: the kept table by seven bits divides {wrong} of 100000 drawn pairs wrongly");
     assert!(wrong > 5, "{wrong}");
-    let mut marks = vec![2; wrong];
-    assert_eq!(calls::affected_samples(KEPT, &currents, &sensitivities, &mut marks).count, 0);
-    assert_eq!(marks, vec![0; wrong]);
+    for (bits, mark) in [(7, 1), (8, 0)] {
+        let mut marks = vec![2; wrong];
+        calls::affected_samples(bits, KEPT, &currents, &sensitivities, &mut marks);
+        assert_eq!(marks, vec![mark; wrong], "{bits} bits");
+    }
 }
 
 /// The table that Clarke and Zhao print, as docs/PRINTED-TABLE.md reads it: its five bad cells by seven bits are those that the

@@ -1,59 +1,94 @@
--- `recheck_row` meets its contract: a turn that finds no mark makes the run's next step.
-use Rattle.laws.proofs.Basics.{needs, _≡_, refl, arith, ℕ, _≤_, _<_, _-_, List}
-use Rattle.selection.specs.Cell.{row, column}
-use Rattle.selection.specs.declared.Estimate.the-variants.{EightBits}
+-- `recheck_row` meets its contract: a turn whose step does not stray makes the run's next step.
+use Rattle.laws.proofs.Basics.{needs, _≡_, arith, ℕ, _≤_, _<_, _-_, List}
+use Rattle.selection.specs.Cell.{row}
+use Rattle.selection.specs.declared.Estimate.{Estimate}
 use Rattle.selection.specs.Table.{rowBytes}
-use Rattle.recurrence.specs.Recheck.{changeMarks}
-use Rattle.recurrence.proofs.RecheckRow.{Followed, rows-size, followed-none, followed-bad, followed-more, followed-all, column-below, digit-read}
+use Rattle.recurrence.specs.FastRun.{maskOf}
+use Rattle.recurrence.proofs.RecheckRow.{Followed, row-size, followed-start, followed-above, followed-strayed, followed-more, followed-all, column-below}
 use Rattle.recurrence.proofs.Loop.{stands-divisor}
 use Rattle.recurrence.proofs.recheck.recheck_row.Statement.{statement}
 use Rattle.recurrence.proofs.recheck.recheck_row.Tie as tie
 
+-- for the estimate of the mask, and for every table that has these bytes
 abbrev Inv-loop : tie.InvT-loop
-Inv-loop estimate bytes marks dividend divisor n multiples tops state₀ i₀ state i =
-    (i ≤ n) × ((t : List ℕ) → bytes ≡ rowBytes t (row divisor) → marks ≡ rowBytes (changeMarks estimate t) (row divisor) → Followed estimate t dividend divisor state i)
+Inv-loop bytes dividend divisor n multiples tops mask masked state₀ column₀ i₀ state column i =
+    (i ≤ n) × ((E : Estimate) → mask ≡ maskOf E → (t : List ℕ) → bytes ≡ rowBytes t (row divisor) → Followed E t dividend divisor state column i)
 
 abbrev μ-loop : tie.MeasureT-loop
-μ-loop estimate bytes marks dividend divisor n multiples tops state₀ i₀ state i = n - i
+μ-loop bytes dividend divisor n multiples tops mask masked state₀ column₀ i₀ state column i = n - i
+
+abbrev masked : tie.At-loop Inv-loop μ-loop → tie.After-masked-top-bits Inv-loop μ-loop
+masked l = l .before .before .before
+
+abbrev tops : tie.At-loop Inv-loop μ-loop → tie.After-all-top-bits Inv-loop μ-loop
+tops l = masked l .before .before .before
+
+abbrev multiples : tie.At-loop Inv-loop μ-loop → tie.After-divisor-multiples Inv-loop μ-loop
+multiples l = tops l .before .before
 
 abbrev start : tie.At-loop Inv-loop μ-loop → tie.Start Inv-loop μ-loop
-start l = let multiples = l .before .before .before .before in multiples .before .before .before
+start l = multiples l .before .before
 
--- where the loop stands, for the table that the caller has
-followed : (l : tie.At-loop Inv-loop μ-loop) → let s = start l in Followed (s .args .estimate) (s .pre .0 .table) (s .args .dividend) (s .args .divisor) (l .loop .state) (l .loop .i)
-followed l = let g = start l .pre .0 in l .loop .inv .1 (g .table) (g .is) (g .marked)
+-- where the loop stands, for a table that has these bytes
+standing : (l : tie.At-loop Inv-loop μ-loop) (t : List ℕ) → let s = start l in s .args .row .now ≡ rowBytes t (row (s .args .divisor))
+    → Followed (s .args .estimate) t (s .args .dividend) (s .args .divisor) (l .loop .state) (l .loop .column) (l .loop .i)
+standing l t e = l .loop .inv .1 _ (masked l .before .before .column-mask .ensures) t e
 
--- what `column_for` asks, and that it gives one of 128
-current : (l : tie.At-loop Inv-loop μ-loop) → l .loop .state .column ≡ column EightBits (l .loop .state .sum) (l .loop .state .carry)
-current l = rw (followed l .stands) refl
+-- for the one that the caller has
+followed : (l : tie.At-loop Inv-loop μ-loop) → let s = start l in Followed (s .args .estimate) (s .pre .0 .table) (s .args .dividend) (s .args .divisor) (l .loop .state) (l .loop .column) (l .loop .i)
+followed l = let g = start l .pre .0 in standing l (g .table) (g .is)
 
-below : (c : tie.After-column-for Inv-loop μ-loop) → c .column-for .result < 128
-below c = column-below _ _ _ _ (followed (c .before .before)) (c .column-for .ensures)
+loop-holds : tie.Need-loop-holds Inv-loop μ-loop
+loop-holds c =
+    let mask = c .before .before .before .before in
+    (omega arith, λ E m t e. followed-start E (mask .before .before .before .before .before .args .estimate) t _ _ (mask .column-mask .ensures) m (c .before .new .ensures) (c .column-for .ensures))
+
+returns : tie.Need-returns Inv-loop μ-loop
+returns c t e = let l = c .before .before .before in followed-above _ t _ _ (standing l t e) e (c .if1 .taken) (c .before .before .loop-test .taken)
+
+left-by-requires : tie.Need-left-by-requires Inv-loop μ-loop
+left-by-requires c κs =
+    let l = c .before .before .before .before in
+    let d = stands-divisor _ _ _ _ _ (followed l .stands) in
+    (c .before .if1 .left, rw d (multiples l .divisor-multiples .ensures), omega (arith, start l .pre .1))
+
+returns-2 : tie.Need-returns-2 Inv-loop μ-loop
+returns-2 c t e =
+    let k = c .before .before .before in
+    let l = k .before .before .before in
+    followed-strayed _ t _ _ (standing l t e) e (k .if1 .left) (c .before .left-by .ensures) (c .if2 .taken) (k .before .before .loop-test .taken)
 
 step-by-requires : tie.Need-step-by-requires Inv-loop μ-loop
 step-by-requires c κs =
-    let at = c .before .before .before .before in
-    let l = at .before .before in
-    let tops = l .before .before in
-    let g = start l .pre .0 in
-    let x = followed l in
-    let d = stands-divisor _ _ _ _ _ (x .stands) in
-    (digit-read _ _ _ _ x (at .column-for .ensures) (g .is) (g .marked) (c .before .before .if1 .left), record { each = rw d (tops .before .before .divisor-multiples .ensures); top-bits = tops .all-top-bits .ensures })
+    let k = c .before .before .before .before .before in
+    let l = k .before .before .before in
+    let d = stands-divisor _ _ _ _ _ (followed l .stands) in
+    (k .if1 .left, record { each = rw d (multiples l .divisor-multiples .ensures); top-bits = tops l .all-top-bits .ensures })
+
+-- there is a turn to make
+abbrev at : tie.After-step-by Inv-loop μ-loop → tie.At-loop Inv-loop μ-loop
+at c = c .before .before .before .before .before .before .before .before .before
+
+turn : (c : tie.After-step-by Inv-loop μ-loop) → at c .loop .i < start (at c) .args .n
+turn c = c .before .before .before .before .before .before .before .before .loop-test .taken
 
 loop-again : tie.Need-loop-again Inv-loop μ-loop
 loop-again c =
-    let k = c .before .before .before in
-    let at = k .before .before in
-    (omega arith, λ t e g. followed-more _ t _ _ (at .before .before .loop .inv .1 t e g) (at .column-for .ensures) e g (k .if1 .left) (c .step-by .ensures))
+    let k = c .before .before .before .before .before .before in
+    let l = k .before .before .before in (
+      omega arith,
+      λ E m t e.
+          followed-more E t _ _ (l .loop .inv .1 E m t e) e (k .if1 .left) (c .before .before .before .before .left-by .ensures) (c .before .before .before .if2 .left)
+          m (multiples l .divisor-multiples .ensures) (masked l .masked-top-bits .ensures) (c .before .before .column-after .ensures) (c .step-by .ensures),
+    )
+
+returns-3 : tie.Need-returns-3 Inv-loop μ-loop
+returns-3 c t e = followed-all _ t _ _ (standing (c .before) t e) (omega (arith, c .before .loop .inv .0))
 
 pub recheck-row-spec : {M : Type 1} → statement M
 recheck-row-spec =
-    tie.close (tie.spec Inv-loop μ-loop (λ c κs. search needs) (λ c κs. search needs)
-    (λ c κs. search needs) (λ c. (omega arith, λ t e g. followed-none _ t _ _ _ (c .new .ensures)))
-    (λ c κs. current (c .before)) (λ c. omega (arith, below c))
-    (λ c. omega (arith, below (c .before), rows-size _ (start (c .before .before .before) .pre .0)))
-    -- a mark: the run has come to a bad cell
-    (λ c t e g. let at = c .before .before in followed-bad _ t _ _ (at .before .before .loop .inv .1 t e g) (at .column-for .ensures) g (c .if1 .taken) (at .before .loop-test .taken))
-    (λ c. let at = c .before .before .before in omega (arith, below at, rows-size _ (start (at .before .before) .pre .0))) step-by-requires
-    (λ c. omega arith) (λ c. omega arith) loop-again
-    (λ c t e g. followed-all _ t _ _ (c .before .loop .inv .1 t e g) (omega (arith, c .before .loop .inv .0))))
+    tie.close (tie.spec Inv-loop μ-loop (λ c κs. search needs) (λ c κs. search needs) (λ c κs. search needs)
+    (λ c κs. search needs) (λ c κs. search needs) (λ c κs. search needs) loop-holds
+    (λ c. omega (arith, column-below _ _ _ _ (followed (c .before .before)), row-size (start (c .before .before) .pre .0)))
+    returns (λ c. omega arith) left-by-requires returns-2 (λ c κs. search needs) step-by-requires
+    (λ c. omega (arith, turn c, start (at c))) (λ c. omega (arith, turn c)) loop-again returns-3)
