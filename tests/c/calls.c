@@ -504,6 +504,35 @@ static void by_bits(const uint8_t *kept) {
   SAME(quendaric_divide_whole(seven, size, 4195835, 3145727).remainder, 1050108);
 }
 
+/* Which of two arguments of one type is which, where the worked examples do not tell: of a table with a byte above 4 at (0, 73) the quotient
+   1.125 by 1.0 reads that cell first, and 1.0 by 1.125 stays in row 2. (Sum and carry word of a step may be exchanged.) */
+static void exchanged(const uint8_t *kept) {
+  static uint8_t burned[QUENDARIC_TABLE_LENGTH];
+  static const uint64_t larger[2] = {0x3FF2000000000000ull, 0x4008000000000000ull},
+                        smaller[2] = {0x3FF0000000000000ull, 0x3FF0000000000000ull};
+  const size_t size = QUENDARIC_TABLE_LENGTH;
+  uint8_t mark = untouched;
+  uint64_t list[2] = {7, 7};
+  memcpy(burned, kept, size);
+  burned[73] = 5;
+  for (uint64_t bits = 7; bits <= 8; bits++) {
+    SAME(quendaric_affected_samples(bits, burned, size, larger, 1, smaller, 1, &mark, 1).count, 1);
+    SAME(mark, 1);
+    SAME(quendaric_affected_samples(bits, burned, size, smaller, 1, larger, 1, &mark, 1).count, 0);
+    SAME(mark, 0);
+    SAME(quendaric_affected_run(bits, burned, size, 9ull << 57, one, 28).affected, 1);
+    SAME(quendaric_affected_run(bits, burned, size, one, 9ull << 57, 28).affected, 0);
+    SAME(quendaric_affected_whole(bits, burned, size, 9, 8).affected, 1);
+    SAME(quendaric_affected_whole(bits, burned, size, 8, 9).affected, 0);
+  }
+  SAME(quendaric_divide_samples(kept, size, larger, 2, smaller, 2, list, 2, QUENDARIC_NEAREST).refusal, 0);
+  SAME(list[0], 0x3FF2000000000000ull);
+  SAME(list[1], 0x4008000000000000ull);
+  SAME(quendaric_divide_samples(kept, size, smaller, 2, larger, 2, list, 2, QUENDARIC_NEAREST).refusal, 0);
+  SAME(list[0], 0x3FEC71C71C71C71Cull);
+  SAME(list[1], 0x3FD5555555555555ull);
+}
+
 static void visits(const uint8_t *kept) {
   static uint32_t counts[QUENDARIC_TABLE_LENGTH + 1];
   const size_t size = QUENDARIC_TABLE_LENGTH;
@@ -632,6 +661,7 @@ int main(void) {
   repairs(table);
   rechecks(table);
   neither(table);
+  exchanged(table);
   by_bits(table);
   visits(table);
   refused_runs(table);

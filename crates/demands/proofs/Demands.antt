@@ -21,8 +21,10 @@ use Rattle.demands.proofs.AveragesDemand.{averages-demand, averages-exa
 use Rattle.demands.proofs.BenchCases.{bench-cases}
 use Rattle.demands.proofs.RootExamples.{root-examples}
 use Rattle.demands.proofs.FlagExamples.{flag-examples}
+use Rattle.demands.proofs.FlagDemand.{flag-demand}
+use Rattle.demands.proofs.Determined.{determined}
 
-ruleset calls = (demand-1, demand-2, demand-3, root-demand, packed-demand, ratio-demand, averages-demand, reversal-demand, recheck-demand)
+ruleset calls = (determined, demand-1, demand-2, demand-3, root-demand, flag-demand, packed-demand, ratio-demand, averages-demand, reversal-demand, recheck-demand)
 
 ruleset layers = (repair-demand, burned-tables, pair-demand, step-demand, visits-demand, whole-digits, ieee-754, root-ordered)
 

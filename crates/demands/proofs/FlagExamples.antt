@@ -22,8 +22,13 @@ flag-examples = record {
       record {
         overflow = all t p 0x7FE0_0000_0000_0000 0x3FD0_0000_0000_0000;
         underflow = let x = all t p 0x0010_0000_0000_0000 0x4008_0000_0000_0000 in (x .0, x .2);
+        rounds-up = let x = all t p 0x001F_FFFF_FFFF_FFFF 0x4000_0000_0000_0000 in (x .0, x .1);
         by-zero = all t p 0x3FF0_0000_0000_0000 0;
         minus-by-zero = all t p 0xBFF0_0000_0000_0000 0;
         invalid = all t p 0 0;
+        infinity-by-zero = all t p 0x7FF0_0000_0000_0000 0;
+        infinity-by-one = all t p 0x7FF0_0000_0000_0000 0xBFF0_0000_0000_0000;
+        one-by-infinity = all t p 0x3FF0_0000_0000_0000 0xFFF0_0000_0000_0000;
+        infinities = all t p 0x7FF0_0000_0000_0000 0x7FF0_0000_0000_0000;
       };
 }

@@ -18,6 +18,7 @@ root-examples = record {
   minus-least = (refl, refl, refl, refl);
   minus-infinity = (refl, refl, refl, refl);
   signalling = (refl, refl, refl, refl);
+  minus-signalling = (refl, refl, refl, refl);
   quiet = (refl, refl, refl, refl);
   minus-zero = (refl, refl, refl, refl);
   infinity = (refl, refl, refl, refl);

@@ -22,14 +22,19 @@ use Rattle.demands.specs.AveragesDemand.{AveragesDemand, ReversalDemand,
 use Rattle.demands.specs.BenchCases.{BenchCases}
 use Rattle.demands.specs.RootExamples.{RootExamples}
 use Rattle.demands.specs.FlagExamples.{FlagExamples}
+use Rattle.demands.specs.FlagDemand.{FlagDemand}
+use Rattle.demands.specs.Determined.{EachDetermined}
 use Rattle.selection.specs.declared.Estimate.{Estimate}
 use Rattle.selection.specs.declared.Estimate.the-variants.{EightBits}
 
 pub record Demands : Type 0 where
+  -- what a C program is told by each call (Calls) leaves no choice
+  pub determined : EachDetermined
   pub demand-1 : Demand1
   pub demand-2 : Demand2
   pub demand-3 : Demand3
   pub root-demand : RootDemand
+  pub flag-demand : FlagDemand
   pub packed-demand : PackedDemand
   pub ratio-demand : RatioDemand
   pub averages-demand : AveragesDemand

@@ -9,4 +9,7 @@ pub mod AveragesDemand
 pub mod BenchCases
 pub mod RootExamples
 pub mod FlagExamples
+pub mod FlagDemand
+pub mod Calls
+pub mod Determined
 pub mod Demands

@@ -25,11 +25,12 @@ pub record RootExamples : Type 0 where
   -- the root of 3 lies nearer to the lower one
   pub nearest-lower : rootBinary64Of 0 0x4008_0000_0000_0000 ≡ answered 0x3FFB_B67A_E858_4CAA 1
   pub upward-farther : rootBinary64Of 2 0x4008_0000_0000_0000 ≡ answered 0x3FFB_B67A_E858_4CAB 1
-  -- -1, -2^-1074, minus infinity, a signalling and a quiet not-a-number; minus zero and infinity
+  -- -1, -2^-1074, minus infinity, signalling not-a-numbers of both signs and a quiet one; minus zero and infinity
   pub minus-one : InAll 0xBFF0_0000_0000_0000 (answered 0x7FF8_0000_0000_0000 16)
   pub minus-least : InAll 0x8000_0000_0000_0001 (answered 0x7FF8_0000_0000_0000 16)
   pub minus-infinity : InAll 0xFFF0_0000_0000_0000 (answered 0x7FF8_0000_0000_0000 16)
   pub signalling : InAll 0x7FF0_0000_0000_0001 (answered 0x7FF8_0000_0000_0000 16)
+  pub minus-signalling : InAll 0xFFF0_0000_0000_0001 (answered 0x7FF8_0000_0000_0000 16)
   pub quiet : InAll 0xFFF8_0000_0000_0001 (answered 0x7FF8_0000_0000_0000 0)
   pub minus-zero : InAll 0x8000_0000_0000_0000 (answered 0x8000_0000_0000_0000 0)
   pub infinity : InAll 0x7FF0_0000_0000_0000 (answered 0x7FF0_0000_0000_0000 0)

@@ -92,7 +92,7 @@ by-class direction a b u = by-cases a b
     (λ z. rw (class-read b Infinite (z .1)) (let o = sym (zero-bits (signOf a b)) in ⊎-elim (λ e. rw (class-read a Zero e .is) o) (λ e. rw (number-of a e .0 .is) o) (z .0)))
     c))
 
-counted : (p : ℕ) → IsNonzero p → 0 < num (valueOf p)
+pub counted : (p : ℕ) → IsNonzero p → 0 < num (valueOf p)
 counted p h = let n = number-of p h in rw (n .0 .is) (mul-pos (is-some (n .0) (n .1 .some)) (up-pos (n .0 .e)))
 
 pub nearest-quotient : (a b : ℕ) {x : Binary64Result} → Ieee 0 a b x → x .pattern ≡ languageQuotient a b

@@ -47,13 +47,13 @@ signalling-is p = (
 )
 
 -- a pattern that the logic reads as the not-a-number is one of that class
-is-class : (p : ℕ) → valueOf p ≡ nan → classOf p ≡ Nan
+pub is-class : (p : ℕ) → valueOf p ≡ nan → classOf p ≡ Nan
 is-class p e =
     let k : 2047 * 2 ^ 52 < p % 2 ^ 63 = ltb-true _ _ (sym (above p) ∙ nan-is e) in
     let u = unsigned p in
     rw (ne-eqb (field p) 0 (omega arith), le-ltb (field p) 2047 (omega arith), ne-eqb (fraction p) 0 (omega arith))
 
-no-signal : (p : ℕ) → (Signals p → ⊥) → signalling p ≡ false
+pub no-signal : (p : ℕ) → (Signals p → ⊥) → signalling p ≡ false
 no-signal p h = go (signalling p) (λ t. h (signalling-is p .0 t))
   where
     go : (b : Bool) → (T b → ⊥) → b ≡ false

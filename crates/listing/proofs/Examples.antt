@@ -1,7 +1,8 @@
 -- A table with no bad cell or with one, and the specification's example of a listing.
-use Rattle.laws.proofs.Basics.{_≡_, refl, sym, ap, _∙_, List, [], _++_, append-nil, ⊎-elim, _⊎_, _≢_, ℕ, zero, suc, _/_, _%_, _<_, arith, pos, getD, set, length-set}
+use Rattle.laws.proofs.Basics.{_≡_, refl, sym, ap, _∙_, List, [], _++_, append-nil, ⊎-elim, _⊎_, _≢_, ℕ, zero, suc, _/_, _%_, _<_, _≤_, arith, pos, negsuc, getD, set, length-set}
 use native.Mathlib.Nat.{eq-or-lt-of-le}
 use lib.Seq.{getD-set-same, getD-set-other}
+use Rattle.selection.specs.Answer.{refusal}
 use Rattle.selection.specs.Cell.{Allows, digit}
 use Rattle.laws.specs.Lists.{listFrom}
 use Rattle.laws.proofs.Division.{same-or-other}
@@ -9,16 +10,13 @@ use Rattle.selection.specs.Allowed.{allowsOf}
 use Rattle.selection.specs.Computed.{cellOf, madeOf, madeTable}
 use Rattle.selection.specs.Table.{Table, Passes}
 use Rattle.selection.proofs.MadeTables.{kept-passes}
-use Rattle.printing.specs.Text.{ascii, decimalUpto, decimalOf}
+use Rattle.printing.specs.Text.{ascii, decimalUpto, decimalOf, refusalText}
 use Rattle.listing.specs.Listing.{names, lineText, lineFrom, lineOf, linesUpto, listingOf}
 use Rattle.listing.specs.Example.{Example}
 use Rattle.listing.specs.declared.Line.the-variants.{Nothing, Cell}
 use Rattle.listing.proofs.Lines.{listed-one}
-use Rattle.listing.proofs.Listings.{table-text}
+use Rattle.listing.proofs.Listings.{table-text, wrong-length, byte-above}
 use Rattle.selection.specs.declared.Estimate.the-variants.{EightBits}
-
-abbrev exampleLine : List ℕ
-exampleLine = ascii "1 87 0 1242993497154256896 3314649325744685056\n"
 
 -- a cell whose digit is allowed has no line
 quiet : {t : List ℕ} → Table t → (k : ℕ) → k < 2048 → Allows EightBits (k / 128) (k % 128) (digit (getD t k 0)) → lineOf EightBits t k ≡ Nothing
@@ -40,31 +38,55 @@ one-line t m (suc n) l f =
 passed-prints : (t : List ℕ) → Passes EightBits t → listingOf EightBits t ≡ names
 passed-prints t p = table-text EightBits t (p .table) ∙ ap (λ (y : List ℕ). names ++ y) (no-lines t 2048 (λ k l. quiet (p .table) k l (p .allowed k l)))
 
-only-line : (t : List ℕ) → getD t 215 0 ≡ 2 → lineText (lineOf EightBits t 215) ≡ exampleLine
+line-215 : (t : List ℕ) → getD t 215 0 ≡ 2 → lineText (lineOf EightBits t 215) ≡ ascii "1 87 0 1242993497154256896 3314649325744685056\n"
 unfolding lineOf digit decimalUpto decimalOf
-only-line t e =
+line-215 t e =
     ap (λ (b : ℕ). lineText (lineFrom t 215 (cellOf EightBits 1 87 b))) e
     ∙ ap (λ (b : ℕ). lineText (Cell 1 87 (digit b) (record { divisor = 1242993497154256896; remainder = pos 3314649325744685056 }))) e
 
--- a table that passes, with 2 for its byte 215
-module _ (t : List ℕ) (p : Passes EightBits t) where
+line-1940 : (t : List ℕ) → getD t 1940 0 ≡ 2 → lineText (lineOf EightBits t 1940) ≡ ascii "15 20 0 2296835809958952961 -6124895493223874562\n"
+unfolding lineOf digit decimalUpto decimalOf
+line-1940 t e =
+    ap (λ (b : ℕ). lineText (lineFrom t 1940 (cellOf EightBits 15 20 b))) e
+    ∙ ap (λ (b : ℕ). lineText (Cell 15 20 (digit b) (record { divisor = 2296835809958952961; remainder = negsuc 6124895493223874561 }))) e
+
+-- a table that passes, with b for its byte m
+module _ (t : List ℕ) (p : Passes EightBits t) (m b : ℕ) (h : m < 2048) where
   abbrev changed : List ℕ
-  changed = set t 215 2
+  changed = set t m b
 
-  at-215 : getD changed 215 0 ≡ 2
-  at-215 = getD-set-same t 215 2 0 (omega (arith, p .table .size))
+  at : getD changed m 0 ≡ b
+  at = getD-set-same t m b 0 (omega (arith, p .table .size))
 
-  elsewhere : (k : ℕ) → k ≢ 215 → getD changed k 0 ≡ getD t k 0
-  elsewhere k x = getD-set-other t 215 k 2 0 x
+  elsewhere : (k : ℕ) → k ≢ m → getD changed k 0 ≡ getD t k 0
+  elsewhere k x = getD-set-other t m k b 0 x
 
-  changed-table : Table changed
-  changed-table = record { size = simp length-set (p .table .size); digits = λ k. ⊎-elim (λ e. rw e (omega (arith, at-215))) (λ x. omega (arith, elsewhere k x, p .table .digits k)) (same-or-other k 215) }
+  changed-table : b ≤ 4 → Table changed
+  changed-table l = record { size = simp length-set (p .table .size); digits = λ k. ⊎-elim (λ e. rw e (omega (arith, at))) (λ x. omega (arith, elsewhere k x, p .table .digits k)) (same-or-other k m) }
 
-  whole : listingOf EightBits changed ≡ names ++ exampleLine
-  whole =
-      table-text EightBits changed changed-table
-      ∙ ap (λ (y : List ℕ). names ++ y) (one-line changed 215 2048 (omega arith) (λ k l x. quiet changed-table k l (rw (elsewhere k x) (p .allowed k l))) ∙ only-line changed at-215)
+  whole : b ≤ 4 → {line : List ℕ} → lineText (lineOf EightBits changed m) ≡ line → listingOf EightBits changed ≡ names ++ line
+  whole l e =
+      table-text EightBits changed (changed-table l)
+      ∙ ap (λ (y : List ℕ). names ++ y) (one-line changed m 2048 h (λ k d x. quiet (changed-table l) k d (rw (elsewhere k x) (p .allowed k d))) ∙ e)
+
+-- the two lines of a refusal
+refusal-text : (refusalText (refusal 8 0) ≡ ascii "refusal place\n8 0\n") × (refusalText (refusal 9 1000) ≡ ascii "refusal place\n9 1000\n")
+unfolding decimalUpto decimalOf
+refusal-text = (refl, refl)
+
+-- a table with 5 for its byte 1000
+above : (t : List ℕ) → Table t → listingOf EightBits (set t 1000 5) ≡ refusalText (refusal 9 1000)
+above t h =
+    let at : getD (set t 1000 5) 1000 0 ≡ 5 = getD-set-same t 1000 5 0 (omega (arith, h .size)) in
+    byte-above EightBits (set t 1000 5) 1000 (simp length-set (h .size)) (omega arith) (omega (arith, at)) (λ i l. omega (arith, getD-set-other t 1000 i 5 0 (λ x. omega arith), h .digits i))
 
 pub example : Example
 unfolding allowsOf madeOf listFrom madeTable
-example = record { byte = refl; whole = whole (madeTable EightBits) (kept-passes EightBits); passed = passed-prints }
+example = let p = kept-passes EightBits in record {
+  byte = refl;
+  whole = whole (madeTable EightBits) p 215 2 (omega arith) (omega arith) (line-215 _ (at (madeTable EightBits) p 215 2 (omega arith)));
+  last-row = whole (madeTable EightBits) p 1940 2 (omega arith) (omega arith) (line-1940 _ (at (madeTable EightBits) p 1940 2 (omega arith)));
+  empty = wrong-length EightBits [] (λ e. omega arith) ∙ refusal-text .0;
+  above = above _ (changed-table (madeTable EightBits) p 215 2 (omega arith) (omega arith)) ∙ refusal-text .1;
+  passed = passed-prints;
+}

@@ -1,11 +1,13 @@
 -- The computed listing is the one in the specification's words and there is no other, and the text in the buffer is it.
-use Rattle.laws.proofs.Basics.{_≡_, refl, sym, ap, _∙_, List, _++_, ⊎-elim, _≢_, ℕ, _≤_, _<_, arith, length, take, drop, length-take, ne-eqb}
+use Rattle.laws.proofs.Basics.{_≡_, refl, sym, ap, _∙_, List, _++_, ⊎-elim, _≢_, ℕ, _≤_, _<_, arith, length, getD, take, drop, length-take, ne-eqb}
 use native.Mathlib.Nat.{add-zero}
 use lib.Seq.{take-all}
 use Rattle.laws.proofs.Division.{le-or-lt}
-use Rattle.selection.specs.Answer.{refusal}
+use Rattle.selection.specs.Answer.{refusal, answerBy}
 use Rattle.selection.specs.Table.{Table, ReportMeaning}
-use Rattle.selection.specs.Computed.{reportOf}
+use Rattle.selection.specs.Computed.{reportOf, refusedReport, tableReport}
+use Rattle.selection.specs.declared.Admission.{Admission}
+use Rattle.selection.proofs.Clear.{refused-at}
 use Rattle.selection.specs.declared.table.Outcome.{Outcome}
 use Rattle.selection.specs.declared.table.Outcome.the-variants as O
 use Rattle.selection.specs.declared.table.Report.{Report}
@@ -51,9 +53,14 @@ module _ (E : Estimate) where
     table-text h = table-one lists h
 
   -- input of another length gets the two lines of refusal 8
-  wrong-length : (t : List ℕ) → length t ≢ 2048 → listingOf E t ≡ refusalText (refusal 8 0)
+  pub wrong-length : (t : List ℕ) → length t ≢ 2048 → listingOf E t ≡ refusalText (refusal 8 0)
   unfolding listingOf reportOf
   wrong-length t h = rw (ne-eqb (length t) 2048 h)
+
+  -- a byte above 4 those of refusal 9, with the first such place
+  pub byte-above : (t : List ℕ) (p : ℕ) → length t ≡ 2048 → p < 2048 → 4 < getD t p 0 → ((i : ℕ) → i < p → getD t i 0 ≤ 4) → listingOf E t ≡ refusalText (refusal 9 p)
+  unfolding listingOf reportOf
+  byte-above t p e l h b = ap (λ (v : Admission). textFor E t (answerBy refusedReport (tableReport E t) v .outcome)) (refused-at (form-rules t) 1 p (e, (l, record { here = h; before = λ i k x. omega (arith, b i k) })))
 
   -- more than 2,048 bytes of the input settle what is printed for all of it
   settled : (t : List ℕ) (n : ℕ) → 2048 < n → listingOf E (take n t) ≡ listingOf E t

@@ -41,6 +41,7 @@ fn recheck_row(estimate: Estimate, row: &[u8], dividend: u64, divisor: u64, n: u
     let mask = column_mask(estimate);
     let masked = masked_top_bits(&multiples, mask);
     let mut state = RunState::new(dividend, 0, divisor);
+    // The state's own column is that of eight bits; the estimate's goes beside it, found ahead in the same way.
     let mut column = state.column_for(estimate);
     let mut i: usize = 0;
     while i < n {

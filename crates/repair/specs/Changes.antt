@@ -9,9 +9,11 @@ use lib.Dec.{eqb}
 use lib.ListN.{length, getD, take}
 use Rattle.selection.specs.Answer.{refusal}
 use Rattle.selection.specs.Bits.{bitsOf}
-use Rattle.selection.specs.Computed.{repairOf, repairedOf}
+use Rattle.selection.specs.Computed.{madeTable, repairOf, repairedOf}
+use Rattle.selection.specs.RepairDemand.{readBack}
 use Rattle.printing.specs.Text.{ascii, decimalOf, refusalText}
 use Rattle.selection.specs.declared.Estimate.{Estimate}
+use Rattle.selection.specs.declared.Estimate.the-variants.{EightBits}
 
 -- of cell k: nothing where its byte b stays, and otherwise the four values
 abbrev pub cellText : ℕ → ℕ → ℕ → List ℕ
@@ -43,3 +45,8 @@ module _ (E : Estimate) where
   -- buffer has to hold one byte more than a table
   pub record WritesRead (s : List ℕ) (n : ℕ) (x y : List ℕ) : Type 0 where
     pub writes : (t : List ℕ) → take n s ≡ take (length s) t → Writes t x y
+
+-- a whole text, and the table beside it: the made table read back with 9 for its byte 0 and 2 for its byte 215
+pub record WholeExample : Type 0 where
+  pub writes : (x y : List ℕ) → Writes EightBits (readBack EightBits) x y → (x ≡ madeTable EightBits) × (y ≡ ascii "row column byte new\n0 0 9 2\n1 87 2 4\nchanges 2 for 8 bits\n")
+  pub refused : (x y : List ℕ) → Writes EightBits [] x y → (x ≡ []) × (y ≡ ascii "refusal place\n8 0\n")

@@ -1,0 +1,153 @@
+-- The run, the step and the visits, as C is told.
+use Rattle.laws.proofs.Basics.{_≡_, refl, sym, ap, _∙_, inl, inr, ⊎-elim, List, _++_, ℕ, _+_, _-_, _<_, _≤_, arith, length, getD, take, drop, length-append, length-take, length-drop}
+use lib.ListN.{List·getD-append}
+use lib.Seq.{getD-append-add, getD-drop, getD-take}
+use lib.Signed.{clashℤ}
+use Rattle.selection.proofs.Refusing.{refusal, refusalOf, answerBy, firstRefusal, tableRules, clear-admits, refused-at}
+use Rattle.selection.proofs.MadeTables.{made-table-is, kept-passes}
+use Rattle.selection.specs.Computed.{madeTable}
+use Rattle.selection.specs.Table.{Passes}
+use Rattle.selection.specs.declared.Refusal.{Refusal}
+use Rattle.selection.specs.declared.Admission.the-variants.{Refused}
+use Rattle.recurrence.specs.Recurrence.{cellAt, nextOf, after, digits}
+use Rattle.recurrence.specs.Run.{runRules, runOf, bufferOf}
+use Rattle.recurrence.specs.Step.{stepRules, stepOf}
+use Rattle.recurrence.specs.Visits.{isAt, runVisits, visitsOf, visitsRules, visitsAnswer, visitsLeft, operand}
+use Rattle.recurrence.specs.declared.RunAnswer.{RunAnswer}
+use Rattle.recurrence.specs.declared.step.StepAnswer.{StepAnswer}
+use Rattle.recurrence.proofs.Digits.{divisor-after, digit-at}
+use Rattle.recurrence.proofs.Refusals.{run-lent, no-refusal}
+use Rattle.recurrence.proofs.RunDemand.{run-claim}
+use Rattle.recurrence.proofs.StepRange.{by-neither}
+use Rattle.recurrence.proofs.StepDemand.{step-demand}
+use Rattle.recurrence.proofs.VisitCounts.{visits-rules, visits-lent, visits-demand}
+use Rattle.demands.proofs.Demand1.{demand-1}
+use Rattle.demands.specs.Calls.{Steps, RunTakes, RunOnly, Ran, Runs, RunsKept, StepsOnce, VisitsOnly, CountsVisits}
+use Rattle.demands.proofs.Refused.{of-table}
+use Rattle.selection.specs.declared.Estimate.{Estimate}
+use Rattle.selection.specs.declared.Estimate.the-variants.{EightBits}
+
+-- in a divider with the estimate E
+module _ (E : Estimate) where
+  -- the steps of the run are such steps
+  abbrev pub steps-of : (t : List ℕ) (N D n : ℕ) → Steps E t N D n (λ i. cellAt E (after E t N D i))
+  unfolding after nextOf
+  steps-of t N D n = record {
+    sum = λ i. after E t N D i .sum;
+    carry = λ i. after E t N D i .carry;
+    start = (refl, refl);
+    cells = λ i h. rw (divisor-after E t N D i) refl;
+    next-sum = λ i h. rw (divisor-after E t N D i) refl;
+    next-carry = λ i h. rw (divisor-after E t N D i) refl;
+  }
+
+-- ---- the run
+
+-- a list with a part replaced, by its places
+module _ (b ds : List ℕ) (place n : ℕ) (many : length ds ≡ n) (room : place + n ≤ length b) where
+  taken : length (take place b) ≡ place
+  taken = rw length-take (omega arith)
+
+  part-length : length (take place b ++ (ds ++ drop (place + n) b)) ≡ length b
+  part-length = rw (length-append, length-append, length-drop, taken, many) (omega arith)
+
+  part-before : (j : ℕ) → j < place → getD (take place b ++ (ds ++ drop (place + n) b)) j 0 ≡ getD b j 0
+  part-before j h = List·getD-append (take place b) (ds ++ drop (place + n) b) 0 j (omega (arith, taken)) ∙ getD-take place b j 0 h
+
+  part-at : (i : ℕ) → i < n → getD (take place b ++ (ds ++ drop (place + n) b)) (place + i) 0 ≡ getD ds i 0
+  part-at i h =
+      ap (λ (m : ℕ). getD (take place b ++ (ds ++ drop (place + n) b)) (m + i) 0) (sym taken) ∙ getD-append-add (take place b) (ds ++ drop (place + n) b) i 0
+      ∙ List·getD-append ds (drop (place + n) b) 0 i (omega (arith, many))
+
+  part-behind : (j : ℕ) → place + n ≤ j → getD (take place b ++ (ds ++ drop (place + n) b)) j 0 ≡ getD b j 0
+  part-behind j h =
+      let k = j - (place + n) in
+      let e : j ≡ length (take place b) + (length ds + k) = omega (arith, taken, many) in
+      let g : j ≡ place + n + k = omega arith in
+      ap (λ (m : ℕ). getD (take place b ++ (ds ++ drop (place + n) b)) m 0) e ∙ getD-append-add (take place b) (ds ++ drop (place + n) b) (length ds + k) 0
+      ∙ getD-append-add ds (drop (place + n) b) k 0 ∙ getD-drop (place + n) b k 0 ∙ ap (λ (m : ℕ). getD b m 0) (sym g)
+
+module _ (t : List ℕ) (N D n : ℕ) (b : List ℕ) (place : ℕ) where
+  only : (k p : ℕ) → firstRefusal (runRules N D n (length b) place ++ tableRules EightBits t) ≡ Refused (refusal k p) → RunOnly b (bufferOf t N D n b place) (runOf t N D n b place) k p
+  only k p e = (ap (answerBy _ _) e, ap (answerBy _ _) e)
+
+  ran : RunTakes N D n b place → Passes EightBits t → Ran t N D n b place (bufferOf t N D n b place) (runOf t N D n b place)
+  unfolding steps-of after
+  ran r ok =
+      let c = run-claim t ok N D n b place (record { dividend = r .dividend; least = r .least; most = r .divisor }) (r .some) (r .most) (r .room) in
+      record {
+        nothing = c .answer .done;
+        count = c .answer .count;
+        divides = sym (c .answer .divides);
+        below = c .answer .below;
+        cell = λ i. cellAt EightBits (after EightBits t N D i);
+        steps = steps-of EightBits t N D n;
+        digits = λ i h. rw (c .written) (part-at b (digits EightBits t N D n) place n (c .steps .many) (r .room) i h ∙ digit-at EightBits t N D n i h);
+        range = c .steps .range;
+        size = rw (c .written) (part-length b (digits EightBits t N D n) place n (c .steps .many) (r .room));
+        before = λ j h. rw (c .written) (part-before b (digits EightBits t N D n) place n (c .steps .many) (r .room) j h);
+        behind = λ j h. rw (c .written) (part-behind b (digits EightBits t N D n) place n (c .steps .many) (r .room) j h);
+      }
+
+  runs-as : Runs t N D n b place (bufferOf t N D n b place) (runOf t N D n b place)
+  unfolding runRules
+  runs-as = record {
+    refuses = record {
+      digits = λ h. only 2 0 (refused-at (run-lent N D n (length b) place t) 0 0 (refl, h));
+      operands = λ some most h. only 3 0 (refused-at (run-lent N D n (length b) place t) 1 0 (
+        ((λ e. omega arith), most),
+        (refl, ⊎-elim (λ x. inl (inl x)) (⊎-elim (λ x. inl (inr (omega arith))) (λ x. inr (omega arith))) h),
+      ));
+      room = λ some most dividend least divisor h. only 7 0 (refused-at (run-lent N D n (length b) place t) 2 0 (
+        ((λ e. omega arith), most),
+        (((least, omega arith), omega arith), (refl, h)),
+      ));
+    };
+    table = λ r. of-table EightBits t (runRules N D n (length b) place)
+        (no-refusal N D n (length b) place (record { dividend = r .dividend; least = r .least; most = r .divisor }) (r .some) (r .most) (r .room)) (λ k p _ e. only k p e);
+    ran = ran;
+  }
+
+pub runs : {t : List ℕ} {N D n : ℕ} {b : List ℕ} {place : ℕ} {out : List ℕ} {x : RunAnswer} → (x ≡ runOf t N D n b place) × (out ≡ bufferOf t N D n b place) → Runs t N D n b place out x
+runs {t} {N} {D} {n} {b} {place} e = rw (e .0, e .1) (runs-as t N D n b place)
+
+pub runs-kept : {N D n : ℕ} {b : List ℕ} {place : ℕ} {out : List ℕ} {x : RunAnswer} → (x ≡ runOf (madeTable EightBits) N D n b place) × (out ≡ bufferOf (madeTable EightBits) N D n b place) → RunsKept N D n b place out x
+runs-kept {N} {D} {n} {b} {place} e = rw (e .0, e .1) (record {
+  refuses = runs-as (madeTable EightBits) N D n b place .refuses;
+  table = madeTable EightBits;
+  made = made-table-is EightBits;
+  ran = λ r. ran (madeTable EightBits) N D n b place r (kept-passes EightBits);
+})
+
+-- ---- one step
+
+pub steps-once : {s k D : ℕ} {t : List ℕ} {x : StepAnswer} → x ≡ stepOf s k D t → StepsOnce s k D t x
+steps-once {s} {k} {D} {t} e = rw e (record {
+  divisor = demand-1 .conditions .step-divisor s k D t;
+  outside = demand-1 .conditions .step-range s k D t;
+  table = λ least most w. of-table EightBits t (stepRules s k D) (by-neither s k D least most (⊎-elim (λ x. clashℤ x (w .low)) (λ x. clashℤ x (w .high)))) (λ n p _ f. ap (answerBy _ _) f);
+  step = λ least most w ok. step-demand .step s k D t ok least most w;
+})
+
+-- ---- visits
+
+pub counts-visits : {t : List ℕ} {k n : ℕ} {v out : List ℕ} {f : Refusal} → (f ≡ visitsAnswer t k n v) × (out ≡ visitsLeft t k n v) → CountsVisits t k n v out f
+unfolding visitsRules visitsOf runVisits isAt
+counts-visits {t} {k} {n} {v} e =
+    let only : (m p : ℕ) → firstRefusal (visitsRules k n (length v) ++ tableRules EightBits t) ≡ Refused (refusal m p) → VisitsOnly v (visitsLeft t k n v) (visitsAnswer t k n v) m p
+    = λ m p g. (ap refusalOf g, ap (answerBy _ _) g) in
+    rw (e .0, e .1)
+    (record {
+      digits = λ h. only 2 0 (refused-at (visits-lent k n (length v) t) 0 0 (refl, h));
+      bits = λ some most h. only 16 0 (refused-at (visits-lent k n (length v) t) 1 0 (((λ z. omega arith), most), (refl, h)));
+      room = λ some most least few h. only 7 0 (refused-at (visits-lent k n (length v) t) 2 0 (((λ z. omega arith), most), (((λ z. omega arith), few), (refl, h))));
+      table = λ some most least few h. of-table EightBits t (visitsRules k n (length v)) (clear-admits (visits-rules k n (length v)) (((λ z. omega arith), most), (((λ z. omega arith), few), (h, tt)))) (λ m p _ g. only m p g);
+      counted = λ some most least few h ok. let s = visits-demand .shown t k n v some most least few h ok in record {
+        nothing = s .accepted;
+        cell = λ x y i. cellAt EightBits (after EightBits t (operand k x) (operand k y) i);
+        steps = λ x y. steps-of EightBits t (operand k x) (operand k y) n;
+        counts = s .shown;
+        total = s .total;
+        kept = s .kept;
+      };
+    })
