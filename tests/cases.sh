@@ -1,4 +1,4 @@
-# What tests/listing.sh, tests/repair.sh, tests/plot.sh, tests/table-maker.sh and tests/vectors.sh share, to be read in by them: comparing whole outputs, and counting.
+# What tests/listing.sh, tests/repair.sh, tests/plot.sh, tests/table-maker.sh, tests/pages.sh and tests/vectors.sh share, to be read in by them: comparing whole outputs, and counting.
 # shellcheck shell=sh
 set -u
 root=$(cd "$(dirname "$0")/.." && pwd)
@@ -93,6 +93,29 @@ interrupts() {
 changed() {
     cp "$1" "$work/changed"
     printf "\\$3" | dd of="$work/changed" bs=1 seek="$2" conv=notrunc 2>/dev/null
+}
+
+# The commands on standard input, each behind `    $ `, are a case each, but for those of rt: what it prints is what stands below
+# it, indented. Sets count to their number.
+runs_commands() {
+    count=0
+    while IFS= read -r line; do
+        case $line in
+        '    $ rt '*) ;;
+        '    $ '*)
+            count=$((count + 1))
+            echo "${line#    $ }" >"command.$count"
+            : >"printed.$count"
+            ;;
+        '    '*) [ "$count" -eq 0 ] || echo "${line#    }" >>"printed.$count" ;;
+        esac
+    done
+    at=1
+    while [ "$at" -le "$count" ]; do
+        sh "./command.$at" >found 2>&1 || echo "status $?" >>found
+        same "$(cat "command.$at")" "printed.$at"
+        at=$((at + 1))
+    done
 }
 
 # The last line of the tests named $1, of which there are $2.

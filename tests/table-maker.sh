@@ -4,7 +4,7 @@
 # shellcheck source=tests/cases.sh
 . "$(dirname "$0")/cases.sh"
 page=$root/docs/TABLE-MAKER.md
-for name in include examples target tables; do
+for name in include examples tools target tables; do
     ln -s "$root/$name" "$work/$name"
 done
 cd "$work" || exit 1
@@ -17,24 +17,7 @@ by_bits() {
 }
 
 # Each command is a case: what it prints is what stands below it.
-count=0
-while IFS= read -r line; do
-    case $line in
-    '    $ rt '*) ;;
-    '    $ '*)
-        count=$((count + 1))
-        echo "${line#    $ }" >"command.$count"
-        : >"printed.$count"
-        ;;
-    '    '*) echo "${line#    }" >>"printed.$count" ;;
-    esac
-done <"$page"
-at=1
-while [ "$at" -le "$count" ]; do
-    sh "./command.$at" >found 2>&1 || echo "status $?" >>found
-    same "$(cat "command.$at")" "printed.$at"
-    at=$((at + 1))
-done
+runs_commands <"$page"
 
 # What the commands wrote.
 cp made.table found && same 'the made table is the kept one' "$kept"

@@ -7,11 +7,11 @@
    its witness, the divisor and the remainder that the digit drives out of range.
    Status: 0 the table passed, 1 it has a bad cell, 2 it was refused for its form, or could not be read, or the verdict
    could not be written; what is wrong stands on standard error.
-   Build: gcc -Iinclude examples/check.c target/staticlib/libquendaric.a -o check */
+   Build: gcc -Iinclude tools/check.c target/staticlib/libquendaric.a -o check */
 
 #include "quendaric.h"
-#include "read_table.h"
-#include "written.h"
+#include "../examples/read_table.h"
+#include "../examples/written.h"
 #include <inttypes.h>
 #include <stdio.h>
 #include <string.h>
