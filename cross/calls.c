@@ -1,4 +1,4 @@
-/* The calls of include/quendaric.h over the proved functions, for the archives that cross/build makes. tests/prototypes
+/* The calls of include/quendaric.h over the proved functions, for the archives that cross/build makes. tools/prototypes
    makes this file: do not edit it. */
 
 #include "slice.h"

@@ -133,24 +133,30 @@ extern "C" {
    580 where it refuses a table by 10, and 512 is the most of any call that refuses none. */
 #define QUENDARIC_STACK 1024 /* (580 measured) */
 
-/* Refusals. The maker of the table has to mend 8 to 10, the caller all others. */
-#define QUENDARIC_REFUSED_CELL 1      /* the row is above 15 or the column above 127 */
-#define QUENDARIC_REFUSED_DIGITS 2    /* the number of digits is 0 or above 28; in quendaric_affected_run, above 31 */
-#define QUENDARIC_REFUSED_SPAN 3      /* the divisor is below 2^60, or it or the dividend is 2^61 or more */
+/* Refusals, in the words of docs/SPECIFICATION.md, section 18. D is the divisor, from 2^60 to 2^61 - 1, N the dividend,
+   below 2^61, P the partial remainder. A bad cell holds a digit that can drive the remainder out of range. The maker of the
+   table has to mend 8 to 10, the caller all others. */
+#define QUENDARIC_REFUSED_CELL 1 /* row above 15 or column above 127 */
+#define QUENDARIC_REFUSED_DIGITS 2 /* number of digits 0 or above 28; of an affected run, 0 or above 31 */
+#define QUENDARIC_REFUSED_SPAN 3 /* D or N outside its span; of a step, D */
 #define QUENDARIC_REFUSED_TOO_LARGE 4 /* a whole number is 2^60 or more */
-#define QUENDARIC_REFUSED_BY_ZERO 5   /* a divisor is 0 */
-#define QUENDARIC_REFUSED_DIRECTION 6 /* the direction is above 3 */
-#define QUENDARIC_REFUSED_ROOM 7      /* a buffer or a list ends before the last index that the call would write */
-#define QUENDARIC_REFUSED_LENGTH 8    /* the length of the table is not 2,048 */
-#define QUENDARIC_REFUSED_BYTE 9      /* a byte of the table is above 4; the place is the index of the first */
-#define QUENDARIC_REFUSED_BAD_CELL 10 /* a digit can drive the remainder out of range; the place is the first cell */
-#define QUENDARIC_REFUSED_LISTS 11    /* the two input lists differ in length */
-#define QUENDARIC_REFUSED_WIDTH 12    /* a window's width is 0, above 4,096 or above the number of readings */
-#define QUENDARIC_REFUSED_READING 13  /* a reading is 2^40 or more; the place is the index of the first */
-#define QUENDARIC_REFUSED_RANGE 14    /* three times the remainder of a step is below -8 or above 8 divisors */
-#define QUENDARIC_REFUSED_DECIMAL 15  /* a half byte is above 9; the place is its byte, 8 to 15 in the divisor */
-#define QUENDARIC_REFUSED_BITS 16     /* the number of significant bits is 0 or above 6 */
-#define QUENDARIC_REFUSED_ESTIMATE_BITS 17 /* the number of bits of the estimate is neither 7 nor 8 */
+#define QUENDARIC_REFUSED_BY_ZERO 5 /* a divisor is 0 */
+#define QUENDARIC_REFUSED_DIRECTION 6 /* direction above 3 */
+#define QUENDARIC_REFUSED_ROOM 7 /* a lent buffer or list ends before the last place to write, a given place beyond its
+                                    end included */
+#define QUENDARIC_REFUSED_LENGTH 8 /* the table's length is not 2,048 */
+#define QUENDARIC_REFUSED_BYTE 9 /* a byte of the table is above 4; a single cell's byte is; place: the first such
+                                    index; of a single cell 128 * r + c */
+#define QUENDARIC_REFUSED_BAD_CELL 10 /* the table has a bad cell; place: the index of the first */
+#define QUENDARIC_REFUSED_LISTS 11 /* the two input lists differ in length */
+#define QUENDARIC_REFUSED_WIDTH 12 /* a window's width is 0, or more than 4,096, or more than there are readings */
+#define QUENDARIC_REFUSED_READING 13 /* a reading is 2^40 or more; place: the first such index, in the list as handed
+                                        in */
+#define QUENDARIC_REFUSED_RANGE 14 /* 3P of a step is below -8D or above 8D */
+#define QUENDARIC_REFUSED_DECIMAL 15 /* a half byte of a packed number is above 9; place: the first such byte, 0 to 7 in
+                                        the dividend, 8 to 15 in the divisor */
+#define QUENDARIC_REFUSED_BITS 16 /* number of significant bits 0 or above 6 */
+#define QUENDARIC_REFUSED_ESTIMATE_BITS 17 /* number of bits of the estimate neither 7 nor 8 */
 
 /* Rounding directions for binary64. */
 #define QUENDARIC_NEAREST 0 /* to nearest, ties to even */

@@ -1,4 +1,4 @@
-# What tests/listing.sh, tests/repair.sh, tests/plot.sh, tests/table-maker.sh, tests/pages.sh and tests/vectors.sh share, to be read in by them: comparing whole outputs, and counting.
+# What the tests of programs and pages share.
 # shellcheck shell=sh
 set -u
 root=$(cd "$(dirname "$0")/.." && pwd)

@@ -1,7 +1,7 @@
 #!/bin/sh
-# The listing program on the inputs that the specification shows, and on what is no table; the maker. Whole outputs,
-# and what is said where not all was read or written, and to arguments; calls that signals interrupt; all for a divider that adds seven bits and for one
-# that adds eight.
+# Whole outputs of `listing` and `maker`, by seven bits and by eight: tables, other inputs, arguments, reads and writes that
+# fail or are interrupted.
+#
 # Drawn inputs are in tests/host/tests/listing.rs. Run it after `rt check listing maker` has written target/bin/.
 # shellcheck source=tests/cases.sh
 . "$(dirname "$0")/cases.sh"
@@ -12,7 +12,7 @@ same 'the maker writes the kept table' "$kept"
 names='row column digit divisor remainder'
 first='1 87 0 1242993497154256896 3314649325744685056'
 prints 'a table that passes' listing "$kept" "$names"
-prints 'the kept table before the finer estimate' listing "$root/tables/kept-seven-bits.table" "$names"
+prints 'the table that is made for seven bits' listing "$root/tables/kept-seven-bits.table" "$names"
 prints 'the table that Clarke and Zhao print' listing "$root/tables/clarke-zhao-1995.table" "$names"
 
 changed "$kept" 215 002

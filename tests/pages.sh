@@ -1,6 +1,7 @@
 #!/bin/sh
-# The commands in README.md's section on docking stations and in the last of docs/ONE-WRONG-CELL.md, each with what it prints, in a
-# folder of their own. Run it after `rt staticlib quendaric`.
+# The commands of README.md (docking stations) and ONE-WRONG-CELL.md print what the pages say.
+#
+# They are run in a folder of their own. Run it after `rt staticlib quendaric`.
 # shellcheck source=tests/cases.sh
 . "$(dirname "$0")/cases.sh"
 for name in include examples tools target tables; do

@@ -1,7 +1,8 @@
 #!/bin/sh
-# The repair program: the table on standard output and the text on standard error, whole, on tables that were changed and on what is no table; a repaired
-# table passes the check; and what is said where not all was read or written. Drawn inputs are in tests/host/tests/repair.rs. Run it after
-# `rt check repair listing` has written target/bin/.
+# Both outputs of `repair`, by seven bits and by eight: tables, other inputs, reads and writes that fail or are interrupted.
+#
+# A repaired table passes the check. Drawn inputs are in tests/host/tests/repair.rs. Run it after `rt check repair listing`
+# has written target/bin/.
 # shellcheck source=tests/cases.sh
 . "$(dirname "$0")/cases.sh"
 

@@ -1,6 +1,7 @@
 #!/bin/sh
-# The vector program on damaged files: each damage is seen, and counted in its file's line and in the total, or told.
-# Run it after `rt check vectors` has written target/bin/.
+# `vectors` counts or tells each damage of twelve changed files.
+#
+# It is seen in the file's line and in the total. Run it after `rt check vectors` has written target/bin/.
 # shellcheck source=tests/cases.sh
 . "$(dirname "$0")/cases.sh"
 

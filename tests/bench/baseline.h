@@ -1,4 +1,4 @@
-/* The same division in C, to measure against: the specification's recurrence step by step, with its finer estimate and
+/* The same division in C, to measure against: the specification's recurrence step by step, with its estimate of eight bits and
    the quotient by on-the-fly conversion, the same with the next column known ahead of the words, and binary64 division over
    each. And the same roots. */
 #ifndef BASELINE_H

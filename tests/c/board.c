@@ -1,4 +1,6 @@
-/* The monitor's board on the machine that tests it: tests/c/run compiles it with examples/monitor. */
+/* The monitor's board on the machine that tests it.
+
+   tests/c/run compiles it with examples/monitor. */
 
 #include "board.h"
 #include <stdio.h>

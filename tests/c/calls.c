@@ -1,6 +1,7 @@
-/* Would catch a header that does not fit the library, or that only one of C and C++ takes: every call is made through
-   it, on the specification's worked examples and some roots, on each refusal and with NULL for what has no length, in a program that is
-   compiled as both. It prints nothing but what differs. */
+/* Every call through the header: the specification's examples, each refusal, NULL with length 0; as C99 to C2x and C++11 to
+   C++2b.
+
+   It prints nothing but what differs. */
 
 #include "quendaric.h"
 #include <stdio.h>

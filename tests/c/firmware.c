@@ -1,5 +1,6 @@
-/* Would catch lines of README that take for a reading what is none, that refuse one, or that get a warning: tests/c/run writes
-   them to firmware.h, and here they are run. As C and as C++. */
+/* README's lines for a reading, as they stand: readings, overflows, zeros, infinities and NaNs; no warning.
+
+   tests/c/run writes them to firmware.h, and here they are run. As C and as C++. */
 
 #include "quendaric.h"
 #include <stdio.h>

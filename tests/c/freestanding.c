@@ -1,6 +1,7 @@
-/* Would catch a header or an archive that needs a C library: a program without one, for -ffreestanding and -nostdlib, as C
-   and as C++. It divides 1 by 3 and back, from doubles to doubles, asks whether both are finite, and ends with 0 where all is as
-   it should be. */
+/* Header and archive in a program without a C library.
+
+   For -ffreestanding and -nostdlib, as C and as C++. It divides 1 by 3 and back, from doubles to doubles, asks whether both
+   are finite, and ends with 0 where all is as it should be. */
 
 #include "quendaric.h"
 

@@ -1,4 +1,6 @@
-/* Each call once, its answer ignored: the compiler must warn of every one. Compiled by tests/c/run, never linked. */
+/* The compiler warns of each call whose answer is ignored.
+
+   Compiled by tests/c/run, never linked. */
 
 #include "quendaric.h"
 

@@ -1,6 +1,7 @@
-/* Preloaded into a program (LD_PRELOAD), this interrupts its calls as a signal would. Each open and each read, and each
-   write to standard output, fails with EINTR as often in a row as the variable of its name says (OPENS, READS, WRITES),
-   and then goes through: a read or a write with at most 1,000 bytes. */
+/* Preloaded into the programs: calls fail with EINTR and move at most 1,000 bytes, and the output has to be the same.
+
+   Each open and each read, and each write to standard output, fails as often in a row as the variable of its name says (OPENS,
+   READS, WRITES), and then goes through, as after a signal. */
 
 #define _GNU_SOURCE
 #include <errno.h>

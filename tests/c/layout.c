@@ -1,5 +1,6 @@
-/* Would catch an answer whose size, or a field whose place or size, is not what the archive writes: each is held against
-   a literal when this file is compiled, as C and as C++. And a version whose parts are not its numbers. */
+/* Sizes and offsets of every answer, and the version's parts, against literals.
+
+   Each is compared when this file is compiled, as C and as C++. */
 
 #include "quendaric.h"
 #ifndef LAYOUT_ONLY /* tests/cross/run compiles this file where there may be no C library */

@@ -1,7 +1,8 @@
-/* Would catch arguments that stand in another order in the archive than in the header: each call is made with numbers
-   that are different, and its whole answer is held against a literal. For each pair of numbers the call is made once
-   more with the two exchanged, and the answer must then be another, so that no exchange is missed. (Two lengths that must
-   be equal are; which is which cannot be seen.) The names of the arguments are compared by tests/c/run. */
+/* Literal answers, which must be others where two arguments are exchanged.
+
+   Each call is made with numbers that are different, and its whole answer is held against a literal. For each pair of numbers
+   the call is made once more with the two exchanged, so that no exchange is missed. (Two lengths that must be equal are; which
+   is which cannot be seen.) The names of the arguments are compared by tests/c/run. */
 
 #include "quendaric.h"
 #include <stdio.h>

@@ -1,5 +1,6 @@
-/* Calls in which what is written overlaps what else is passed, a line each, marked: gcc must warn of every one (-Wrestrict,
-   a part of -Wall) and of no other line. Compiled by tests/c/run, never linked. */
+/* gcc warns of each call whose pointers overlap, and of no other line.
+
+   A line each, marked; -Wrestrict is a part of -Wall. Compiled by tests/c/run, never linked. */
 
 #include "quendaric.h"
 

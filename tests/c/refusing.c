@@ -1,6 +1,7 @@
-/* Would catch an example that loses lines and does not tell: loaded before a program (LD_PRELOAD), this refuses the first
-   write of its standard output, as a pipe does that is full and does not wait, and lets all others through. A line is a
-   write. In GNU C, for glibc, where stdout is a variable. */
+/* Preloaded into examples and tools: the first printed line is refused, and they have to tell it.
+
+   As by a pipe that is full and does not wait; all other writes go through. A line is a write. In GNU C, for glibc, where
+   stdout is a variable. */
 
 #define _GNU_SOURCE
 #include <errno.h>

@@ -1,5 +1,6 @@
-/* Would catch lines of docs/FROM-C.md that do not compile or that mislead: tests/c/run writes those of each heading to a
-   file, and here they are run. */
+/* The C lines of FROM-C.md, as they stand.
+
+   tests/c/run writes those of each heading to a file, and here they are run. */
 
 #include "quendaric.h"
 #include <stdio.h>

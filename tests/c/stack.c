@@ -1,8 +1,8 @@
-/* Would catch a call that uses more of the stack than include/quendaric.h says was measured, and so more than it
-   promises: each call is made on a stack of painted bytes, on drawn operands, through a table that passes and through
-   tables that are refused, and the bytes below its caller's that have changed are counted. tests/c/run takes the measured
-   numbers from the header into measured.h. For x86-64, in GNU C; the caller's stack pointer must stay where it is
-   (-maccumulate-outgoing-args). */
+/* The stack that each call uses, on a painted one, against what the header says was measured.
+
+   Each call is made on drawn operands, through a table that passes and through tables that are refused, and the bytes below
+   its caller's that have changed are counted. tests/c/run takes the measured numbers from the header into measured.h. For
+   x86-64, in GNU C; the caller's stack pointer must stay where it is (-maccumulate-outgoing-args). */
 
 #include "measured.h"
 #include "quendaric.h"

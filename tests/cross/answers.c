@@ -4,7 +4,7 @@
    for refusal n) and a digest of every field of every answer and of every byte of every list that was lent.
    tests/cross/run compares what it prints on each target with what it prints on x86-64.
 
-   turns.h, which tests/prototypes makes from the exports, has a turn of each call. This file draws the operands, by
+   turns.h, which tools/prototypes makes from the exports, has a turn of each call. This file draws the operands, by
    their names: a new call needs no line here, unless it takes an operand for which the draw at the end of `usual` is
    a poor one. */
 

@@ -1,5 +1,5 @@
 /* A turn of each call: operands by their names, every field of the answer. answers.c includes it.
-   tests/prototypes makes this file: do not edit it. */
+   tools/prototypes makes this file: do not edit it. */
 
 static void turn_check_cell(void) {
   const uint64_t row = drawn_number("row");

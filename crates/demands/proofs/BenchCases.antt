@@ -4,14 +4,14 @@ use Rattle.selection.specs.Word.{signed}
 use Rattle.selection.specs.Cell.{digit, estimate}
 use Rattle.selection.specs.Maker.{MadeTable}
 use Rattle.laws.specs.Lists.{listFrom}
-use Rattle.selection.specs.Allowed.{allowsOf}
-use Rattle.selection.specs.Computed.{madeTable, madeOf}
+use Rattle.selection.specs.computed.Allowed.{allowsOf}
+use Rattle.selection.specs.computed.Outcomes.{madeTable, madeOf}
 use Rattle.selection.proofs.CellCases.{case-1, case-2, case-3, case-4, case-5, case-5-seven, case-6, case-7, case-7-seven}
 use Rattle.selection.proofs.MadeTables.{made-bytes, kept-passes}
 use Rattle.recurrence.specs.Recurrence.{after, nextOf, value, endRemainder, resultOf}
-use Rattle.division.specs.Computed.{finiteRounded}
-use Rattle.demands.specs.BenchCases.{Case8, Case9, BenchCases}
-use Rattle.division.proofs.Answers.{whole-answer, binary64-answer}
+use Rattle.division.specs.computed.Rounding.{finiteRounded}
+use Rattle.demands.specs.computed.BenchCases.{Case8, Case9, BenchCases}
+use Rattle.division.proofs.AdmittedAnswers.{whole-answer, binary64-answer}
 use Rattle.selection.specs.declared.Estimate.the-variants.{EightBits}
 
 case-8 : Case8 (madeTable EightBits)
@@ -22,6 +22,7 @@ case-9 : Case9 (madeTable EightBits)
 unfolding madeTable listFrom madeOf allowsOf after nextOf value endRemainder resultOf digit
 case-9 = record { shown = refl; total = refl; result = refl }
 
+-- § 21.5 All twelve cases follow from the definitions.
 pub bench-cases : (t : List ℕ) → MadeTable EightBits t → BenchCases t
 unfolding finiteRounded
 bench-cases t m =

@@ -2,10 +2,10 @@
 use Rattle.laws.proofs.Basics.{_∙_, ⊎-elim, List, [], _∷_, ℕ, arith, List·getD-eq-default}
 use Rattle.laws.proofs.Comparisons.{not-below}
 use Rattle.laws.proofs.Division.{le-or-lt}
-use Rattle.selection.proofs.Refusing.{Rule, tableRules, clear-admits}
+use Rattle.selection.proofs.RefusalNames.{Rule, tableRules, clear-admits}
 use Rattle.selection.proofs.OneRule.{Past, decided, past-not}
 use Rattle.selection.proofs.Rules.{Sound}
-use Rattle.selection.specs.Refusals.{Wrong}
+use Rattle.selection.specs.computed.Refusals.{Wrong}
 use Rattle.selection.specs.Table.{Passes}
 use Rattle.selection.proofs.Reports.{table-rules, admission-rules, admitted-passes}
 use Rattle.demands.specs.Calls.{OfTable}

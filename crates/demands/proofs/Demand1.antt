@@ -1,38 +1,37 @@
 -- Demand 1: the answers of all calls are those of their lists of rules.
-use Rattle.laws.proofs.Basics.{_≡_, refl, sym, ap, subst, _∙_, false, List, _++_, ⊎-elim, ℕ, _+_, _*_, arith, ltb, ltb→lt, length}
+use Rattle.laws.proofs.Basics.{_≡_, refl, sym, ap, subst, _∙_, List, _++_, ⊎-elim, ℕ, _+_, _*_, arith, ltb, ltb→lt, length}
 use Rattle.laws.proofs.Tests.{upto-at}
-use Rattle.selection.specs.Answer.{refusal, answerBy, admissionOf, outcomeNumbers, cellZeros, reportNumbers, reportZeros}
-use Rattle.selection.specs.Bits.{bitsRules, estimateOf, forBits, checkTableFor}
-use Rattle.selection.specs.Maker.{limitsZeros}
-use Rattle.selection.specs.Repair.{repairZeros}
-use Rattle.selection.proofs.Refusing.{refusalOf, Wrongs, firstRefusal, rank, RefusedBy, tableRules, clear, first-is, refused-by, refuses, refuses-lent, passed-last}
-use Rattle.selection.specs.declared.Refusal.{Refusal}
+use Rattle.selection.specs.Answer.{refusal, reportZeros}
+use Rattle.selection.specs.computed.Answer.{answerBy, admissionOf, outcomeNumbers, cellZeros, reportNumbers}
+use Rattle.selection.specs.computed.Bits.{bitsRules, estimateOf, checkTableFor}
+use Rattle.selection.specs.computed.Maker.{limitsZeros, makeRefused}
+use Rattle.selection.specs.computed.Repair.{repairRefused}
+use Rattle.selection.proofs.RefusalNames.{refusalOf, Wrongs, firstRefusal, rank, RefusedBy, tableRules, clear, first-is, refused-by, refuses, passed-last}
 use Rattle.selection.specs.declared.Admission.{Admission}
-use Rattle.selection.specs.Table.{ReportMeaning}
-use Rattle.selection.specs.Computed.{reportOf}
+use Rattle.selection.specs.computed.Table.{ReportMeaning}
+use Rattle.selection.specs.computed.Outcomes.{reportOf}
 use Rattle.selection.specs.declared.table.Outcome.{Outcome}
 use Rattle.selection.specs.declared.table.Outcome.the-variants as O
 use Rattle.selection.proofs.Verdicts.{cell-refuses}
 use Rattle.selection.proofs.Rules.{by-number}
-use Rattle.selection.proofs.ForBits.{bits-refused, bits-first, bits-besides, bits-refused-by, bits-refuses, bits-number}
-use Rattle.selection.proofs.MadeTables.{kept-passes, limits-told, make-answer}
+use Rattle.selection.proofs.ForBits.{bits-first, bits-besides, bits-refused-by, bits-refuses, bits-number}
+use Rattle.selection.proofs.MadeTables.{kept-passes, limits-told}
 use Rattle.selection.proofs.BiasedPoints.{cell-rules}
 use Rattle.selection.proofs.UniqueMade.{limits-rules, make-rules}
-use Rattle.selection.proofs.RepairAnswers.{repair-rules, repairs-right}
+use Rattle.selection.proofs.RepairAnswers.{repair-rules}
 use Rattle.selection.proofs.Reports.{report-checked, table-rules, admission-rules}
-use Rattle.recurrence.specs.Run.{runRules}
+use Rattle.recurrence.specs.computed.Run.{runRules}
 use Rattle.recurrence.proofs.Refusals.{run-rules, run-lent}
 use Rattle.recurrence.proofs.StepRange.{step-lent}
-use Rattle.recurrence.proofs.VisitCounts.{visits-right}
-use Rattle.recurrence.specs.Recheck.{affectedRunRules, markZeros}
+use Rattle.recurrence.proofs.VisitCounts.{visits-lent}
+use Rattle.recurrence.specs.computed.Recheck.{affectedRunRules, markZeros}
 use Rattle.recurrence.proofs.RecheckRun.{affected-run-rules, run-rechecks-right}
-use Rattle.division.specs.Whole.{wholeRules}
-use Rattle.division.specs.Rounding.{directionRules}
-use Rattle.demands.specs.Demand1.{Carries, CheckRefuses, ByBits, Demand1}
-use Rattle.demands.proofs.Conditions.{conditions}
-use Rattle.division.proofs.Calls.{whole-rules, whole-lent, binary64-rules, binary64-lent}
+use Rattle.division.specs.computed.Whole.{wholeRules}
+use Rattle.division.specs.computed.Format.{directionRules}
+use Rattle.demands.specs.computed.Demand1.{Carries, CheckRefuses, Demand1}
+use Rattle.division.proofs.DivisionCalls.{whole-rules, whole-lent, binary64-rules, binary64-lent}
 use Rattle.division.proofs.SampleRuns.{samples-lent}
-use Rattle.division.specs.Recheck.{recheckZeros}
+use Rattle.division.specs.computed.Recheck.{affectedRefused}
 use Rattle.division.proofs.Rechecking.{recheck-rules, rechecks-right}
 use Rattle.division.proofs.RecheckingWhole.{recheck-whole-rules, whole-rechecks-right}
 use Rattle.division.proofs.PackedCalls.{packed-refuses}
@@ -41,10 +40,6 @@ use Rattle.division.proofs.RootCalls.{root-rules}
 use Rattle.exposure.proofs.Averages.{averages-right}
 use Rattle.selection.specs.declared.Estimate.{Estimate}
 use Rattle.selection.specs.declared.Estimate.the-variants.{EightBits}
-
--- the answer, or what is left in a list, by the number of bits
-by-bits : {X : Type 0} (zeros : Refusal → X) (f : Estimate → X) → ByBits (forBits zeros f) (zeros (refusal 17 0)) f
-by-bits zeros f = record { refused = λ bits. bits-refused bits zeros f; seven = refl; eight = refl }
 
 -- the check, from its report
 module _ (E : Estimate) (t : List ℕ) where
@@ -89,6 +84,8 @@ checked-for bits t =
           (bits-first bits c tt y);
     }
 
+-- § 18.3 Each call refuses by its own rules, in that order.
+-- § 21.1 Demand 1 holds.
 pub demand-1 : Demand1
 unfolding rank affectedRunRules
 demand-1 =
@@ -101,67 +98,36 @@ demand-1 =
       order-15 = omega arith;
       order-16 = omega arith;
       order-17 = λ m h. ltb→lt (rank 17) (rank (m + 1)) (upto-at (λ k. ltb (rank 17) (rank (k + 1))) 16 tt m h);
-      conditions = conditions;
-      for-bits = record {
-        check-cell = λ r c b. by-bits cellZeros _;
-        check-table = λ t. by-bits reportZeros _;
-        row-limits = λ r. by-bits limitsZeros _;
-        make-table = λ s. by-bits (λ f. f) _;
-        make-buffer = λ s. by-bits (λ f. s) _;
-        repair = λ t rs cs. by-bits repairZeros _;
-        repaired = λ t rs cs. by-bits (λ f. rs) _;
-        changed = λ t rs cs. by-bits (λ f. cs) _;
-        affected-samples = λ t currents sensitivities given. by-bits recheckZeros _;
-        affected = λ t currents sensitivities given. by-bits (λ f. given) _;
-        affected-whole = λ t a b. by-bits markZeros _;
-        affected-run = λ t N D n. by-bits markZeros _;
-      };
       check-cell = cell-refuses;
-      row-limits = λ E r. limits-told E r refl .1 .refuses;
-      make-table = λ s. make-answer EightBits s _ _ refl refl .2 .refuses;
-      make-buffer = λ E s. make-answer E s _ _ refl refl .2 .keeps;
-      repair = λ E t rs cs. repairs-right E t rs cs .refuses;
-      repair-buffers = λ E t rs cs. repairs-right E t rs cs .keeps;
+      row-limits = λ E r. limits-told E r .refuses;
+      make-table = λ E s. refuses (make-rules (length s)) _ _ _ refl (λ f. refl) refl;
+      repair = λ E t rs cs. refuses (repair-rules (length t) (length rs) (length cs)) _ _ _ refl (λ f. refl) refl;
       check-table = checked;
       check-cell-for = λ bits r c b. bits-refuses bits (cell-rules r c b) tt cellZeros _ (λ x. x .refusal) (λ f. refl) (cell-refuses (estimateOf bits) r c b);
-      row-limits-for = λ bits r. bits-refuses bits (limits-rules r) tt limitsZeros _ (λ x. x .refusal) (λ f. refl) (limits-told (estimateOf bits) r refl .1 .refuses);
-      make-table-for = λ bits s.
-          let c = make-rules (length s) in
-          let m = make-answer (estimateOf bits) s _ _ refl refl .2 in
-          record {
-            answer = record { by = bits-refused-by bits c tt (λ f. f) _ (λ x. x) (λ f. refl) (m .refuses); besides = λ n p. bits-besides bits c tt (λ f. f) _ n p (λ x. ap refusalOf (first-is c n p x)) };
-            kept = λ n p. bits-besides bits c tt (λ f. s) _ n p (m .keeps n p);
-          };
-      repair-for = λ bits t rs cs.
-          let c = repair-rules (length t) (length rs) (length cs) in
-          let r = repairs-right (estimateOf bits) t rs cs in
-          record { answer = bits-refuses bits c tt repairZeros _ (λ x. x .refusal) (λ f. refl) (r .refuses); kept = λ n p. bits-besides bits c tt (λ f. rs) _ n p (λ x. r .keeps n p x .0) };
-      repair-marks-for = λ bits t rs cs n p. bits-besides bits (repair-rules (length t) (length rs) (length cs)) tt (λ f. cs) _ n p (λ x. repairs-right (estimateOf bits) t rs cs .keeps n p x .1);
+      row-limits-for = λ bits r. bits-refuses bits (limits-rules r) tt limitsZeros _ (λ x. x .refusal) (λ f. refl) (limits-told (estimateOf bits) r .refuses);
+      make-table-for = λ bits s. let c = make-rules (length s) in bits-refuses bits c tt (makeRefused s) _ _ (λ f. refl) (refuses c _ _ _ refl (λ f. refl) refl);
+      repair-for = λ bits t rs cs. let c = repair-rules (length t) (length rs) (length cs) in bits-refuses bits c tt (repairRefused rs cs) _ _ (λ f. refl) (refuses c _ _ _ refl (λ f. refl) refl);
       check-table-for = checked-for;
       admit = λ t. refused-by (table-rules EightBits t);
-      run = λ t N D n b place. refuses-lent (run-lent N D n (length b) place t) _ _ _ b _ refl (λ f. refl) refl;
+      run = λ t N D n b place. refuses (run-lent N D n (length b) place t) _ _ _ refl (λ f. refl) refl;
       step = λ s k D t. refuses (step-lent s k D t) _ _ _ refl (λ f. refl) refl;
-      visits = λ t k n v. visits-right t k n v .refuses;
-      visits-list = λ t k n v. visits-right t k n v .keeps;
+      visits = λ t k n v. refuses (visits-lent k n (length v) t) _ _ _ refl (λ f. refl) refl;
       whole = λ t a b. refuses (whole-lent a b t) _ _ _ refl (λ f. refl) refl;
       binary64 = λ t direction a b. refuses (binary64-lent direction t) _ _ _ refl (λ f. refl) refl;
-      samples = λ t direction currents sensitivities given. refuses-lent (samples-lent direction (length currents) (length sensitivities) (length given) t) _ _ _ given _ refl (λ f. refl) refl;
-      recheck = λ E t currents sensitivities given. let r = rechecks-right E t currents sensitivities given in record { answer = r .refuses; kept = r .keeps };
+      samples = λ t direction currents sensitivities given. refuses (samples-lent direction (length currents) (length sensitivities) (length given) t) _ _ _ refl (λ f. refl) refl;
+      recheck = λ E t currents sensitivities given. rechecks-right E t currents sensitivities given .refuses;
       recheck-run = λ E t N D n. run-rechecks-right E t N D n .refuses;
       recheck-whole = λ E t a b. whole-rechecks-right E t a b .refuses;
       recheck-for = λ bits t currents sensitivities given.
-          let c = recheck-rules (length t) (length currents) (length sensitivities) (length given) in
-          let r = rechecks-right (estimateOf bits) t currents sensitivities given in
-          record { answer = bits-refuses bits c tt recheckZeros _ (λ x. x .refusal) (λ f. refl) (r .refuses); kept = λ n p. bits-besides bits c tt (λ f. given) _ n p (r .keeps n p) };
+          bits-refuses bits (recheck-rules (length t) (length currents) (length sensitivities) (length given)) tt (affectedRefused given) _ (λ x. x .answer .refusal) (λ f. refl) (rechecks-right (estimateOf bits) t currents sensitivities given .refuses);
       recheck-run-for = λ bits t N D n. bits-refuses bits (affected-run-rules (length t) N D n) tt markZeros _ (λ x. x .refusal) (λ f. refl) (run-rechecks-right (estimateOf bits) t N D n .refuses);
       recheck-whole-for = λ bits t a b. bits-refuses bits (recheck-whole-rules (length t) a b) tt markZeros _ (λ x. x .refusal) (λ f. refl) (whole-rechecks-right (estimateOf bits) t a b .refuses);
-      run-kept = λ N D n b place. refuses-lent (run-rules N D n (length b) place) _ _ _ b _ refl (λ f. refl) (passed-last EightBits (kept-passes EightBits) (runRules N D n (length b) place));
+      run-kept = λ N D n b place. refuses (run-rules N D n (length b) place) _ _ _ refl (λ f. refl) (passed-last EightBits (kept-passes EightBits) (runRules N D n (length b) place));
       whole-kept = λ a b. refuses (whole-rules a b) _ _ _ refl (λ f. refl) (passed-last EightBits (kept-passes EightBits) (wholeRules a b));
       binary64-kept = λ direction a b. refuses (binary64-rules direction) _ _ _ refl (λ f. refl) (passed-last EightBits (kept-passes EightBits) (directionRules direction));
       packed = packed-refuses;
       compare-ratios = ratios-refuse;
       root-whole = λ a. refuses (root-rules a) _ _ _ refl (λ f. refl) refl;
       root-binary64 = λ direction p. refuses (binary64-rules direction) _ _ _ refl (λ f. refl) refl;
-      averages = λ xs w ms rs. averages-right xs w false ms rs .refuses;
-      averages-lists = λ xs w newestFirst ms rs. averages-right xs w newestFirst ms rs .keeps;
+      averages = λ xs w newestFirst ms rs. averages-right xs w newestFirst ms rs .refuses;
     }

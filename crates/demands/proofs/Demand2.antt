@@ -4,13 +4,13 @@ use native.Mathlib.Nat.{div-add-mod', mod-lt}
 use Rattle.laws.specs.Lists.{listFrom}
 use Rattle.laws.proofs.Division.{quotient}
 use Rattle.selection.specs.Table.{Passes}
-use Rattle.selection.proofs.Orders.{passed-last}
+use Rattle.selection.proofs.TableRefusals.{passed-last}
 use Rattle.selection.proofs.MadeTables.{kept-passes}
-use Rattle.division.specs.Samples.{samplesRules, joined}
-use Rattle.division.specs.Computed.{finiteRounded}
-use Rattle.demands.specs.Demand2.{RightThrough, Demand2}
+use Rattle.division.specs.computed.Samples.{samplesRules, joined}
+use Rattle.division.specs.computed.Rounding.{finiteRounded}
+use Rattle.demands.specs.computed.Demand2.{RightThrough, Demand2}
 use Rattle.division.proofs.SampleRuns.{samples-clear, samples-right, samples-are, compensated-one}
-use Rattle.division.proofs.Answers.{whole-answer, binary64-answer}
+use Rattle.division.proofs.AdmittedAnswers.{whole-answer, binary64-answer}
 use Rattle.division.proofs.IeeeLaws.{ieee}
 use Rattle.division.proofs.IeeeOne.{ieee-one}
 use Rattle.selection.specs.declared.Estimate.the-variants.{EightBits}
@@ -26,12 +26,11 @@ right t p = record {
       (record { done = refl; meaning = ieee direction a b; only = λ x i. ieee-one direction a b i (ieee direction a b) });
   samples = λ direction currents sensitivities given h e l.
       let m = samples-right t p direction h currents sensitivities given e l in
-      record { meaning = m; only = λ y other n. compensated-one y _ n m };
-  no-samples = λ direction given h. rw (passed-last EightBits p (samplesRules direction 0 0 (length given)), samples-clear direction 0 0 (length given) h refl (omega arith)) (refl, refl);
-  samples-example =
-      let x = samples-are t p 0 (lit≤ tt) (0x7FE0_0000_0000_0000 ∷ 0x0010_0000_0000_0000 ∷ []) (0x3FD0_0000_0000_0000 ∷ 0x4008_0000_0000_0000 ∷ []) (11 ∷ 12 ∷ 13 ∷ []) refl (lit≤ tt) in
-      record { answer = x .0; concentrations = x .1 };
+      record { meaning = m; only = λ y n. compensated-one y _ n m };
+  no-samples = λ direction given h. rw (passed-last EightBits p (samplesRules direction 0 0 (length given)), samples-clear direction 0 0 (length given) h refl (omega arith)) refl;
+  samples-example = samples-are t p 0 (lit≤ tt) (0x7FE0_0000_0000_0000 ∷ 0x0010_0000_0000_0000 ∷ []) (0x3FD0_0000_0000_0000 ∷ 0x4008_0000_0000_0000 ∷ []) (11 ∷ 12 ∷ 13 ∷ []) refl (lit≤ tt);
 }
 
+-- § 21.2 Demand 2 holds.
 pub demand-2 : Demand2
 demand-2 = record { passed = right; kept = right _ (kept-passes EightBits) }

@@ -1,25 +1,26 @@
 -- Demand 3, whole.
 use Rattle.laws.proofs.Basics.{refl, sym, ap, _∙_}
-use Rattle.selection.proofs.Refusing.{admits, passed-last}
-use Rattle.selection.specs.Computed.{cellOf, reportOf, madeTable}
-use Rattle.selection.specs.declared.numbers.ReportNumbers.{ReportNumbers}
+use Rattle.selection.proofs.RefusalNames.{admits, passed-last}
+use Rattle.selection.specs.computed.Outcomes.{cellOf, reportOf, madeTable}
+use Rattle.selection.specs.declared.numbers.Report.{Report}
 use Rattle.selection.proofs.UniqueReport.{checked-one}
 use Rattle.selection.proofs.Reports.{report-checked, report-passed, admitted-passes, table-rules, admission-rules}
 use Rattle.selection.proofs.MadeTables.{kept-passes}
 use Rattle.selection.proofs.BiasedPoints.{cell-checked}
 use Rattle.selection.proofs.RefusedExactly.{refused-exactly, cell-told}
 use Rattle.recurrence.proofs.RunDemand.{run-claim, runs-right, results-same, run-same}
-use Rattle.recurrence.proofs.Refusals.{same-through}
-use Rattle.division.specs.Whole.{wholeRules, wholeZeros, wholeValues}
-use Rattle.division.specs.Rounding.{directionRules}
-use Rattle.demands.specs.Demand3.{Demand3}
+use Rattle.selection.proofs.TableRefusals.{same-through}
+use Rattle.division.specs.computed.Whole.{wholeRules, wholeZeros, wholeValues}
+use Rattle.division.specs.computed.Format.{directionRules}
+use Rattle.demands.specs.computed.Demand3.{Demand3}
 use Rattle.demands.proofs.Demand1.{demand-1}
 use Rattle.division.proofs.WholeThrough.{whole-divides}
 use Rattle.division.proofs.Binary64Through.{binary64-through}
-use Rattle.division.proofs.Calls.{whole-spans}
+use Rattle.division.proofs.DivisionCalls.{whole-spans}
 use Rattle.division.proofs.SampleRuns.{samples-same}
 use Rattle.selection.specs.declared.Estimate.the-variants.{EightBits}
 
+-- § 21.3 Demand 3 holds.
 pub demand-3 : Demand3
 demand-3 =
     record {
@@ -28,20 +29,19 @@ demand-3 =
       results = results-same;
       same = λ t u p q. record {
         run = run-same t u p q;
-        whole = λ a b. same-through (λ x. x) wholeZeros p q (wholeRules a b) (λ e.
+        whole = λ a b. same-through EightBits (λ x. x) wholeZeros p q (wholeRules a b) (λ e.
             let s = whole-spans a b e in
             ap wholeValues (whole-divides EightBits t a b p (s .0) (s .1) (s .2) ∙ sym (whole-divides EightBits u a b q (s .0) (s .1) (s .2))));
         binary64 = λ direction a b.
             rw (passed-last EightBits p (directionRules direction), passed-last EightBits q (directionRules direction), binary64-through EightBits t direction a b p, binary64-through EightBits u direction a b q) refl;
-        samples = λ d xs ys given. samples-same t u p q d xs ys given .0;
-        concentrations = λ d xs ys given. samples-same t u p q d xs ys given .1;
+        samples = samples-same t u p q;
       };
       refused = λ E t h a c. refused-exactly E h c;
       answered = λ E t. (reportOf E t, report-checked E t, λ b c. checked-one E b (reportOf E t) c (report-checked E t));
       -- no refusal is the answer to a table that passes
       passed = λ E t a c.
           rw (checked-one E a (reportOf E t) c (report-checked E t))
-          (λ e. admitted-passes E (admission-rules E t ∙ admits (table-rules E t) (demand-1 .check-table E t .by .none .0 e)), λ p. ap (λ (x : ReportNumbers). x .refusal) (report-passed E p));
+          (λ e. admitted-passes E (admission-rules E t ∙ admits (table-rules E t) (demand-1 .check-table E t .by .none .0 e)), λ p. ap (λ (x : Report). x .refusal) (report-passed E p));
       cells = λ E r c b k. cell-told E k (cellOf E r c b) (cell-checked E r c b);
       some = λ E. (madeTable E, kept-passes E);
     }

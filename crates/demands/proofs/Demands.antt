@@ -1,6 +1,6 @@
 -- What the unit promises, whole.
 use Rattle.selection.proofs.RepairDemand.{repair-demand}
-use Rattle.selection.proofs.EarlierSpan.{burned-tables}
+use Rattle.selection.proofs.Burned.{burned-tables}
 use Rattle.selection.proofs.MadeTables.{made-table-is}
 use Rattle.recurrence.proofs.RunDemand.{pair-demand, pair-example}
 use Rattle.recurrence.proofs.StepDemand.{step-demand, step-example}
@@ -8,7 +8,7 @@ use Rattle.recurrence.proofs.VisitCounts.{visits-demand, visits-example}
 use Rattle.division.proofs.WholeDigits.{whole-digits}
 use Rattle.ieee.proofs.Ieee754.{ieee-754}
 use Rattle.ieee.proofs.RootOrder.{root-ordered}
-use Rattle.demands.specs.Demands.{Demands}
+use Rattle.demands.specs.computed.Demands.{Demands}
 use Rattle.demands.proofs.Demand1.{demand-1}
 use Rattle.demands.proofs.Demand2.{demand-2}
 use Rattle.demands.proofs.Demand3.{demand-3}
@@ -30,5 +30,6 @@ ruleset layers = (repair-demand, burned-tables, pair-demand, step-demand, visits
 
 ruleset worked = (made-table-is, bench-cases, root-examples, flag-examples, averages-example, pair-example, step-example, visits-example)
 
+-- § 21 Everything that is promised is one record, and it is proved:
 pub demands : Demands
 demands = search (calls, layers, worked)

@@ -9,6 +9,7 @@ use Rattle.demands.proofs.OnlyRecords.{packed-only}
 use Rattle.demands.proofs.OnlyBits.{table-for-only, cell-for-only, limits-for-only, make-for-only, repair-for-only, affected-for-only, affected-whole-for-only, affected-run-for-only}
 use Rattle.selection.specs.declared.Estimate.the-variants.{EightBits}
 
+-- § 21.4 The contract of each call admits one answer and one content of each list.
 pub determined : EachDetermined
 determined = record {
   check-table = table-only EightBits;

@@ -8,7 +8,7 @@ use lib.Ieee.Positive.{num, den, den-pos}
 use Rattle.laws.proofs.Division.{le-or-lt}
 use Rattle.laws.proofs.Comparisons.{not-below}
 use Rattle.laws.proofs.Tests.{is-true}
-use Rattle.division.specs.Format.{negative, magnitude, classOf, signalling, IsNonzero, IsFinite}
+use Rattle.division.specs.Format.{negative, magnitude, classOf, signalling, FiniteNonzero, IsFinite}
 use Rattle.division.specs.Ieee.{Ieee, quotientScale, quotientPlace}
 use Rattle.division.specs.Roots.{IeeeRoot, RootPlain}
 use Rattle.division.specs.declared.format.Binary64Result.{Binary64Result}
@@ -22,7 +22,7 @@ use Rattle.ieee.proofs.LanguageReading.{Reads, read}
 use Rattle.ieee.proofs.LanguageQuotient.{counted}
 use Rattle.ieee.proofs.Operands.{class-of, seen, seen-some}
 use Rattle.ieee.proofs.Signalling.{signalling-is, is-class, no-signal}
-use Rattle.demands.specs.FlagDemand.{QuotientFlags, RootFlags, FlagDemand}
+use Rattle.demands.specs.computed.FlagDemand.{QuotientFlags, RootFlags, FlagDemand}
 use Rattle.demands.proofs.RootDemand.{root-demand}
 
 -- ---- classes, from what the logic reads
@@ -54,7 +54,7 @@ infinite-class p s e = go (classOf p) refl (read p)
 zero-class : (p : ℕ) → T (finite (valueOf p)) → num (valueOf p) ≡ 0 → classOf p ≡ Zero
 zero-class p h z = ⊎-elim (λ k. k .0) (λ k. absurd (omega (arith, counted p (k .0)))) (class-of p (seen p h .below))
 
-nonzero-class : (p : ℕ) → 0 < num (valueOf p) → IsNonzero p
+nonzero-class : (p : ℕ) → 0 < num (valueOf p) → FiniteNonzero p
 nonzero-class p h = let s = seen-some p h in ⊎-elim (λ k. absurd (omega (arith, k .1, s .1))) (λ k. k .0) (class-of p (s .0 .below))
 
 finite-class : (p : ℕ) → T (finite (valueOf p)) → IsFinite p
@@ -102,7 +102,7 @@ record Finite (a b n : ℕ) : Type 0 where
   tiny : n ≡ 3 → magnitude a * 2 ^ 1022 < magnitude b
   not-tiny : n ≡ 1 → magnitude b ≤ magnitude a * 2 ^ 1022
 
-finite-flags : (direction a b : ℕ) {x : Binary64Result} → Ieee direction a b x → IsNonzero a → IsNonzero b → Finite a b (x .flags)
+finite-flags : (direction a b : ℕ) {x : Binary64Result} → Ieee direction a b x → FiniteNonzero a → FiniteNonzero b → Finite a b (x .flags)
 finite-flags direction a b {x} i h k =
     let u = i .quotient h k in
     let t = quotient-tiny (magnitude a) (magnitude b) in
@@ -134,7 +134,7 @@ quotient-flags direction a b {x} i =
 
 -- ---- roots
 
-root-flags : (direction p : ℕ) {x : Binary64Result} → IeeeRoot direction p x → (negative p ≡ false → IsNonzero p → RootPlain p x) → RootFlags p (x .flags)
+root-flags : (direction p : ℕ) {x : Binary64Result} → IeeeRoot direction p x → (negative p ≡ false → FiniteNonzero p → RootPlain p x) → RootFlags p (x .flags)
 root-flags direction p i plain = record {
   signalling = λ s. flags-of (i .nan (is-class p (s .0))) ∙ rw (is-true (signalling p) (signalling-is p .1 s));
   quiet = λ e q. flags-of (i .nan (is-class p e)) ∙ rw (no-signal p q);
@@ -145,6 +145,7 @@ root-flags direction p i plain = record {
   above-zero = λ s h. plain (sign-read p h ∙ s) (nonzero-class p h) .flags;
 }
 
+-- § 9.8 Each flag is raised exactly under its condition, for quotients and roots.
 pub flag-demand : FlagDemand
 flag-demand = record {
   quotient = λ t ok direction a b h. quotient-flags direction a b (ieee-through t ok direction a b h);

@@ -1,11 +1,11 @@
 -- The worked flags: through every table that passes an answer is the computed quotient.
 use Rattle.laws.proofs.Basics.{_≡_, List, ℕ, lit≤}
 use Rattle.selection.specs.Table.{Passes}
-use Rattle.division.specs.Computed.{finiteRounded, quotientOf}
-use Rattle.division.specs.Format.{binary64Values}
-use Rattle.division.specs.Binary64.{binary64Of}
-use Rattle.division.proofs.Answers.{binary64-answer}
-use Rattle.demands.specs.FlagExamples.{FlagExamples}
+use Rattle.division.specs.computed.Rounding.{finiteRounded, quotientOf}
+use Rattle.division.specs.computed.Format.{binary64Values}
+use Rattle.division.specs.computed.Binary64.{binary64Of}
+use Rattle.division.proofs.AdmittedAnswers.{binary64-answer}
+use Rattle.demands.specs.computed.FlagExamples.{FlagExamples}
 use Rattle.selection.specs.declared.Estimate.the-variants.{EightBits}
 
 abbrev Computed : List ℕ → ℕ → ℕ → ℕ → Type 0
@@ -15,6 +15,7 @@ Computed t a b direction = binary64Of t direction a b ≡ binary64Values (quotie
 all : (t : List ℕ) → Passes EightBits t → (a b : ℕ) → Computed t a b 0 × Computed t a b 1 × Computed t a b 2 × Computed t a b 3
 all t p a b = (binary64-answer t p 0 a b (lit≤ tt), binary64-answer t p 1 a b (lit≤ tt), binary64-answer t p 2 a b (lit≤ tt), binary64-answer t p 3 a b (lit≤ tt))
 
+-- § 9.3 Flags are shown in numbers.
 pub flag-examples : FlagExamples
 unfolding finiteRounded
 flag-examples = record {

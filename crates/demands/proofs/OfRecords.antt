@@ -1,5 +1,5 @@
 -- Affected records, as C is told.
-use Rattle.laws.proofs.Basics.{_≡_, refl, sym, ap, _∙_, Bool, true, false, cond, _⊎_, inl, inr, ⊎-elim, ℤ, pos, _-ℤ_, List, ℕ, _+_, _-_, _*_, _^_, _<_, _≤_, arith, getD, lit<}
+use Rattle.laws.proofs.Basics.{_≡_, refl, sym, ap, _∙_, Bool, true, false, cond, _⊎_, inl, inr, ⊎-elim, ℤ, pos, _-ℤ_, List, ℕ, _+_, _-_, _*_, _^_, _<_, _≤_, arith, length, getD, lit<}
 use native.Mathlib.Nat.{mul-assoc, mul-le-mul-left, mul-le-mul-right}
 use lib.Count.{leading-length}
 use lib.Pow.{pow-add, pow-mono}
@@ -7,20 +7,23 @@ use lib.Signed.{nonNeg}
 use Rattle.laws.proofs.Division.{le-or-lt}
 use Rattle.laws.proofs.Powers.{four-pow, lifted, pow-cancel}
 use Rattle.laws.specs.Shifts.{shiftTo}
+use Rattle.selection.proofs.RefusalNames.{refusal, answerBy, firstRefusal, refused-at}
+use Rattle.selection.specs.declared.Admission.the-variants.{Refused}
 use Rattle.recurrence.specs.Recurrence.{cellAt, after, digitOf, digits, value, endRemainder, correctedQuotient}
-use Rattle.recurrence.specs.Recheck.{RunMarkClaim, affectedRunOf}
+use Rattle.recurrence.specs.computed.Recheck.{RunMarkClaim, affectedRunRules, affectedRunOf}
 use Rattle.recurrence.specs.declared.recheck.AffectedMark.{AffectedMark}
 use Rattle.recurrence.specs.declared.RunResult.{RunResult}
 use Rattle.recurrence.proofs.Digits.{digit-at}
+use Rattle.recurrence.proofs.RecheckRun.{affected-run-rules}
 use Rattle.laws.proofs.Lists.{list-length}
-use Rattle.division.specs.Recheck.{runOperand, recheckOf, affectedOf}
-use Rattle.division.specs.RecheckWhole.{wholeDividend, wholeCount, recheckWholeOf}
-use Rattle.division.specs.WholeSteps.{digitsAfter}
+use Rattle.division.specs.computed.Recheck.{runOperand, AffectedOutcome, recheckRules, affectedOf}
+use Rattle.division.specs.computed.RecheckWhole.{wholeDividend, wholeCount, recheckWholeOf}
+use Rattle.division.specs.computed.WholeSteps.{digitsAfter}
 use Rattle.division.proofs.WholeThrough.{after-bounds, whole-exact}
-use Rattle.division.specs.declared.recheck.AffectedAnswer.{AffectedAnswer}
-use Rattle.demands.proofs.Demand1.{demand-1}
+use Rattle.division.proofs.Rechecking.{recheck-rules}
+use Rattle.division.proofs.RecheckingWhole.{recheck-whole-rules}
 use Rattle.demands.proofs.RecheckDemand.{recheck-demand}
-use Rattle.demands.specs.Calls.{MarksRun, AffectsSamples, AffectsWhole, AffectsRun}
+use Rattle.demands.specs.Calls.{MarksRun, AffectedOnly, AffectsSamples, AffectsWhole, AffectsRun}
 use Rattle.demands.proofs.OfRuns.{steps-of}
 use Rattle.selection.specs.declared.Estimate.{Estimate}
 
@@ -83,18 +86,19 @@ module _ (E : Estimate) where
         (λ w. absurd (⊎-elim (w .number) (w .less-one) q))
         (c .neither o))
         either;
-    bad = λ o. let w = c .bad o in (w .step, w .early, w .bad);
+    faulty = λ o. let w = c .faulty o in (w .step, w .early, w .faulty);
   }
 
-  pub affects-samples : {t currents sensitivities given out : List ℕ} {x : AffectedAnswer}
-      → (x ≡ recheckOf E t currents sensitivities given) × (out ≡ affectedOf E t currents sensitivities given) → AffectsSamples E t currents sensitivities given out x
+  pub affects-samples : {t currents sensitivities given : List ℕ} {x : AffectedOutcome} → x ≡ affectedOf E t currents sensitivities given → AffectsSamples E t currents sensitivities given (x .affected) (x .answer)
   affects-samples {t} {currents = xs} {sensitivities = ys} {given} e =
-      let d = demand-1 .recheck E t xs ys given in
-      rw (e .0, e .1)
+      let o = affectedOf E t xs ys given in
+      let only : (n : ℕ) → firstRefusal (recheckRules (length t) (length xs) (length ys) (length given)) ≡ Refused (refusal n 0) → AffectedOnly given (o .affected) (o .answer) n = λ n f. rw f (refl, refl) in
+      let rules = recheck-rules (length t) (length xs) (length ys) (length given) in
+      rw e
       (record {
-        lengths = λ h. let f = demand-1 .conditions .recheck-lengths E t xs ys given h in (f, d .kept 11 0 (d .answer .by .exactly 11 0 (omega arith) .0 (ap (λ (x : AffectedAnswer). x .refusal) f)));
-        room = λ s h. let f = demand-1 .conditions .recheck-room E t xs ys given s h in (f, d .kept 7 0 (d .answer .by .exactly 7 0 (omega arith) .0 (ap (λ (x : AffectedAnswer). x .refusal) f)));
-        size = λ s r h. let f = demand-1 .conditions .recheck-length E t xs ys given s r h in (f, d .kept 8 0 (d .answer .by .exactly 8 0 (omega arith) .0 (ap (λ (x : AffectedAnswer). x .refusal) f)));
+        lengths = λ h. only 11 (refused-at rules 0 0 (refl, h));
+        room = λ s h. only 7 (refused-at rules 1 0 (s, (refl, h)));
+        size = λ s r h. only 8 (refused-at rules 2 0 (s, (r, (refl, h))));
         marked = λ s r h. let m = recheck-demand E .told t xs ys given h s r in record {
           nothing = m .done;
           by-class = m .by-class;
@@ -112,10 +116,10 @@ module _ (E : Estimate) where
 
   pub affects-whole : {t : List ℕ} {a b : ℕ} {x : AffectedMark} → x ≡ recheckWholeOf E t a b → AffectsWhole E t a b x
   affects-whole {t} {a} {b} e = rw e (record {
-    large = demand-1 .conditions .recheck-large E t a b;
-    by-zero = demand-1 .conditions .recheck-by-zero E t a b;
-    size = demand-1 .conditions .recheck-whole-length E t a b;
-    nothing = demand-1 .conditions .recheck-whole-told E t a b;
+    large = λ h. ap (answerBy _ _) (refused-at (recheck-whole-rules (length t) a b) 0 0 (refl, h));
+    by-zero = λ ha z. ap (answerBy _ _) (refused-at (recheck-whole-rules (length t) a b) 1 0 ((ha, omega arith), (refl, z)));
+    size = λ ha hz hb h. ap (answerBy _ _) (refused-at (recheck-whole-rules (length t) a b) 2 0 ((ha, hb), ((λ z. omega arith), (refl, h))));
+    nothing = λ ha hz hb h. recheck-demand E .whole-told t a b h ha hz hb .done;
     marked = λ ha hz hb h.
         let d = recheck-demand E .whole-told t a b h ha hz hb in
         let l = lifted 60 b (lit< tt) hz hb in
@@ -134,10 +138,14 @@ module _ (E : Estimate) where
   })
 
   pub affects-run : {t : List ℕ} {N D n : ℕ} {x : AffectedMark} → x ≡ affectedRunOf E t N D n → AffectsRun E t N D n x
-  affects-run {t} {N} {D} {n} e = rw e (record {
-    digits = demand-1 .conditions .recheck-digits E t N D n;
-    operands = demand-1 .conditions .recheck-operands E t N D n;
-    size = λ some most a b c. demand-1 .conditions .recheck-run-length E t N D n (record { dividend = a; least = b; most = c }) some most;
-    nothing = λ some most a b c. demand-1 .conditions .recheck-run-told E t N D n (record { dividend = a; least = b; most = c }) some most;
-    marked = λ some most a b c h. let d = recheck-demand E .run-told t N D n h (record { dividend = a; least = b; most = c }) some most in marks-run (d .claim) (d .mark);
-  })
+  unfolding affectedRunRules
+  affects-run {t} {N} {D} {n} e =
+      let rules = affected-run-rules (length t) N D n in
+      rw e
+      (record {
+        digits = λ h. ap (answerBy _ _) (refused-at rules 0 0 (refl, h));
+        operands = λ some most h. ap (answerBy _ _) (refused-at rules 1 0 (((λ z. omega arith), most), (refl, ⊎-elim (λ x. inl (inl x)) (⊎-elim (λ x. inl (inr (omega arith))) (λ x. inr (omega arith))) h)));
+        size = λ some most a b c h. ap (answerBy _ _) (refused-at rules 2 0 (((λ z. omega arith), most), (((b, omega arith), omega arith), (refl, h))));
+        nothing = λ some most a b c h. recheck-demand E .run-told t N D n h (record { dividend = a; least = b; most = c }) some most .done;
+        marked = λ some most a b c h. let d = recheck-demand E .run-told t N D n h (record { dividend = a; least = b; most = c }) some most in marks-run (d .claim) (d .mark);
+      })

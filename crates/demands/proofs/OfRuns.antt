@@ -3,26 +3,23 @@ use Rattle.laws.proofs.Basics.{_≡_, refl, sym, ap, _∙_, inl, inr, ⊎-elim,
 use lib.ListN.{List·getD-append}
 use lib.Seq.{getD-append-add, getD-drop, getD-take}
 use lib.Signed.{clashℤ}
-use Rattle.selection.proofs.Refusing.{refusal, refusalOf, answerBy, firstRefusal, tableRules, clear-admits, refused-at}
+use Rattle.selection.proofs.RefusalNames.{refusal, answerBy, firstRefusal, tableRules, clear-admits, refused-at}
 use Rattle.selection.proofs.MadeTables.{made-table-is, kept-passes}
-use Rattle.selection.specs.Computed.{madeTable}
+use Rattle.selection.specs.computed.Outcomes.{madeTable}
 use Rattle.selection.specs.Table.{Passes}
-use Rattle.selection.specs.declared.Refusal.{Refusal}
 use Rattle.selection.specs.declared.Admission.the-variants.{Refused}
 use Rattle.recurrence.specs.Recurrence.{cellAt, nextOf, after, digits}
-use Rattle.recurrence.specs.Run.{runRules, runOf, bufferOf}
-use Rattle.recurrence.specs.Step.{stepRules, stepOf}
-use Rattle.recurrence.specs.Visits.{isAt, runVisits, visitsOf, visitsRules, visitsAnswer, visitsLeft, operand}
-use Rattle.recurrence.specs.declared.RunAnswer.{RunAnswer}
-use Rattle.recurrence.specs.declared.step.StepAnswer.{StepAnswer}
+use Rattle.recurrence.specs.computed.Run.{runRules, RunOutcome, runOf}
+use Rattle.recurrence.specs.computed.Step.{stepRules, stepOf}
+use Rattle.recurrence.specs.computed.Visits.{isAt, runVisits, allVisits, visitsRules, VisitsOutcome, visitsOf, operand}
+use Rattle.recurrence.specs.declared.step.Stepped.{Stepped}
 use Rattle.recurrence.proofs.Digits.{divisor-after, digit-at}
 use Rattle.recurrence.proofs.Refusals.{run-lent, no-refusal}
 use Rattle.recurrence.proofs.RunDemand.{run-claim}
-use Rattle.recurrence.proofs.StepRange.{by-neither}
+use Rattle.recurrence.proofs.StepRange.{step-lent, by-neither}
 use Rattle.recurrence.proofs.StepDemand.{step-demand}
 use Rattle.recurrence.proofs.VisitCounts.{visits-rules, visits-lent, visits-demand}
-use Rattle.demands.proofs.Demand1.{demand-1}
-use Rattle.demands.specs.Calls.{Steps, RunTakes, RunOnly, Ran, Runs, RunsKept, StepsOnce, VisitsOnly, CountsVisits}
+use Rattle.demands.specs.Calls.{Steps, RunTakes, RunOnly, DividedRun, Runs, RunsKept, StepsOnce, VisitsOnly, CountsVisits}
 use Rattle.demands.proofs.Refused.{of-table}
 use Rattle.selection.specs.declared.Estimate.{Estimate}
 use Rattle.selection.specs.declared.Estimate.the-variants.{EightBits}
@@ -68,10 +65,10 @@ module _ (b ds : List ℕ) (place n : ℕ) (many : length ds ≡ n) (room : plac
       ∙ getD-append-add ds (drop (place + n) b) k 0 ∙ getD-drop (place + n) b k 0 ∙ ap (λ (m : ℕ). getD b m 0) (sym g)
 
 module _ (t : List ℕ) (N D n : ℕ) (b : List ℕ) (place : ℕ) where
-  only : (k p : ℕ) → firstRefusal (runRules N D n (length b) place ++ tableRules EightBits t) ≡ Refused (refusal k p) → RunOnly b (bufferOf t N D n b place) (runOf t N D n b place) k p
-  only k p e = (ap (answerBy _ _) e, ap (answerBy _ _) e)
+  only : (k p : ℕ) → firstRefusal (runRules N D n (length b) place ++ tableRules EightBits t) ≡ Refused (refusal k p) → RunOnly b (runOf t N D n b place .buffer) (runOf t N D n b place .answer) k p
+  only k p e = rw e (refl, refl)
 
-  ran : RunTakes N D n b place → Passes EightBits t → Ran t N D n b place (bufferOf t N D n b place) (runOf t N D n b place)
+  ran : RunTakes N D n b place → Passes EightBits t → DividedRun t N D n b place (runOf t N D n b place .buffer) (runOf t N D n b place .answer)
   unfolding steps-of after
   ran r ok =
       let c = run-claim t ok N D n b place (record { dividend = r .dividend; least = r .least; most = r .divisor }) (r .some) (r .most) (r .room) in
@@ -89,7 +86,7 @@ module _ (t : List ℕ) (N D n : ℕ) (b : List ℕ) (place : ℕ) where
         behind = λ j h. rw (c .written) (part-behind b (digits EightBits t N D n) place n (c .steps .many) (r .room) j h);
       }
 
-  runs-as : Runs t N D n b place (bufferOf t N D n b place) (runOf t N D n b place)
+  runs-as : Runs t N D n b place (runOf t N D n b place .buffer) (runOf t N D n b place .answer)
   unfolding runRules
   runs-as = record {
     refuses = record {
@@ -108,11 +105,11 @@ module _ (t : List ℕ) (N D n : ℕ) (b : List ℕ) (place : ℕ) where
     ran = ran;
   }
 
-pub runs : {t : List ℕ} {N D n : ℕ} {b : List ℕ} {place : ℕ} {out : List ℕ} {x : RunAnswer} → (x ≡ runOf t N D n b place) × (out ≡ bufferOf t N D n b place) → Runs t N D n b place out x
-runs {t} {N} {D} {n} {b} {place} e = rw (e .0, e .1) (runs-as t N D n b place)
+pub runs : {t : List ℕ} {N D n : ℕ} {b : List ℕ} {place : ℕ} {x : RunOutcome} → x ≡ runOf t N D n b place → Runs t N D n b place (x .buffer) (x .answer)
+runs {t} {N} {D} {n} {b} {place} e = rw e (runs-as t N D n b place)
 
-pub runs-kept : {N D n : ℕ} {b : List ℕ} {place : ℕ} {out : List ℕ} {x : RunAnswer} → (x ≡ runOf (madeTable EightBits) N D n b place) × (out ≡ bufferOf (madeTable EightBits) N D n b place) → RunsKept N D n b place out x
-runs-kept {N} {D} {n} {b} {place} e = rw (e .0, e .1) (record {
+pub runs-kept : {N D n : ℕ} {b : List ℕ} {place : ℕ} {x : RunOutcome} → x ≡ runOf (madeTable EightBits) N D n b place → RunsKept N D n b place (x .buffer) (x .answer)
+runs-kept {N} {D} {n} {b} {place} e = rw e (record {
   refuses = runs-as (madeTable EightBits) N D n b place .refuses;
   table = madeTable EightBits;
   made = made-table-is EightBits;
@@ -121,23 +118,23 @@ runs-kept {N} {D} {n} {b} {place} e = rw (e .0, e .1) (record {
 
 -- ---- one step
 
-pub steps-once : {s k D : ℕ} {t : List ℕ} {x : StepAnswer} → x ≡ stepOf s k D t → StepsOnce s k D t x
+pub steps-once : {s k D : ℕ} {t : List ℕ} {x : Stepped} → x ≡ stepOf s k D t → StepsOnce s k D t x
+unfolding stepRules
 steps-once {s} {k} {D} {t} e = rw e (record {
-  divisor = demand-1 .conditions .step-divisor s k D t;
-  outside = demand-1 .conditions .step-range s k D t;
+  divisor = λ h. ap (answerBy _ _) (refused-at (step-lent s k D t) 0 0 (refl, ⊎-elim inl (λ x. inr (omega arith)) h));
+  outside = λ least most h. ap (answerBy _ _) (refused-at (step-lent s k D t) 1 0 ((least, omega arith), (refl, h)));
   table = λ least most w. of-table EightBits t (stepRules s k D) (by-neither s k D least most (⊎-elim (λ x. clashℤ x (w .low)) (λ x. clashℤ x (w .high)))) (λ n p _ f. ap (answerBy _ _) f);
   step = λ least most w ok. step-demand .step s k D t ok least most w;
 })
 
 -- ---- visits
 
-pub counts-visits : {t : List ℕ} {k n : ℕ} {v out : List ℕ} {f : Refusal} → (f ≡ visitsAnswer t k n v) × (out ≡ visitsLeft t k n v) → CountsVisits t k n v out f
-unfolding visitsRules visitsOf runVisits isAt
+pub counts-visits : {t : List ℕ} {k n : ℕ} {v : List ℕ} {x : VisitsOutcome} → x ≡ visitsOf t k n v → CountsVisits t k n v (x .visits) (x .answer)
+unfolding visitsRules allVisits runVisits isAt
 counts-visits {t} {k} {n} {v} e =
-    let only : (m p : ℕ) → firstRefusal (visitsRules k n (length v) ++ tableRules EightBits t) ≡ Refused (refusal m p) → VisitsOnly v (visitsLeft t k n v) (visitsAnswer t k n v) m p
-    = λ m p g. (ap refusalOf g, ap (answerBy _ _) g) in
-    rw (e .0, e .1)
-    (record {
+    let only : (m p : ℕ) → firstRefusal (visitsRules k n (length v) ++ tableRules EightBits t) ≡ Refused (refusal m p) → VisitsOnly v (visitsOf t k n v .visits) (visitsOf t k n v .answer) m p
+    = λ m p g. rw g (refl, refl) in
+    rw e (record {
       digits = λ h. only 2 0 (refused-at (visits-lent k n (length v) t) 0 0 (refl, h));
       bits = λ some most h. only 16 0 (refused-at (visits-lent k n (length v) t) 1 0 (((λ z. omega arith), most), (refl, h)));
       room = λ some most least few h. only 7 0 (refused-at (visits-lent k n (length v) t) 2 0 (((λ z. omega arith), most), (((λ z. omega arith), few), (refl, h))));

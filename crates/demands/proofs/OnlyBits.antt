@@ -4,8 +4,8 @@ use Rattle.laws.proofs.Division.{le-or-lt, same-or-other}
 use Rattle.selection.specs.declared.Refusal.{Refusal}
 use Rattle.selection.specs.declared.Estimate.{Estimate}
 use Rattle.selection.specs.declared.Estimate.the-variants.{SevenBits, EightBits}
-use Rattle.selection.specs.declared.repair.RepairAnswer.{RepairAnswer}
-use Rattle.division.specs.declared.recheck.AffectedAnswer.{AffectedAnswer}
+use Rattle.selection.specs.declared.repair.Repaired.{Repaired}
+use Rattle.division.specs.declared.recheck.AffectedCount.{AffectedCount}
 use Rattle.demands.specs.Calls.{told, reportOnly, cellOnly, markOnly, RepairOnly, AffectedOnly, ForBits, ChecksTable, ChecksCell, TellsLimits, MakesTable, RepairsTable, AffectsSamples, AffectsWhole, AffectsRun, ChecksTableFor, ChecksCellFor, TellsLimitsFor, MakesTableFor, RepairsTableFor, AffectsSamplesFor, AffectsWholeFor, AffectsRunFor}
 use Rattle.demands.specs.Determined.{Determined}
 use Rattle.demands.proofs.OnlyTable.{table-only}
@@ -38,12 +38,12 @@ limits-for-only n r = bits-only n _ (record { refusal = told 17 0; limits = 0 �
 pub make-for-only : (n : ℕ) (s : List ℕ) → Determined (λ (z : Refusal × List ℕ). MakesTableFor n s (z .1) (z .0))
 make-for-only n s = bits-only n (λ (z : Refusal × List ℕ). (z .0 ≡ told 17 0) × (z .1 ≡ s)) (told 17 0, s) (λ z e. λ i. (e .0 i, e .1 i)) (λ E z. MakesTable E s (z .1) (z .0)) (λ E. make-only E s)
 
-pub repair-for-only : (n : ℕ) (t rs cs : List ℕ) → Determined (λ (z : RepairAnswer × List ℕ × List ℕ). RepairsTableFor n t rs cs (z .1) (z .2) (z .0))
-repair-for-only n t rs cs = bits-only n (λ (z : RepairAnswer × List ℕ × List ℕ). RepairOnly rs cs (z .1) (z .2) (z .0) 17) (record { refusal = told 17 0; count = 0 }, rs, cs) (λ z e. λ i. (e .0 i, e .1 i, e .2 i))
+pub repair-for-only : (n : ℕ) (t rs cs : List ℕ) → Determined (λ (z : Repaired × List ℕ × List ℕ). RepairsTableFor n t rs cs (z .1) (z .2) (z .0))
+repair-for-only n t rs cs = bits-only n (λ (z : Repaired × List ℕ × List ℕ). RepairOnly rs cs (z .1) (z .2) (z .0) 17) (record { refusal = told 17 0; count = 0 }, rs, cs) (λ z e. λ i. (e .0 i, e .1 i, e .2 i))
     (λ E z. RepairsTable E t rs cs (z .1) (z .2) (z .0)) (λ E. repair-only E t rs cs)
 
-pub affected-for-only : (n : ℕ) (t currents sensitivities given : List ℕ) → Determined (λ (z : AffectedAnswer × List ℕ). AffectsSamplesFor n t currents sensitivities given (z .1) (z .0))
-affected-for-only n t xs ys given = bits-only n (λ (z : AffectedAnswer × List ℕ). AffectedOnly given (z .1) (z .0) 17) (record { refusal = told 17 0; count = 0 }, given) (λ z e. λ i. (e .0 i, e .1 i))
+pub affected-for-only : (n : ℕ) (t currents sensitivities given : List ℕ) → Determined (λ (z : AffectedCount × List ℕ). AffectsSamplesFor n t currents sensitivities given (z .1) (z .0))
+affected-for-only n t xs ys given = bits-only n (λ (z : AffectedCount × List ℕ). AffectedOnly given (z .1) (z .0) 17) (record { refusal = told 17 0; count = 0 }, given) (λ z e. λ i. (e .0 i, e .1 i))
     (λ E z. AffectsSamples E t xs ys given (z .1) (z .0)) (λ E. affected-only E t xs ys given)
 
 pub affected-whole-for-only : (n : ℕ) (t : List ℕ) (a b : ℕ) → Determined (AffectsWholeFor n t a b)

@@ -7,16 +7,17 @@ use Rattle.laws.proofs.Lists.{kept-one}
 use Rattle.laws.proofs.Sums.{sum-as}
 use Rattle.laws.proofs.Tests.{either}
 use Rattle.selection.specs.declared.Refusal.{Refusal}
-use Rattle.recurrence.specs.Visits.{visitsRules, visitsAnswer, visitsLeft}
+use Rattle.recurrence.specs.computed.Visits.{visitsRules, visitsOf}
 use Rattle.recurrence.proofs.VisitCounts.{visits-rules}
-use Rattle.division.specs.Samples.{Joined, samplesRules, samplesOf, concentrationsOf}
-use Rattle.division.specs.declared.samples.SamplesAnswer.{SamplesAnswer}
+use Rattle.division.specs.Samples.{Joined}
+use Rattle.division.specs.computed.Samples.{samplesRules, samplesOf}
+use Rattle.division.specs.declared.samples.Samples.{Samples}
 use Rattle.division.specs.declared.format.Binary64Result.{Binary64Result}
 use Rattle.division.proofs.IeeeOne.{ieee-one}
 use Rattle.division.proofs.JoinedFlags.{joined-one}
 use Rattle.division.proofs.SampleRuns.{samples-rules}
-use Rattle.exposure.specs.Averages.{averagesRules}
-use Rattle.exposure.specs.Computed.{averagesOf, meansOf, remaindersOf}
+use Rattle.exposure.specs.computed.Averages.{averagesRules}
+use Rattle.exposure.specs.computed.Outcomes.{averagesOf}
 use Rattle.exposure.proofs.Refusals.{averages-rules}
 use Rattle.demands.specs.Calls.{told, SamplesOnly, DividedSamples, DividesSamples, MeanOf, AveragesTakes, AveragesWindows, VisitsOnly, VisitsCounted, CountsVisits}
 use Rattle.demands.specs.Determined.{Determined}
@@ -38,7 +39,7 @@ joined-as e k = record {
   );
 }
 
-divided-one : {direction : ℕ} {currents sensitivities given out other : List ℕ} (x y : SamplesAnswer)
+divided-one : {direction : ℕ} {currents sensitivities given out other : List ℕ} (x y : Samples)
     → DividedSamples direction currents sensitivities given out x → DividedSamples direction currents sensitivities given other y → (x ≡ y) × (out ≡ other)
 divided-one {direction} {currents = xs} {sensitivities = ys} {out} {other} x y u v =
     let p : ℕ → Binary64Result = λ j. record { pattern = getD out j 0; flags = u .flags-of j } in
@@ -51,7 +52,7 @@ divided-one {direction} {currents = xs} {sensitivities = ys} {out} {other} x y u
     ((λ i. record { refusal = a i; flags = f i; count = c i }), kept-one (u .kept) (v .kept) (λ j h. ap (λ (z : Binary64Result). z .pattern) (one j h)))
 
 pub samples-only : (t : List ℕ) (direction : ℕ) (currents sensitivities given : List ℕ)
-    → Determined (λ (z : SamplesAnswer × List ℕ). DividesSamples t direction currents sensitivities given (z .1) (z .0))
+    → Determined (λ (z : Samples × List ℕ). DividesSamples t direction currents sensitivities given (z .1) (z .0))
 samples-only t d xs ys given = cases (samplesRules d (length xs) (length ys) (length given)) (samples-rules d (length xs) (length ys) (length given) .sound) (
   (λ p w. record { answer = (record { refusal = told 6 0; flags = 0; count = 0 }, given); only = λ z k. let e = k .unknown (w .1) in λ i. (e .0 i, e .1 i) }),
   (λ h. (
@@ -61,9 +62,9 @@ samples-only t d xs ys given = cases (samplesRules d (length xs) (length ys) (le
       (λ r. table-cases EightBits t
           (λ n p f. record { answer = (record { refusal = told n p; flags = 0; count = 0 }, given); only = λ z k. let e = f (SamplesOnly given (z .1) (z .0)) (k .table h s r) in λ i. (e .0 i, e .1 i) })
           (λ ok. record {
-            answer = (samplesOf t d xs ys given, concentrationsOf t d xs ys given);
+            answer = (samplesOf t d xs ys given .answer, samplesOf t d xs ys given .concentrations);
             only = λ z k.
-                let e = divided-one (z .0) (samplesOf t d xs ys given) (k .divided h s r ok) (divides-samples {t = t} {direction = d} {currents = xs} {sensitivities = ys} {given = given} (refl, refl) .divided h s r ok) in
+                let e = divided-one (z .0) (samplesOf t d xs ys given .answer) (k .divided h s r ok) (divides-samples {t = t} {direction = d} {currents = xs} {sensitivities = ys} {given = given} refl .divided h s r ok) in
                 λ i. (e .0 i, e .1 i);
           })),
     )),
@@ -96,9 +97,10 @@ averages-only xs w newest ms rs = cases (averagesRules xs w (length ms) (length 
       (λ p x. record { answer = (told 7 0, ms, rs); only = λ z k. let e = k .room some (width .1 .0) (width .1 .1) small (x .1) in λ i. (e .0 i, e .1 i, e .2 i) }),
       (λ room.
           let h : AveragesTakes xs w ms rs = record { some = some; most = width .1 .0; full = width .1 .1; small = small; means-room = room .0; remainders-room = room .1 } in
+          let o = averagesOf xs w newest ms rs in
           record {
-            answer = (averagesOf xs w ms rs, meansOf xs w newest ms rs, remaindersOf xs w newest ms rs);
-            only = λ z k. let e = windows-one h k (averages-windows {xs = xs} {w = w} {newestFirst = newest} {ms = ms} {rs = rs} (refl, refl, refl)) in λ i. (e .0 i, e .1 i, e .2 i);
+            answer = (o .answer, o .means, o .remainders);
+            only = λ z k. let e = windows-one h k (averages-windows {xs = xs} {w = w} {newestFirst = newest} {ms = ms} {rs = rs} refl) in λ i. (e .0 i, e .1 i, e .2 i);
           }),
     )),
   )),
@@ -124,9 +126,9 @@ visits-only t k n v = cases (visitsRules k n (length v)) (visits-rules k n (leng
       (λ room. table-cases EightBits t
           (λ m p f. record { answer = (told m p, v); only = λ z c. let e = f (VisitsOnly v (z .1) (z .0)) (c .table some (count .1) least (bits .1) room) in λ i. (e .0 i, e .1 i) })
           (λ ok. record {
-            answer = (visitsAnswer t k n v, visitsLeft t k n v);
+            answer = let x = visitsOf t k n v in (x .answer, x .visits);
             only = λ z c.
-                let e = counted-one (c .counted some (count .1) least (bits .1) room ok) (counts-visits {t = t} {k = k} {n = n} {v = v} (refl, refl) .counted some (count .1) least (bits .1) room ok) in
+                let e = counted-one (c .counted some (count .1) least (bits .1) room ok) (counts-visits {t = t} {k = k} {n = n} {v = v} refl .counted some (count .1) least (bits .1) room ok) in
                 λ i. (e .0 i, e .1 i);
           })),
     )),

@@ -1,5 +1,5 @@
 -- One answer fits: packed numbers and affected records.
-use Rattle.laws.proofs.Basics.{_≡_, refl, sym, subst, ap, _∙_, _⊎_, inl, inr, ⊎-elim, pos, List, [], _∷_, ℕ, _+_, _-_, _*_, _%_, _/_, _^_, _<_, _≤_, arith, length, getD, ltb, _||_, lit<}
+use Rattle.laws.proofs.Basics.{_≡_, sym, ap, _∙_, _⊎_, inl, inr, ⊎-elim, pos, List, [], _∷_, ℕ, _+_, _-_, _*_, _%_, _/_, _^_, _<_, _≤_, arith, length, getD, ltb, _||_, lit<}
 use native.Mathlib.Nat.{pos-of-ne-zero, le-antisymm, le-of-mul-le-mul-right, mul-lt-mul-of-pos-right, mul-le-mul-right, mul-assoc, mul-comm}
 use lib.Pow.{pow-add, pow-pos}
 use Rattle.laws.proofs.Comparisons.{not-below}
@@ -7,23 +7,24 @@ use Rattle.laws.proofs.Lists.{kept-one, list-length}
 use Rattle.laws.proofs.Counting.{tally-one}
 use Rattle.laws.proofs.Powers.{four-pow, lifted, pow-cancel}
 use Rattle.laws.specs.Shifts.{shiftTo}
-use Rattle.selection.proofs.Refusing.{below, eitherOf, holds-decides}
-use Rattle.selection.specs.Refusals.{Rule, number, numberFirst, same}
+use Rattle.selection.proofs.RefusalNames.{below, eitherOf, holds-decides}
+use Rattle.selection.specs.computed.Refusals.{Rule, number, numberFirst, same}
 use lib.IntN.{ℤ, _-ℤ_}
 use lib.Seq.{ext-getD}
 use Rattle.recurrence.specs.Recurrence.{digitOf, digits, value, endRemainder}
-use Rattle.recurrence.specs.Recheck.{byteRead, RunMarkClaim, affectedRunRules, affectedRunOf}
+use Rattle.recurrence.specs.computed.Recheck.{byteRead, RunMarkClaim, affectedRunRules, affectedRunOf}
 use Rattle.recurrence.proofs.RecheckRun.{affected-run-rules}
 use Rattle.recurrence.specs.declared.RunResult.{RunResult}
 use Rattle.recurrence.proofs.Digits.{digit-at}
-use Rattle.division.specs.Packed.{packedNumber, Decimal, packedOf}
-use Rattle.division.specs.Format.{IsNonzero, classOf}
-use Rattle.division.specs.Recheck.{OperandOf, recheckRules, recheckOf, affectedOf}
-use Rattle.division.specs.RecheckWhole.{wholeDividend, wholeDivisor, wholeCount, recheckWholeRules, recheckWholeOf}
-use Rattle.division.specs.declared.format.Class.{Class}
-use Rattle.division.specs.declared.format.Class.the-variants as K
-use Rattle.division.specs.declared.recheck.AffectedAnswer.{AffectedAnswer}
-use Rattle.division.specs.WholeSteps.{digitsAfter}
+use Rattle.division.specs.Packed.{packedNumber, Decimal}
+use Rattle.division.specs.computed.Packed.{packedOf}
+use Rattle.division.specs.Format.{FiniteNonzero}
+use Rattle.division.specs.Recheck.{OperandOf}
+use Rattle.division.specs.computed.Recheck.{recheckRules, affectedOf}
+use Rattle.division.specs.computed.RecheckWhole.{wholeDividend, wholeDivisor, wholeCount, recheckWholeRules, recheckWholeOf}
+use Rattle.division.specs.declared.recheck.AffectedCount.{AffectedCount}
+use Rattle.division.specs.computed.WholeSteps.{digitsAfter}
+use Rattle.division.proofs.Classes.{nonzero-class, by-kind}
 use Rattle.division.proofs.WholeThrough.{after-bounds}
 use Rattle.division.proofs.Rechecking.{recheck-rules}
 use Rattle.division.proofs.RecheckingWhole.{recheck-whole-rules}
@@ -102,25 +103,8 @@ four-pos k = rw (four-pow k) (pow-pos (k + k))
 -- ---- marks
 
 -- a pattern is finite and not 0, or it is not
-abbrev Nonzero : Class → Type 0
-Nonzero K.Zero = ⊥
-Nonzero K.Subnormal = Unit {0}
-Nonzero K.Normal = Unit {0}
-Nonzero K.Infinite = ⊥
-Nonzero K.Nan = ⊥
-
-nonzero-or-not : (p : ℕ) → IsNonzero p ⊎ (IsNonzero p → ⊥)
-nonzero-or-not p = go (classOf p) refl
-  where
-    class : IsNonzero p → Nonzero (classOf p)
-    class = ⊎-elim (λ f. subst Nonzero (sym f) tt) (λ f. subst Nonzero (sym f) tt)
-
-    go : (k : Class) → classOf p ≡ k → IsNonzero p ⊎ (IsNonzero p → ⊥)
-    go K.Zero e = inr (λ w. subst Nonzero e (class w))
-    go K.Subnormal e = inl (inl e)
-    go K.Normal e = inl (inr e)
-    go K.Infinite e = inr (λ w. subst Nonzero e (class w))
-    go K.Nan e = inr (λ w. subst Nonzero e (class w))
+nonzero-or-not : (p : ℕ) → FiniteNonzero p ⊎ (FiniteNonzero p → ⊥)
+nonzero-or-not p = by-kind p (λ e. inr (λ h. nonzero-class p h .0 e)) inl (λ e. inr (λ h. nonzero-class p h .1 e)) (λ e. inr (λ h. nonzero-class p h .2 e))
 
 -- in a divider with the estimate E
 module _ (E : Estimate) where
@@ -140,7 +124,7 @@ module _ (E : Estimate) where
       (λ (z : k ≡ 1). ⊎-elim (λ w. u .no-digit (w .step) (w .early) (rw (read (w .step) (w .early)) (w .above))) (λ w. u .wrong (λ e. w .number (sym S ∙ e)) (λ e. w .less-one (sym less ∙ e))) (c .neither z) ∙ sym z)
       either
 
-  pub affected-only : (t currents sensitivities given : List ℕ) → Determined (λ (z : AffectedAnswer × List ℕ). AffectsSamples E t currents sensitivities given (z .1) (z .0))
+  pub affected-only : (t currents sensitivities given : List ℕ) → Determined (λ (z : AffectedCount × List ℕ). AffectsSamples E t currents sensitivities given (z .1) (z .0))
   affected-only t xs ys given = cases (recheckRules (length t) (length xs) (length ys) (length given)) (recheck-rules (length t) (length xs) (length ys) (length given) .sound) (
     (λ p w. record { answer = (record { refusal = told 11 0; count = 0 }, given); only = λ z k. let e = k .lengths (w .1) in λ i. (e .0 i, e .1 i) }),
     (λ s. (
@@ -149,12 +133,12 @@ module _ (E : Estimate) where
         (λ p w. record { answer = (record { refusal = told 8 0; count = 0 }, given); only = λ z k. let e = k .size s r (w .1) in λ i. (e .0 i, e .1 i) }),
         (λ h.
             let d = recheck-demand E .told t xs ys given h s r in
-            let out = affectedOf E t xs ys given in
+            let o = affectedOf E t xs ys given in
             record {
-              answer = (recheckOf E t xs ys given, out);
+              answer = (o .answer, o .affected);
               only = λ z k.
                   let m = k .marked s r h in
-                  let each : (j : ℕ) → j < length xs → getD (z .1) j 0 ≡ getD out j 0 = λ j l. ⊎-elim
+                  let each : (j : ℕ) → j < length xs → getD (z .1) j 0 ≡ getD (o .affected) j 0 = λ j l. ⊎-elim
                   (λ a. ⊎-elim
                   (λ b.
                   let u = m .marks j l a b in
@@ -165,9 +149,9 @@ module _ (E : Estimate) where
                   (nonzero-or-not (getD ys j 0)))
                   (λ a. m .by-class j l (inl a) ∙ sym (d .by-class j l (inl a)))
                   (nonzero-or-not (getD xs j 0)) in
-                  let e : z .1 ≡ out = kept-one (m .kept) (d .rechecked .kept) each in
-                  let c : z .0 .count ≡ recheckOf E t xs ys given .count = tally-one (rw e at (m .count)) (d .count) in
-                  let f : z .0 .refusal ≡ recheckOf E t xs ys given .refusal = m .nothing ∙ sym (d .done) in
+                  let e : z .1 ≡ o .affected = kept-one (m .kept) (d .rechecked .kept) each in
+                  let c : z .0 .count ≡ o .answer .count = tally-one (rw e at (m .count)) (d .count) in
+                  let f : z .0 .refusal ≡ o .answer .refusal = m .nothing ∙ sym (d .done) in
                   λ i. (record { refusal = f i; count = c i }, e i);
             }),
       )),

@@ -6,16 +6,16 @@ use lib.Signed.{_<ℤ_, _≤ℤ_, ltZ, ltZ-yes, ltZ-no}
 use Rattle.laws.proofs.Tests.{either}
 use native.Mathlib.Nat.{pos-of-ne-zero}
 use Rattle.selection.specs.Word.{signed, Within}
-use Rattle.selection.specs.Computed.{madeTable}
+use Rattle.selection.specs.computed.Outcomes.{madeTable}
 use Rattle.selection.proofs.MadeTables.{made-table-is, kept-passes}
 use Rattle.selection.proofs.UniqueMade.{made-one}
-use Rattle.recurrence.specs.Run.{runRules, runOf, bufferOf}
-use Rattle.recurrence.specs.Step.{stepRules, stepOf}
-use Rattle.recurrence.specs.declared.RunAnswer.{RunAnswer}
+use Rattle.recurrence.specs.computed.Run.{runRules, runOf}
+use Rattle.recurrence.specs.computed.Step.{stepRules, stepOf}
+use Rattle.recurrence.specs.declared.Ran.{Ran}
 use Rattle.recurrence.proofs.Refusals.{run-rules}
 use Rattle.recurrence.proofs.StepRange.{step-rules}
 use Rattle.recurrence.proofs.StepDemand.{step-demand}
-use Rattle.demands.specs.Calls.{told, Steps, RunTakes, RunOnly, Ran, Runs, RunsKept, stepOnly, StepsOnce}
+use Rattle.demands.specs.Calls.{told, Steps, RunTakes, RunOnly, DividedRun, Runs, RunsKept, stepOnly, StepsOnce}
 use Rattle.demands.specs.Determined.{Determined}
 use Rattle.demands.proofs.ByCases.{cases, table-cases}
 use Rattle.demands.proofs.OfRuns.{runs}
@@ -39,7 +39,7 @@ module _ (E : Estimate) where
 
 -- ---- the run
 
-ran-one : {t : List ℕ} {N D n : ℕ} {b : List ℕ} {place : ℕ} {out other : List ℕ} (x y : RunAnswer) → Ran t N D n b place out x → Ran t N D n b place other y → (x ≡ y) × (out ≡ other)
+ran-one : {t : List ℕ} {N D n : ℕ} {b : List ℕ} {place : ℕ} {out other : List ℕ} (x y : Ran) → DividedRun t N D n b place out x → DividedRun t N D n b place other y → (x ≡ y) × (out ≡ other)
 ran-one {t} {N} {D} {n} {b} {place} {out} {other} x y u v =
     let p = quotient (sym (u .divides)) (u .below) in
     let q = quotient (sym (v .divides)) (v .below) in
@@ -57,7 +57,7 @@ ran-one {t} {N} {D} {n} {b} {place} {out} {other} x y u v =
     (le-or-lt (place + n) j) in
     ((λ i. record { refusal = a i; quotient = d i; remainder = r i; digits = c i }), ext-getD 0 out other (u .size ∙ sym (v .size)) (λ j h. each j))
 
-pub run-only : (t : List ℕ) (N D n : ℕ) (b : List ℕ) (place : ℕ) → Determined (λ (z : RunAnswer × List ℕ). Runs t N D n b place (z .1) (z .0))
+pub run-only : (t : List ℕ) (N D n : ℕ) (b : List ℕ) (place : ℕ) → Determined (λ (z : Ran × List ℕ). Runs t N D n b place (z .1) (z .0))
 unfolding runRules
 run-only t N D n b place = cases (runRules N D n (length b) place) (run-rules N D n (length b) place .sound) (
   (λ p w. record { answer = (record { refusal = told 2 0; quotient = 0; remainder = 0; digits = 0 }, b); only = λ z k. let e = k .refuses .digits (w .1) in λ i. (e .0 i, e .1 i) }),
@@ -79,14 +79,14 @@ run-only t N D n b place = cases (runRules N D n (length b) place) (run-rules N 
             only = λ z k. let e = f (RunOnly b (z .1) (z .0)) (k .table r) in λ i. (e .0 i, e .1 i);
           })
           (λ ok. record {
-            answer = (runOf t N D n b place, bufferOf t N D n b place);
-            only = λ z k. let e = ran-one (z .0) (runOf t N D n b place) (k .ran r ok) (runs {t = t} {N = N} {D = D} {n = n} {b = b} {place = place} (refl, refl) .ran r ok) in λ i. (e .0 i, e .1 i);
+            answer = let x = runOf t N D n b place in (x .answer, x .buffer);
+            only = λ z k. let e = ran-one (z .0) (runOf t N D n b place .answer) (k .ran r ok) (runs {t = t} {N = N} {D = D} {n = n} {b = b} {place = place} refl .ran r ok) in λ i. (e .0 i, e .1 i);
           })),
     )),
   )),
 )
 
-pub run-kept-only : (N D n : ℕ) (b : List ℕ) (place : ℕ) → Determined (λ (z : RunAnswer × List ℕ). RunsKept N D n b place (z .1) (z .0))
+pub run-kept-only : (N D n : ℕ) (b : List ℕ) (place : ℕ) → Determined (λ (z : Ran × List ℕ). RunsKept N D n b place (z .1) (z .0))
 run-kept-only N D n b place =
     let o = run-only (madeTable EightBits) N D n b place in
     record {
@@ -98,7 +98,7 @@ run-kept-only N D n b place =
           byte = λ p _ l h _. absurd (omega (arith, kept-passes EightBits .table .digits p));
           cell = λ p _ l h _. absurd (h .against .broken (kept-passes EightBits .allowed p l (h .divisor) (h .remainder) (h .against .point)));
         };
-        ran = λ r _. subst (λ (t : List ℕ). Ran t N D n b place (z .1) (z .0)) (made-one EightBits (k .made) (made-table-is EightBits)) (k .ran r);
+        ran = λ r _. subst (λ (t : List ℕ). DividedRun t N D n b place (z .1) (z .0)) (made-one EightBits (k .made) (made-table-is EightBits)) (k .ran r);
       });
     }
 

@@ -2,15 +2,15 @@
 use Rattle.laws.proofs.Basics.{_≡_, refl, sym, _∙_, ⊎-elim, List, [], _∷_, ℕ, _+_, _*_, _≤_, length}
 use Rattle.laws.proofs.Lists.{kept-one}
 use Rattle.laws.proofs.Division.{same-or-other}
-use Rattle.selection.specs.Answer.{cellNumbers}
-use Rattle.selection.specs.Cell.{cellRules}
+use Rattle.selection.specs.computed.Answer.{cellNumbers}
+use Rattle.selection.specs.computed.Cell.{cellRules}
 use Rattle.selection.specs.Demand.{CellTold}
-use Rattle.selection.specs.Maker.{limitsRules, makeRules}
-use Rattle.selection.specs.Repair.{repairRules, Repaired}
-use Rattle.selection.specs.Computed.{cellOf, rowLimitsOf, makeOf, madeBuffer, repairOf, repairedOf, changedOf}
+use Rattle.selection.specs.computed.Maker.{limitsRules, makeRules}
+use Rattle.selection.specs.computed.Repair.{repairRules, RepairedTable}
+use Rattle.selection.specs.computed.Outcomes.{cellOf, rowLimitsOf, makeOf, repairOf}
 use Rattle.selection.specs.declared.Refusal.{Refusal}
-use Rattle.selection.specs.declared.numbers.CellNumbers.{CellNumbers}
-use Rattle.selection.specs.declared.repair.RepairAnswer.{RepairAnswer}
+use Rattle.selection.specs.declared.numbers.Cell.{Cell}
+use Rattle.selection.specs.declared.repair.Repaired.{Repaired}
 use Rattle.selection.proofs.BiasedPoints.{cell-rules}
 use Rattle.selection.proofs.UniqueCell.{one-witness}
 use Rattle.selection.proofs.UniqueMade.{limits-rules, limits-one, make-rules, byte-one}
@@ -27,7 +27,7 @@ use Rattle.selection.specs.declared.Estimate.{Estimate}
 module _ (E : Estimate) where
   -- ---- a single cell
 
-  cell-told-one : {r c b : ℕ} → r ≤ 15 → c ≤ 127 → (x y : CellNumbers) → CellTold E r c b x → CellTold E r c b y → x ≡ y
+  cell-told-one : {r c b : ℕ} → r ≤ 15 → c ≤ 127 → (x y : Cell) → CellTold E r c b x → CellTold E r c b y → x ≡ y
   cell-told-one hr hc x y u v = ⊎-elim
       (λ e. u .besides e ∙ sym (v .besides (v .allowed .1 (u .allowed .0 e))))
       (λ n.
@@ -67,18 +67,18 @@ module _ (E : Estimate) where
   make-only s = cases (makeRules (length s)) (make-rules (length s) .sound) (
     (λ p w. record { answer = (told 7 0, s); only = λ z k. λ i. (k .short (w .1) .0 i, k .short (w .1) .1 i) }),
     (λ h. record {
-      answer = (makeOf s, madeBuffer E s);
+      answer = (makeOf E s .answer, makeOf E s .buffer);
       only = λ z k.
-          let y = makes-table E {s = s} (refl, refl) in
-          let f : z .0 ≡ makeOf s = k .nothing h ∙ sym (y .nothing h) in
-          let l : z .1 ≡ madeBuffer E s = kept-one (k .kept h) (y .kept h) (λ j m. byte-one E (k .cells h j m) (y .cells h j m)) in
+          let y = makes-table E {s = s} refl in
+          let f : z .0 ≡ makeOf E s .answer = k .nothing h ∙ sym (y .nothing h) in
+          let l : z .1 ≡ makeOf E s .buffer = kept-one (k .kept h) (y .kept h) (λ j m. byte-one E (k .cells h j m) (y .cells h j m)) in
           λ i. (f i, l i);
     }),
   )
 
   -- ---- the repair
 
-  repaired-as : {t rs cs a b : List ℕ} {x : RepairAnswer} → C.Repaired E t rs cs a b x → Repaired E t rs cs a b (x .count)
+  repaired-as : {t rs cs a b : List ℕ} {x : Repaired} → C.RepairedTable E t rs cs a b x → RepairedTable E t rs cs a b (x .count)
   repaired-as k = record {
     cell = λ j l. record { made = k .made j l; copied = k .copied j l; marked = k .marked j l; unmarked = k .unmarked j l };
     repaired-kept = k .repaired-kept;
@@ -86,17 +86,17 @@ module _ (E : Estimate) where
     count = k .count;
   }
 
-  pub repair-only : (t rs cs : List ℕ) → Determined (λ (z : RepairAnswer × List ℕ × List ℕ). RepairsTable E t rs cs (z .1) (z .2) (z .0))
+  pub repair-only : (t rs cs : List ℕ) → Determined (λ (z : Repaired × List ℕ × List ℕ). RepairsTable E t rs cs (z .1) (z .2) (z .0))
   repair-only t rs cs = cases (repairRules (length t) (length rs) (length cs)) (repair-rules (length t) (length rs) (length cs) .sound) (
     (λ p w. record { answer = (record { refusal = told 7 0; count = 0 }, rs, cs); only = λ z k. let e = k .room (w .1) in λ i. (e .0 i, e .1 i, e .2 i) }),
     (λ room. (
       (λ p w. record { answer = (record { refusal = told 8 0; count = 0 }, rs, cs); only = λ z k. let e = k .size (room .0) (room .1) (w .1) in λ i. (e .0 i, e .1 i, e .2 i) }),
       (λ size. let d = repair-demand E .told t rs cs size (room .0) (room .1) in record {
-        answer = (repairOf E t rs cs, repairedOf E t rs cs, changedOf E t rs cs);
+        answer = let x = repairOf E t rs cs in (x .answer, x .repaired, x .changed);
         only = λ z k.
             let m = k .done size (room .0) (room .1) in
             let e = lists-one E (repaired-as m) (d .repaired) in
-            let f : z .0 .refusal ≡ repairOf E t rs cs .refusal = m .nothing ∙ sym (d .done) in
+            let f : z .0 .refusal ≡ repairOf E t rs cs .answer .refusal = m .nothing ∙ sym (d .done) in
             λ i. (record { refusal = f i; count = e .2 i }, e .0 i, e .1 i);
       }),
     )),

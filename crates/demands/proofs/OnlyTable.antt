@@ -6,14 +6,14 @@ use Rattle.laws.proofs.Comparisons.{not-below}
 use Rattle.laws.proofs.Counting.{tally-one}
 use Rattle.laws.proofs.Diff.{diff, diffs, diff-eq, by-diff}
 use Rattle.laws.proofs.Division.{le-or-lt}
-use Rattle.selection.proofs.Refusing.{tableRules, clear-admits}
+use Rattle.selection.proofs.RefusalNames.{tableRules, clear-admits}
 use Rattle.selection.proofs.Reports.{table-rules, admission-rules, admitted-passes}
-use Rattle.selection.specs.Answer.{reportNumbers}
-use Rattle.selection.specs.Computed.{reportOf}
+use Rattle.selection.specs.computed.Answer.{reportNumbers}
+use Rattle.selection.specs.computed.Outcomes.{reportOf}
 use Rattle.selection.specs.Demand.{RefusedExactly}
 use Rattle.selection.specs.Table.{Table}
 use Rattle.selection.specs.declared.Refusal.{Refusal}
-use Rattle.selection.specs.declared.numbers.ReportNumbers.{ReportNumbers}
+use Rattle.selection.specs.declared.numbers.Report.{Report}
 use Rattle.demands.specs.Calls.{told, reportOnly, ChecksTable}
 use Rattle.demands.specs.Determined.{Determined}
 use Rattle.demands.proofs.ByCases.{cases}
@@ -26,7 +26,7 @@ same-integer = by-diff (λ a. (b : ℤ) → a ≤ℤ b → b ≤ℤ a → a ≡ 
 
 -- in a divider with the estimate E
 module _ (E : Estimate) where
-  refused-one : {t : List ℕ} {p : ℕ} (x y : ReportNumbers) → x .refusal ≡ told 10 p → y .refusal ≡ told 10 p → RefusedExactly E t x → RefusedExactly E t y → x ≡ y
+  refused-one : {t : List ℕ} {p : ℕ} (x y : Report) → x .refusal ≡ told 10 p → y .refusal ≡ told 10 p → RefusedExactly E t x → RefusedExactly E t y → x ≡ y
   refused-one {t} {p} x y e f u v =
       let a = u .first (ap (λ (z : Refusal). z .number) e) in
       let b = v .first (ap (λ (z : Refusal). z .number) f) in

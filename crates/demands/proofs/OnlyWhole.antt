@@ -2,15 +2,15 @@
 use Rattle.laws.proofs.Basics.{_≡_, sym, ap, _∙_, ⊎-elim, List, ℕ, _*_, _^_, _<_, _≤_, arith}
 use Rattle.laws.proofs.Division.{le-or-lt}
 use native.Mathlib.Nat.{pos-of-ne-zero}
-use Rattle.selection.specs.Computed.{madeTable}
-use Rattle.division.specs.Whole.{wholeRules, wholeOf}
-use Rattle.division.specs.Rounding.{directionRules}
-use Rattle.division.specs.Binary64.{binary64Of}
-use Rattle.division.specs.RootCalls.{rootRules, rootWholeOf, rootBinary64Of}
-use Rattle.division.specs.Ratios.{ratiosRules}
-use Rattle.division.specs.declared.whole.WholeAnswer.{WholeAnswer}
-use Rattle.division.specs.declared.format.Binary64Answer.{Binary64Answer}
-use Rattle.division.proofs.Calls.{whole-rules, binary64-rules}
+use Rattle.selection.specs.computed.Outcomes.{madeTable}
+use Rattle.division.specs.computed.Whole.{wholeRules, wholeOf}
+use Rattle.division.specs.computed.Format.{directionRules}
+use Rattle.division.specs.computed.Binary64.{binary64Of}
+use Rattle.division.specs.computed.RootCalls.{rootRules, rootWholeOf, rootBinary64Of}
+use Rattle.division.specs.computed.Ratios.{ratiosRules}
+use Rattle.division.specs.declared.whole.Whole.{Whole}
+use Rattle.division.specs.declared.format.Binary64.{Binary64}
+use Rattle.division.proofs.DivisionCalls.{whole-rules, binary64-rules}
 use Rattle.division.proofs.RootCalls.{root-rules}
 use Rattle.division.proofs.RatioCalls.{ratios-rules}
 use Rattle.demands.proofs.Demand2.{demand-2}
@@ -23,7 +23,7 @@ use Rattle.selection.specs.declared.Estimate.the-variants.{EightBits}
 
 -- ---- whole numbers
 
-divided-one : (a b : ℕ) → a < 2 ^ 60 → 0 < b → b < 2 ^ 60 → (x : WholeAnswer) → DividedWhole a b x → x ≡ wholeOf (madeTable EightBits) a b
+divided-one : (a b : ℕ) → a < 2 ^ 60 → 0 < b → b < 2 ^ 60 → (x : Whole) → DividedWhole a b x → x ≡ wholeOf (madeTable EightBits) a b
 divided-one a b ha hz hb x c =
     let d = demand-2 .kept .whole a b ha hz hb in
     let o = d .only (x .quotient) (x .remainder) (c .divides) (c .below) in
@@ -52,7 +52,7 @@ whole-kept-only a b = cases (wholeRules a b) (whole-rules a b .sound) (
 
 -- ---- binary64
 
-binary64-one : (direction a b : ℕ) → direction ≤ 3 → (x : Binary64Answer) → DividedBinary64 direction a b x → x ≡ binary64Of (madeTable EightBits) direction a b
+binary64-one : (direction a b : ℕ) → direction ≤ 3 → (x : Binary64) → DividedBinary64 direction a b x → x ≡ binary64Of (madeTable EightBits) direction a b
 binary64-one direction a b h x c =
     let d = demand-2 .kept .binary64 direction a b h in
     let e = d .only _ (c .quotient) in

@@ -2,25 +2,26 @@
 use Rattle.laws.proofs.Basics.{refl, sym, ap, ap₂, _∙_, List, ℕ, _^_, _<_, arith, lit<}
 use native.Mathlib.Nat.{le-mul-of-pos-right}
 use Rattle.laws.specs.Lists.{listFrom}
-use Rattle.selection.proofs.Refusing.{refusal}
-use Rattle.selection.specs.Computed.{madeTable}
-use Rattle.division.specs.Whole.{wholeOf}
+use Rattle.selection.proofs.RefusalNames.{refusal}
+use Rattle.selection.specs.computed.Outcomes.{madeTable}
+use Rattle.division.specs.computed.Whole.{wholeOf}
 use Rattle.demands.proofs.Demand2.{demand-2}
-use Rattle.demands.specs.Demand2.{Divides}
-use Rattle.division.specs.Packed.{numberTo, packedNumber, Packed, packedBytes, packedValues, packedOf}
-use Rattle.demands.specs.PackedDemand.{OnePacked, DividesPacked, PackedExamples, PackedDemand}
+use Rattle.demands.specs.computed.Demand2.{Divides}
+use Rattle.division.specs.Packed.{numberTo, packedNumber, IsPacked}
+use Rattle.division.specs.computed.Packed.{packedBytes, packedValues, packedOf}
+use Rattle.demands.specs.computed.PackedDemand.{OnePacked, DividesPacked, PackedExamples, PackedDemand}
 use Rattle.division.proofs.PackedBytes.{number-below, bytes-back, bytes-packed, number-back}
 use Rattle.division.proofs.PackedCalls.{packed-done}
 use Rattle.laws.specs.Search.{firstFrom}
 use Rattle.selection.specs.declared.Estimate.the-variants.{EightBits}
 
-below : (bs : List ℕ) → Packed bs → packedNumber bs < 10 ^ 16
+below : (bs : List ℕ) → IsPacked bs → packedNumber bs < 10 ^ 16
 below bs p = number-below bs (p .decimal) 8 (omega arith)
 
 one : (x : ℕ) → x < 10 ^ 16 → OnePacked x
 one x h = record { packed = bytes-packed x; number = number-back x h; only = λ bs p e. sym (bytes-back bs p) ∙ ap packedBytes e }
 
-module _ (xs ys : List ℕ) (px : Packed xs) (py : Packed ys) (some : 0 < packedNumber ys) where
+module _ (xs ys : List ℕ) (px : IsPacked xs) (py : IsPacked ys) (some : 0 < packedNumber ys) where
   whole : Divides (packedNumber xs) (packedNumber ys) (wholeOf (madeTable EightBits) (packedNumber xs) (packedNumber ys))
   whole = demand-2 .kept .whole (packedNumber xs) (packedNumber ys) (omega (arith, below xs px)) some (omega (arith, below ys py))
 
@@ -46,5 +47,6 @@ examples =
     let divided = ap₂ (λ (q r : ℕ). packedValues (record { refusal = refusal 0 0; quotient = q; remainder = r })) (sym (k .0)) (sym (k .1)) in
     record { number = refl; divided = divided; dividend = refl; divisor = refl; by-zero = refl }
 
+-- § 13.2 Packed numbers are divided, and no other bytes fit.
 pub packed-demand : PackedDemand
 packed-demand = record { back = bytes-back; below = below; one = one; divides = divides; room = lit< tt; admitted = λ xs ys px py some. whole xs ys px py some .done; examples = examples }

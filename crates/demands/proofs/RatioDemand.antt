@@ -3,20 +3,20 @@ use Rattle.laws.proofs.Basics.{_≡_, refl, sym, subst, ap, ℕ, _*_, _%_, _<_,
 use native.Mathlib.Nat.{mul-le-mul-right, le-of-mul-le-mul-right, mod-lt}
 use Rattle.laws.proofs.Comparisons.{not-below}
 use Rattle.laws.proofs.Tests.{by-cond}
-use Rattle.division.specs.Ratios.{Ratios, comparisonOf, comparedOf, comparisonNumbers}
-use Rattle.demands.specs.RatioDemand.{ComparesRatios, reversedComparison, RatioDemand}
-use Rattle.division.specs.declared.ratio.Comparison.{Comparison}
-use Rattle.division.specs.declared.ratio.Comparison.the-variants.{Less, Equal, Greater, Refused}
+use Rattle.division.specs.computed.Ratios.{Ratios, comparisonOf, comparedOf, comparisonNumbers}
+use Rattle.demands.specs.computed.RatioDemand.{ComparesRatios, reversedComparison, RatioDemand}
+use Rattle.division.specs.declared.ratio.RatioOrder.{RatioOrder}
+use Rattle.division.specs.declared.ratio.RatioOrder.the-variants.{Less, Equal, Greater, Refused}
 use Rattle.division.proofs.Ratios.{comparison-less, comparison-equal, comparison-greater, round-of, found-in-87}
 use Rattle.division.proofs.RatioCalls.{ratios-clear}
 
 -- what holds of each answer where it is given holds of the answer
-by-order : (P : Comparison → Type 0) (m n : ℕ) → (m < n → P Less) → (m ≡ n → P Equal) → (n < m → P Greater) → P (comparisonOf m n)
+by-order : (P : RatioOrder → Type 0) (m n : ℕ) → (m < n → P Less) → (m ≡ n → P Equal) → (n < m → P Greater) → P (comparisonOf m n)
 by-order P m n f g h =
     by-cond P (ltb m n) _ _ (λ t. f (ltb→lt m n t)) (λ t. by-cond P (ltb n m) _ _ (λ u. h (ltb→lt n m u)) (λ u. g (omega (arith, nltb→le m n t, nltb→le n m u))))
 
 -- what an answer says
-abbrev Says : ℕ → ℕ → Comparison → Type 0
+abbrev Says : ℕ → ℕ → RatioOrder → Type 0
 Says m n Less = m < n
 Says m n Equal = m ≡ n
 Says m n Greater = n < m
@@ -37,6 +37,7 @@ compared a b c d r =
       only = λ y w. by-order (λ x. y ≡ x) m n (w .less .1) (w .equal .1) (w .greater .1);
     })
 
+-- § 16.1 a/b compares with c/d as a·d with c·b.
 pub ratio-demand : RatioDemand
 ratio-demand = record {
   compared = compared;

@@ -1,6 +1,6 @@
 -- What a call says of a table that it is lent, once for every call.
 use Rattle.laws.proofs.Basics.{_≡_, refl, ap, _∙_, List, _++_, ℕ, _<_, arith}
-use Rattle.selection.proofs.Refusing.{refusal, firstOf, Rule, firstRefusal, tableRules, refused-at}
+use Rattle.selection.proofs.RefusalNames.{refusal, firstOf, Rule, firstRefusal, tableRules, refused-at}
 use Rattle.selection.proofs.Rules.{rules-append}
 use Rattle.selection.proofs.Reports.{table-rules}
 use Rattle.selection.specs.declared.Admission.{Admission}

@@ -1,8 +1,9 @@
 -- The worked roots, computed.
 use Rattle.laws.proofs.Basics.{refl}
-use Rattle.division.specs.Computed.{finiteRounded}
-use Rattle.demands.specs.RootExamples.{RootExamples}
+use Rattle.division.specs.computed.Rounding.{finiteRounded}
+use Rattle.demands.specs.computed.RootExamples.{RootExamples}
 
+-- § 12.2 Roots are shown in numbers.
 pub root-examples : RootExamples
 unfolding finiteRounded
 root-examples = record {

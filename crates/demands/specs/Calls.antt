@@ -16,33 +16,33 @@ use Rattle.laws.specs.Sums.{sumBelow}
 use Rattle.selection.specs.Word.{signed, Within}
 use Rattle.selection.specs.Cell.{row, column}
 use Rattle.selection.specs.Table.{Table, BadAt, Passes}
-use Rattle.selection.specs.Maker.{Made, MadeTable, Limits}
+use Rattle.selection.specs.Maker.{Made, MadeTable, AreLimits}
 use Rattle.selection.specs.Demand.{RefusedExactly, CellTold}
-use Rattle.selection.specs.Repair.{ReplacedAt, DifferAt}
+use Rattle.selection.specs.Repair.{FaultyAt, DifferAt}
 use Rattle.recurrence.specs.CarrySave.{sum3, maj3, multiple, lowestCarry}
 use Rattle.recurrence.specs.Recurrence.{value}
-use Rattle.recurrence.specs.StepDemand.{Stepped}
+use Rattle.recurrence.specs.Step.{StepTaken}
 use Rattle.division.specs.Ieee.{Ieee}
 use Rattle.division.specs.Roots.{IeeeRoot}
-use Rattle.division.specs.Format.{IsNonzero}
-use Rattle.division.specs.Packed.{packedNumber, Decimal, Packed}
+use Rattle.division.specs.Format.{FiniteNonzero}
+use Rattle.division.specs.Packed.{packedNumber, Decimal, IsPacked}
 use Rattle.division.specs.Samples.{Joined}
 use Rattle.division.specs.Recheck.{OperandOf}
 use Rattle.ieee.specs.Directions.{Pinned}
 use Rattle.selection.specs.declared.Refusal.{Refusal}
-use Rattle.selection.specs.declared.numbers.CellNumbers.{CellNumbers}
-use Rattle.selection.specs.declared.numbers.ReportNumbers.{ReportNumbers}
-use Rattle.selection.specs.declared.maker.RowLimits.{RowLimits}
-use Rattle.selection.specs.declared.repair.RepairAnswer.{RepairAnswer}
-use Rattle.recurrence.specs.declared.RunAnswer.{RunAnswer}
-use Rattle.recurrence.specs.declared.step.StepAnswer.{StepAnswer}
-use Rattle.division.specs.declared.whole.WholeAnswer.{WholeAnswer}
-use Rattle.division.specs.declared.format.Binary64Answer.{Binary64Answer}
-use Rattle.division.specs.declared.samples.SamplesAnswer.{SamplesAnswer}
-use Rattle.division.specs.declared.root.RootAnswer.{RootAnswer}
-use Rattle.division.specs.declared.packed.PackedAnswer.{PackedAnswer}
-use Rattle.division.specs.declared.ratio.ComparisonNumbers.{ComparisonNumbers}
-use Rattle.division.specs.declared.recheck.AffectedAnswer.{AffectedAnswer}
+use Rattle.selection.specs.declared.numbers.Cell.{Cell}
+use Rattle.selection.specs.declared.numbers.Report.{Report}
+use Rattle.selection.specs.declared.maker.Limits.{Limits}
+use Rattle.selection.specs.declared.repair.Repaired.{Repaired}
+use Rattle.recurrence.specs.declared.Ran.{Ran}
+use Rattle.recurrence.specs.declared.step.Stepped.{Stepped}
+use Rattle.division.specs.declared.whole.Whole.{Whole}
+use Rattle.division.specs.declared.format.Binary64.{Binary64}
+use Rattle.division.specs.declared.samples.Samples.{Samples}
+use Rattle.division.specs.declared.root.Root.{Root}
+use Rattle.division.specs.declared.packed.Packed.{Packed}
+use Rattle.division.specs.declared.ratio.Comparison.{Comparison}
+use Rattle.division.specs.declared.recheck.AffectedCount.{AffectedCount}
 use Rattle.recurrence.specs.declared.recheck.AffectedMark.{AffectedMark}
 use Rattle.selection.specs.declared.Estimate.{Estimate}
 use Rattle.selection.specs.declared.Estimate.the-variants.{SevenBits, EightBits}
@@ -67,38 +67,38 @@ pub record ForBits (bits : ℕ) (Only : Type 0) (C : Estimate → Type 0) : Type
 
 -- ---- 4 the check
 
-abbrev pub reportOnly : ℕ → ℕ → ReportNumbers
+abbrev pub reportOnly : ℕ → ℕ → Report
 reportOnly n p = record { refusal = told n p; count = 0; row = 0; column = 0; divisor = 0; remainder = pos 0 }
 
-pub record ChecksTable (E : Estimate) (t : List ℕ) (x : ReportNumbers) : Type 0 where
+pub record ChecksTable (E : Estimate) (t : List ℕ) (x : Report) : Type 0 where
   pub passed : (x .refusal .number ≡ 0) ↔ Passes E t
   pub nothing : Passes E t → x ≡ reportOnly 0 0
   pub refuses : OfTable E t (λ n p. (x .refusal ≡ told n p) × (n < 10 → x ≡ reportOnly n p))
   -- the count, the first bad cell and its least witness
   pub bad : Table t → RefusedExactly E t x
 
-abbrev pub ChecksTableFor : ℕ → List ℕ → ReportNumbers → Type 0
+abbrev pub ChecksTableFor : ℕ → List ℕ → Report → Type 0
 ChecksTableFor bits t x = ForBits bits (x ≡ reportOnly 17 0) (λ E. ChecksTable E t x)
 
-abbrev pub cellOnly : ℕ → ℕ → CellNumbers
+abbrev pub cellOnly : ℕ → ℕ → Cell
 cellOnly n p = record { refusal = told n p; allowed = 0; divisor = 0; remainder = pos 0 }
 
-pub record ChecksCell (E : Estimate) (r c b : ℕ) (x : CellNumbers) : Type 0 where
+pub record ChecksCell (E : Estimate) (r c b : ℕ) (x : Cell) : Type 0 where
   pub outside : (15 < r) ⊎ (127 < c) → x ≡ cellOnly 1 0
   pub byte : r ≤ 15 → c ≤ 127 → 4 < b → x ≡ cellOnly 9 (128 * r + c)
   pub verdict : r ≤ 15 → c ≤ 127 → b ≤ 4 → CellTold E r c b x
 
-abbrev pub ChecksCellFor : ℕ → ℕ → ℕ → ℕ → CellNumbers → Type 0
+abbrev pub ChecksCellFor : ℕ → ℕ → ℕ → ℕ → Cell → Type 0
 ChecksCellFor bits r c b x = ForBits bits (x ≡ cellOnly 17 0) (λ E. ChecksCell E r c b x)
 
 -- ---- 5 the maker
 
-pub record TellsLimits (E : Estimate) (r : ℕ) (x : RowLimits) : Type 0 where
+pub record TellsLimits (E : Estimate) (r : ℕ) (x : Limits) : Type 0 where
   pub outside : 15 < r → x ≡ record { refusal = told 1 0; limits = 0 ∷ 0 ∷ 0 ∷ 0 ∷ 0 ∷ 0 ∷ [] }
   pub nothing : r ≤ 15 → x .refusal ≡ told 0 0
-  pub limits : r ≤ 15 → Limits E r (x .limits)
+  pub limits : r ≤ 15 → AreLimits E r (x .limits)
 
-abbrev pub TellsLimitsFor : ℕ → ℕ → RowLimits → Type 0
+abbrev pub TellsLimitsFor : ℕ → ℕ → Limits → Type 0
 TellsLimitsFor bits r x = ForBits bits (x ≡ record { refusal = told 17 0; limits = 0 ∷ 0 ∷ 0 ∷ 0 ∷ 0 ∷ 0 ∷ [] }) (λ E. TellsLimits E r x)
 
 pub record MakesTable (E : Estimate) (s out : List ℕ) (f : Refusal) : Type 0 where
@@ -131,15 +131,15 @@ pub record RunTakes (N D n : ℕ) (b : List ℕ) (place : ℕ) : Type 0 where
   pub room : place + n ≤ length b
 
 -- a refused run: zeros, and the buffer as it was
-abbrev pub RunOnly : List ℕ → List ℕ → RunAnswer → ℕ → ℕ → Type 0
+abbrev pub RunOnly : List ℕ → List ℕ → Ran → ℕ → ℕ → Type 0
 RunOnly b out x n p = (x ≡ record { refusal = told n p; quotient = 0; remainder = 0; digits = 0 }) × (out ≡ b)
 
-pub record RunRefuses (N D n : ℕ) (b : List ℕ) (place : ℕ) (out : List ℕ) (x : RunAnswer) : Type 0 where
+pub record RunRefuses (N D n : ℕ) (b : List ℕ) (place : ℕ) (out : List ℕ) (x : Ran) : Type 0 where
   pub digits : (n ≡ 0) ⊎ (28 < n) → RunOnly b out x 2 0
   pub operands : 1 ≤ n → n ≤ 28 → (D < 2 ^ 60) ⊎ ((2 ^ 61 ≤ D) ⊎ (2 ^ 61 ≤ N)) → RunOnly b out x 3 0
   pub room : 1 ≤ n → n ≤ 28 → N < 2 ^ 61 → 2 ^ 60 ≤ D → D < 2 ^ 61 → length b < place + n → RunOnly b out x 7 0
 
-pub record Ran (t : List ℕ) (N D n : ℕ) (b : List ℕ) (place : ℕ) (out : List ℕ) (x : RunAnswer) : Type 0 where
+pub record DividedRun (t : List ℕ) (N D n : ℕ) (b : List ℕ) (place : ℕ) (out : List ℕ) (x : Ran) : Type 0 where
   pub nothing : x .refusal ≡ told 0 0
   pub count : x .digits ≡ n
   pub divides : N * 4 ^ (n - 1) ≡ x .quotient * D + x .remainder
@@ -154,78 +154,78 @@ pub record Ran (t : List ℕ) (N D n : ℕ) (b : List ℕ) (place : ℕ) (out : 
   pub before : (j : ℕ) → j < place → getD out j 0 ≡ getD b j 0
   pub behind : (j : ℕ) → place + n ≤ j → getD out j 0 ≡ getD b j 0
 
-pub record Runs (t : List ℕ) (N D n : ℕ) (b : List ℕ) (place : ℕ) (out : List ℕ) (x : RunAnswer) : Type 0 where
+pub record Runs (t : List ℕ) (N D n : ℕ) (b : List ℕ) (place : ℕ) (out : List ℕ) (x : Ran) : Type 0 where
   pub refuses : RunRefuses N D n b place out x
   pub table : RunTakes N D n b place → OfTable EightBits t (RunOnly b out x)
-  pub ran : RunTakes N D n b place → Passes EightBits t → Ran t N D n b place out x
+  pub ran : RunTakes N D n b place → Passes EightBits t → DividedRun t N D n b place out x
 
 -- through the made table, of which nothing is refused
-pub record RunsKept (N D n : ℕ) (b : List ℕ) (place : ℕ) (out : List ℕ) (x : RunAnswer) : Type 0 where
+pub record RunsKept (N D n : ℕ) (b : List ℕ) (place : ℕ) (out : List ℕ) (x : Ran) : Type 0 where
   pub refuses : RunRefuses N D n b place out x
   pub table : List ℕ
   pub made : MadeTable EightBits table
-  pub ran : RunTakes N D n b place → Ran table N D n b place out x
+  pub ran : RunTakes N D n b place → DividedRun table N D n b place out x
 
 -- ---- 7 one step
 
-abbrev pub stepOnly : ℕ → ℕ → StepAnswer
+abbrev pub stepOnly : ℕ → ℕ → Stepped
 stepOnly n p = record { refusal = told n p; digit = pos 0; sum = 0; carry = 0 }
 
-pub record StepsOnce (s k D : ℕ) (t : List ℕ) (x : StepAnswer) : Type 0 where
+pub record StepsOnce (s k D : ℕ) (t : List ℕ) (x : Stepped) : Type 0 where
   pub divisor : (D < 2 ^ 60) ⊎ (2 ^ 61 ≤ D) → x ≡ stepOnly 3 0
   pub outside : 2 ^ 60 ≤ D → D < 2 ^ 61 → ((pos 3 *ℤ signed (s + k)) <ℤ (negℤ (pos (8 * D)))) ⊎ ((pos (8 * D)) <ℤ (pos 3 *ℤ signed (s + k))) → x ≡ stepOnly 14 0
   pub table : 2 ^ 60 ≤ D → D < 2 ^ 61 → Within 8 D (pos 3 *ℤ signed (s + k)) → OfTable EightBits t (λ n p. x ≡ stepOnly n p)
-  pub step : 2 ^ 60 ≤ D → D < 2 ^ 61 → Within 8 D (pos 3 *ℤ signed (s + k)) → Passes EightBits t → Stepped s k D (getD t (128 * row D + column EightBits s k) 0) x
+  pub step : 2 ^ 60 ≤ D → D < 2 ^ 61 → Within 8 D (pos 3 *ℤ signed (s + k)) → Passes EightBits t → StepTaken s k D (getD t (128 * row D + column EightBits s k) 0) x
 
 -- ---- 8 whole numbers
 
-abbrev pub wholeOnly : ℕ → ℕ → WholeAnswer
+abbrev pub wholeOnly : ℕ → ℕ → Whole
 wholeOnly n p = record { refusal = told n p; quotient = 0; remainder = 0 }
 
-pub record WholeRefuses (a b : ℕ) (x : WholeAnswer) : Type 0 where
+pub record WholeRefuses (a b : ℕ) (x : Whole) : Type 0 where
   pub large : (2 ^ 60 ≤ a) ⊎ (2 ^ 60 ≤ b) → x ≡ wholeOnly 4 0
   pub by-zero : a < 2 ^ 60 → b ≡ 0 → x ≡ wholeOnly 5 0
 
-pub record DividedWhole (a b : ℕ) (x : WholeAnswer) : Type 0 where
+pub record DividedWhole (a b : ℕ) (x : Whole) : Type 0 where
   pub nothing : x .refusal ≡ told 0 0
   pub divides : a ≡ x .quotient * b + x .remainder
   pub below : x .remainder < b
 
-pub record DividesWhole (t : List ℕ) (a b : ℕ) (x : WholeAnswer) : Type 0 where
+pub record DividesWhole (t : List ℕ) (a b : ℕ) (x : Whole) : Type 0 where
   pub refuses : WholeRefuses a b x
   pub table : a < 2 ^ 60 → 0 < b → b < 2 ^ 60 → OfTable EightBits t (λ n p. x ≡ wholeOnly n p)
   pub divided : a < 2 ^ 60 → 0 < b → b < 2 ^ 60 → Passes EightBits t → DividedWhole a b x
 
-pub record DividesWholeKept (a b : ℕ) (x : WholeAnswer) : Type 0 where
+pub record DividesWholeKept (a b : ℕ) (x : Whole) : Type 0 where
   pub refuses : WholeRefuses a b x
   pub divided : a < 2 ^ 60 → 0 < b → b < 2 ^ 60 → DividedWhole a b x
 
 -- ---- 9 binary64
 
-abbrev pub binary64Only : ℕ → ℕ → Binary64Answer
+abbrev pub binary64Only : ℕ → ℕ → Binary64
 binary64Only n p = record { refusal = told n p; pattern = 0; flags = 0 }
 
-pub record DividedBinary64 (direction a b : ℕ) (x : Binary64Answer) : Type 0 where
+pub record DividedBinary64 (direction a b : ℕ) (x : Binary64) : Type 0 where
   pub nothing : x .refusal ≡ told 0 0
   -- by the specification's account, flags too, and by the logic's own
   pub quotient : Ieee direction a b (record { pattern = x .pattern; flags = x .flags })
   pub pinned : Pinned direction a b (x .pattern)
 
-pub record DividesBinary64 (t : List ℕ) (direction a b : ℕ) (x : Binary64Answer) : Type 0 where
+pub record DividesBinary64 (t : List ℕ) (direction a b : ℕ) (x : Binary64) : Type 0 where
   pub unknown : 3 < direction → x ≡ binary64Only 6 0
   pub table : direction ≤ 3 → OfTable EightBits t (λ n p. x ≡ binary64Only n p)
   pub divided : direction ≤ 3 → Passes EightBits t → DividedBinary64 direction a b x
 
-pub record DividesBinary64Kept (direction a b : ℕ) (x : Binary64Answer) : Type 0 where
+pub record DividesBinary64Kept (direction a b : ℕ) (x : Binary64) : Type 0 where
   pub unknown : 3 < direction → x ≡ binary64Only 6 0
   pub divided : direction ≤ 3 → DividedBinary64 direction a b x
 
 -- ---- 10 samples
 
-abbrev pub SamplesOnly : List ℕ → List ℕ → SamplesAnswer → ℕ → ℕ → Type 0
+abbrev pub SamplesOnly : List ℕ → List ℕ → Samples → ℕ → ℕ → Type 0
 SamplesOnly given out x n p = (x ≡ record { refusal = told n p; flags = 0; count = 0 }) × (out ≡ given)
 
-pub record DividedSamples (direction : ℕ) (currents sensitivities given out : List ℕ) (x : SamplesAnswer) : Type 0 where
+pub record DividedSamples (direction : ℕ) (currents sensitivities given out : List ℕ) (x : Samples) : Type 0 where
   pub nothing : x .refusal ≡ told 0 0
   pub count : x .count ≡ length currents
   -- place j has sample j's pattern; its flags are joined with those of all others
@@ -234,7 +234,7 @@ pub record DividedSamples (direction : ℕ) (currents sensitivities given out : 
   pub flags : Joined flags-of (length currents) (x .flags)
   pub kept : KeptFrom (length currents) given out
 
-pub record DividesSamples (t : List ℕ) (direction : ℕ) (currents sensitivities given out : List ℕ) (x : SamplesAnswer) : Type 0 where
+pub record DividesSamples (t : List ℕ) (direction : ℕ) (currents sensitivities given out : List ℕ) (x : Samples) : Type 0 where
   pub unknown : 3 < direction → SamplesOnly given out x 6 0
   pub lengths : direction ≤ 3 → (length currents ≡ length sensitivities → ⊥) → SamplesOnly given out x 11 0
   pub room : direction ≤ 3 → length currents ≡ length sensitivities → length given < length currents → SamplesOnly given out x 7 0
@@ -273,20 +273,20 @@ pub record AveragesWindows (xs : List ℕ) (w : ℕ) (newestFirst : Bool) (ms rs
 
 -- ---- 12 square roots
 
-pub record RootsWhole (a : ℕ) (x : RootAnswer) : Type 0 where
+pub record RootsWhole (a : ℕ) (x : Root) : Type 0 where
   pub large : 2 ^ 60 ≤ a → x ≡ record { refusal = told 4 0; root = 0; remainder = 0 }
   pub nothing : a < 2 ^ 60 → x .refusal ≡ told 0 0
   pub root : a < 2 ^ 60 → x .root * x .root + x .remainder ≡ a
   pub greatest : a < 2 ^ 60 → a < (x .root + 1) * (x .root + 1)
 
-pub record RootsBinary64 (direction a : ℕ) (x : Binary64Answer) : Type 0 where
+pub record RootsBinary64 (direction a : ℕ) (x : Binary64) : Type 0 where
   pub unknown : 3 < direction → x ≡ binary64Only 6 0
   pub nothing : direction ≤ 3 → x .refusal ≡ told 0 0
   pub root : direction ≤ 3 → IeeeRoot direction a (record { pattern = x .pattern; flags = x .flags })
 
 -- ---- 13 packed decimal
 
-abbrev pub packedOnly : ℕ → ℕ → PackedAnswer
+abbrev pub packedOnly : ℕ → ℕ → Packed
 packedOnly n p = record { refusal = told n p; quotient = 0 ∷ 0 ∷ 0 ∷ 0 ∷ 0 ∷ 0 ∷ 0 ∷ 0 ∷ []; remainder = 0 ∷ 0 ∷ 0 ∷ 0 ∷ 0 ∷ 0 ∷ 0 ∷ 0 ∷ [] }
 
 -- byte p is the first of which a half is above 9
@@ -295,14 +295,14 @@ pub record NoDigits (bs : List ℕ) (p : ℕ) : Type 0 where
   pub here : (9 < getD bs p 0 / 16) ⊎ (9 < getD bs p 0 % 16)
   pub before : (i : ℕ) → i < p → (9 < getD bs i 0 / 16) ⊎ (9 < getD bs i 0 % 16) → ⊥
 
-pub record DividedPacked (xs ys : List ℕ) (x : PackedAnswer) : Type 0 where
+pub record DividedPacked (xs ys : List ℕ) (x : Packed) : Type 0 where
   pub nothing : x .refusal ≡ told 0 0
   pub divides : packedNumber xs ≡ packedNumber (x .quotient) * packedNumber ys + packedNumber (x .remainder)
   pub below : packedNumber (x .remainder) < packedNumber ys
-  pub quotient : Packed (x .quotient)
-  pub remainder : Packed (x .remainder)
+  pub quotient : IsPacked (x .quotient)
+  pub remainder : IsPacked (x .remainder)
 
-pub record DividesPacked (xs ys : List ℕ) (x : PackedAnswer) : Type 0 where
+pub record DividesPacked (xs ys : List ℕ) (x : Packed) : Type 0 where
   pub dividend : (p : ℕ) → NoDigits xs p → x ≡ packedOnly 15 p
   pub divisor : (p : ℕ) → Decimal xs → NoDigits ys p → x ≡ packedOnly 15 (p + 8)
   pub by-zero : Decimal xs → Decimal ys → packedNumber ys ≡ 0 → x ≡ packedOnly 5 0
@@ -310,13 +310,13 @@ pub record DividesPacked (xs ys : List ℕ) (x : PackedAnswer) : Type 0 where
 
 -- ---- 14 repair
 
-abbrev pub RepairOnly : List ℕ → List ℕ → List ℕ → List ℕ → RepairAnswer → ℕ → Type 0
+abbrev pub RepairOnly : List ℕ → List ℕ → List ℕ → List ℕ → Repaired → ℕ → Type 0
 RepairOnly rs cs repaired changed x n = (x ≡ record { refusal = told n 0; count = 0 }) × (repaired ≡ rs) × (changed ≡ cs)
 
-pub record Repaired (E : Estimate) (t rs cs repaired changed : List ℕ) (x : RepairAnswer) : Type 0 where
+pub record RepairedTable (E : Estimate) (t rs cs repaired changed : List ℕ) (x : Repaired) : Type 0 where
   pub nothing : x .refusal ≡ told 0 0
-  pub made : (k : ℕ) → k < 2048 → ReplacedAt E t k → Made E (k / 128) (k % 128) (getD repaired k 0)
-  pub copied : (k : ℕ) → k < 2048 → (ReplacedAt E t k → ⊥) → getD repaired k 0 ≡ getD t k 0
+  pub made : (k : ℕ) → k < 2048 → FaultyAt E t k → Made E (k / 128) (k % 128) (getD repaired k 0)
+  pub copied : (k : ℕ) → k < 2048 → (FaultyAt E t k → ⊥) → getD repaired k 0 ≡ getD t k 0
   pub marked : (k : ℕ) → k < 2048 → (getD t k 0 ≡ getD repaired k 0 → ⊥) → getD changed k 0 ≡ 1
   pub unmarked : (k : ℕ) → k < 2048 → getD t k 0 ≡ getD repaired k 0 → getD changed k 0 ≡ 0
   pub count : Tally (DifferAt t repaired) 2048 (x .count)
@@ -326,12 +326,12 @@ pub record Repaired (E : Estimate) (t rs cs repaired changed : List ℕ) (x : Re
   pub passes : Passes E (take 2048 repaired)
   pub least : (u : List ℕ) → Passes E u → (m : ℕ) → Tally (DifferAt t u) 2048 m → x .count ≤ m
 
-pub record RepairsTable (E : Estimate) (t rs cs repaired changed : List ℕ) (x : RepairAnswer) : Type 0 where
+pub record RepairsTable (E : Estimate) (t rs cs repaired changed : List ℕ) (x : Repaired) : Type 0 where
   pub room : (length rs < 2048) ⊎ (length cs < 2048) → RepairOnly rs cs repaired changed x 7
   pub size : 2048 ≤ length rs → 2048 ≤ length cs → (length t ≡ 2048 → ⊥) → RepairOnly rs cs repaired changed x 8
-  pub done : length t ≡ 2048 → 2048 ≤ length rs → 2048 ≤ length cs → Repaired E t rs cs repaired changed x
+  pub done : length t ≡ 2048 → 2048 ≤ length rs → 2048 ≤ length cs → RepairedTable E t rs cs repaired changed x
 
-abbrev pub RepairsTableFor : ℕ → List ℕ → List ℕ → List ℕ → List ℕ → List ℕ → RepairAnswer → Type 0
+abbrev pub RepairsTableFor : ℕ → List ℕ → List ℕ → List ℕ → List ℕ → List ℕ → Repaired → Type 0
 RepairsTableFor bits t rs cs repaired changed x = ForBits bits (RepairOnly rs cs repaired changed x 17) (λ E. RepairsTable E t rs cs repaired changed x)
 
 -- ---- 15 visits
@@ -363,10 +363,10 @@ pub record RatiosTake (a b c d : ℕ) : Type 0 where
   pub c-below : c < 2 ^ 60
   pub d-below : d < 2 ^ 60
 
-abbrev pub ratioOnly : ℕ → ℤ → ComparisonNumbers
+abbrev pub ratioOnly : ℕ → ℤ → Comparison
 ratioOnly n order = record { refusal = told n 0; order = order }
 
-pub record ComparesRatios (a b c d : ℕ) (x : ComparisonNumbers) : Type 0 where
+pub record ComparesRatios (a b c d : ℕ) (x : Comparison) : Type 0 where
   pub large : (2 ^ 60 ≤ a) ⊎ ((2 ^ 60 ≤ b) ⊎ ((2 ^ 60 ≤ c) ⊎ (2 ^ 60 ≤ d))) → x ≡ ratioOnly 4 (pos 0)
   pub by-zero : RatiosTake a b c d → (b ≡ 0) ⊎ (d ≡ 0) → x ≡ ratioOnly 5 (pos 0)
   pub less : RatiosTake a b c d → 0 < b → 0 < d → a * d < c * b → x ≡ ratioOnly 0 (negsuc 0)
@@ -386,8 +386,8 @@ pub record MarksRun (E : Estimate) (t : List ℕ) (N D n m : ℕ) : Type 0 where
   pub no-digit : (i : ℕ) → i < n → 4 < getD digits i 0 → m ≡ 1
   pub wrong : (value digits ≡ pos (N * 4 ^ (n - 1) / D) → ⊥) → (value digits -ℤ pos 1 ≡ pos (N * 4 ^ (n - 1) / D) → ⊥) → m ≡ 1
   pub right : ((i : ℕ) → i < n → getD digits i 0 ≤ 4) → (value digits ≡ pos (N * 4 ^ (n - 1) / D)) ⊎ (value digits -ℤ pos 1 ≡ pos (N * 4 ^ (n - 1) / D)) → m ≡ 0
-  -- where it is 1, a step has read a bad cell: a byte above 4, or a digit that is not allowed there
-  pub bad : m ≡ 1 → (i : ℕ) × (i < n) × ReplacedAt E t (cell i)
+  -- where it is 1, a step has read a faulty cell: a byte above 4, or a digit that is not allowed there
+  pub faulty : m ≡ 1 → (i : ℕ) × (i < n) × FaultyAt E t (cell i)
 
 -- of a sample whose operands are finite and not 0: N and D are their magnitudes times powers of two, from 2^60 on and below 2^61
 pub record MarksSample (E : Estimate) (t : List ℕ) (a b m : ℕ) : Type 0 where
@@ -397,23 +397,23 @@ pub record MarksSample (E : Estimate) (t : List ℕ) (a b m : ℕ) : Type 0 wher
   pub divisor : OperandOf b D
   pub marks : MarksRun E t N D 28 m
 
-abbrev pub AffectedOnly : List ℕ → List ℕ → AffectedAnswer → ℕ → Type 0
+abbrev pub AffectedOnly : List ℕ → List ℕ → AffectedCount → ℕ → Type 0
 AffectedOnly given out x n = (x ≡ record { refusal = told n 0; count = 0 }) × (out ≡ given)
 
-pub record MarkedSamples (E : Estimate) (t currents sensitivities given out : List ℕ) (x : AffectedAnswer) : Type 0 where
+pub record MarkedSamples (E : Estimate) (t currents sensitivities given out : List ℕ) (x : AffectedCount) : Type 0 where
   pub nothing : x .refusal ≡ told 0 0
-  pub by-class : (j : ℕ) → j < length currents → (IsNonzero (getD currents j 0) → ⊥) ⊎ (IsNonzero (getD sensitivities j 0) → ⊥) → getD out j 0 ≡ 0
-  pub marks : (j : ℕ) → j < length currents → IsNonzero (getD currents j 0) → IsNonzero (getD sensitivities j 0) → MarksSample E t (getD currents j 0) (getD sensitivities j 0) (getD out j 0)
+  pub by-class : (j : ℕ) → j < length currents → (FiniteNonzero (getD currents j 0) → ⊥) ⊎ (FiniteNonzero (getD sensitivities j 0) → ⊥) → getD out j 0 ≡ 0
+  pub marks : (j : ℕ) → j < length currents → FiniteNonzero (getD currents j 0) → FiniteNonzero (getD sensitivities j 0) → MarksSample E t (getD currents j 0) (getD sensitivities j 0) (getD out j 0)
   pub count : Tally (λ j. getD out j 0 ≡ 1) (length currents) (x .count)
   pub kept : KeptFrom (length currents) given out
 
-pub record AffectsSamples (E : Estimate) (t currents sensitivities given out : List ℕ) (x : AffectedAnswer) : Type 0 where
+pub record AffectsSamples (E : Estimate) (t currents sensitivities given out : List ℕ) (x : AffectedCount) : Type 0 where
   pub lengths : (length currents ≡ length sensitivities → ⊥) → AffectedOnly given out x 11
   pub room : length currents ≡ length sensitivities → length given < length currents → AffectedOnly given out x 7
   pub size : length currents ≡ length sensitivities → length currents ≤ length given → (length t ≡ 2048 → ⊥) → AffectedOnly given out x 8
   pub marked : length currents ≡ length sensitivities → length currents ≤ length given → length t ≡ 2048 → MarkedSamples E t currents sensitivities given out x
 
-abbrev pub AffectsSamplesFor : ℕ → List ℕ → List ℕ → List ℕ → List ℕ → List ℕ → AffectedAnswer → Type 0
+abbrev pub AffectsSamplesFor : ℕ → List ℕ → List ℕ → List ℕ → List ℕ → List ℕ → AffectedCount → Type 0
 AffectsSamplesFor bits t currents sensitivities given out x = ForBits bits (AffectedOnly given out x 17) (λ E. AffectsSamples E t currents sensitivities given out x)
 
 abbrev pub markOnly : ℕ → AffectedMark

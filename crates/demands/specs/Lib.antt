@@ -1,15 +1,3 @@
-pub mod Demand1
-pub mod Demand2
-pub mod Demand3
-pub mod RootDemand
-pub mod PackedDemand
-pub mod RatioDemand
-pub mod RecheckDemand
-pub mod AveragesDemand
-pub mod BenchCases
-pub mod RootExamples
-pub mod FlagExamples
-pub mod FlagDemand
 pub mod Calls
 pub mod Determined
-pub mod Demands
+pub mod computed

@@ -11,14 +11,14 @@ use Rattle.recurrence.proofs.RunDemand.{result-divides}
 use Rattle.division.proofs.Binary64Names.{magnitude, field, fraction, signOf, byClass, orRounded, quotientOf, significandOf, FiniteNonzero, Binary64Result, ByClass, Decided, Undecided, sticky, ratioThrough, alignedOf, roundedQuotient, binary64Through}
 use Rattle.division.proofs.Sticky.{sticky-cross, cut-high, cut-low}
 use Rattle.division.proofs.Quotient.{ScaledTo, AlignedTo, aligned-is}
-use Rattle.division.proofs.Classes.{quotient-operands}
+use Rattle.division.proofs.Classes.{nonzero-operand, quotient-nonzero}
 use Rattle.selection.specs.declared.Estimate.{Estimate}
 
 pub significand-right : (p : ℕ) → FiniteNonzero p → ScaledTo (magnitude p) (significandOf p)
-significand-right p u = ⊎-elim
+significand-right p h = let u = nonzero-operand p h in ⊎-elim
     (λ (z : field p ≡ 0).
     let d = fraction p in
-    let k : 0 < d = omega (arith, rw z at (u .some)) in
+    let k : 0 < d = omega (arith, rw z at (u .0)) in
     let s = shiftTo 52 d in
     let f = lifted 52 d (lit< tt) k (omega arith) in
     let e : s + (52 - s) ≡ 52 = omega (arith, f .1) in
@@ -59,15 +59,16 @@ module _ (E : Estimate) where
       let high = div-lt-iff-lt-mul {k = D} {x = M} {y = 2 ^ 55} (omega arith) .1 (omega arith) in
       rw e (sticky-cross M D (a * 2 ^ 54) b (omega arith) (omega arith) (omega arith), high, omega arith, omega arith)
 
+  -- § 9.10 The digits of the quotient come through the table.
   pub binary64-through : (t : List ℕ) (direction a b : ℕ) → Passes E t → binary64Through E t direction a b ≡ quotientOf direction a b
   unfolding roundedQuotient
   binary64-through t direction a b p = rounded-same (byClass a b) (λ e.
-      let u = quotient-operands a b e in
+      let u = quotient-nonzero a b e in
       let x = significandOf a in
       let y = significandOf b in
       let sx = significand-right a (u .0) in
       let sy = significand-right b (u .1) in
       let w = ratio-right t (x .sig) (y .sig) p (sx .bits .low) (sx .bits .high) (sy .bits .low) (sy .bits .high) in
       let q = ratioThrough E t (x .sig) (y .sig) in
-      sym (aligned-is direction (signOf a b) (magnitude a) (magnitude b) q x y (alignedOf q (x .exp + 1021) (y .exp)) (u .1 .some) sx sy (w .0)
+      sym (aligned-is direction (signOf a b) (magnitude a) (magnitude b) q x y (alignedOf q (x .exp + 1021) (y .exp)) (nonzero-operand b (u .1) .0) sx sy (w .0)
       (aligned-right q (x .exp + 1021) (y .exp) (w .2) (w .3) (omega (arith, sx .bits .small)) (sy .bits .small))))

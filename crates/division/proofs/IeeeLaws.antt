@@ -2,10 +2,10 @@
 use Rattle.laws.proofs.Basics.{_≡_, sym, ap, subst, ℕ, _^_, _≤_, _<_, arith, List}
 use native.Mathlib.Nat.{lt-of-lt-of-le, mul-le-mul-left}
 use lib.Pow.{pow-mono}
-use Rattle.division.specs.Binary64.{binary64Of}
+use Rattle.division.specs.computed.Binary64.{binary64Of}
 use Rattle.division.proofs.Binary64Names.{magnitude, field, classOf, signOf, finiteQuotient, caseOf, nanFlags, decided, orRounded, quotientOf, RoundedQuotient, Ieee, Binary64Result, Case}
 use Rattle.selection.specs.Table.{Passes}
-use Rattle.division.proofs.Answers.{binary64-answer}
+use Rattle.division.proofs.AdmittedAnswers.{binary64-answer}
 use Rattle.division.proofs.Classes.{nonzero-operand, nan-case, invalid-case, by-zero-case, infinite-case, zero-case, quotient-case}
 use Rattle.division.proofs.RoundedOne.{magnitude-under}
 use Rattle.division.proofs.Quotient.{rounded-quotient}
@@ -20,6 +20,7 @@ answer-of : (direction a b : ℕ) {k : Case} → caseOf (classOf a) (classOf b) 
     → quotientOf direction a b ≡ orRounded (finiteQuotient direction (signOf a b) (magnitude a) (magnitude b)) (decided (signOf a b) (nanFlags a b) k)
 answer-of direction a b = ap (λ (k : Case). orRounded (finiteQuotient direction (signOf a b) (magnitude a) (magnitude b)) (decided (signOf a b) (nanFlags a b) k))
 
+-- § 9.5 Every case has its sign, pattern and flags.
 pub ieee : (direction a b : ℕ) → Ieee direction a b (quotientOf direction a b)
 ieee direction a b = record {
   nan = λ h. ap (λ (x : Binary64Result). x .pattern) (answer-of direction a b (nan-case a b h));
@@ -30,7 +31,7 @@ ieee direction a b = record {
   zero = λ h. answer-of direction a b (zero-case a b h);
   quotient = λ h k.
       subst (RoundedQuotient direction (signOf a b) (magnitude a) (magnitude b)) (sym (answer-of direction a b (quotient-case a b h k)))
-      (rounded-quotient direction (signOf a b) (magnitude a) (magnitude b) (magnitude-below a (nonzero-operand a h .finite)) (nonzero-operand b k .some));
+      (rounded-quotient direction (signOf a b) (magnitude a) (magnitude b) (magnitude-below a (nonzero-operand a h .1)) (nonzero-operand b k .0));
 }
 
 -- and so through every table that passes

@@ -2,7 +2,7 @@
 use Rattle.laws.proofs.Basics.{_≡_, refl, sym, ap, subst, _∙_, Bool, true, false, inl, inr, ⊎-elim, ℕ, min, _+_, _-_, _*_, _/_, _%_, _^_, _≤_, _<_, arith, eqb, lt-ltb, ne-eqb}
 use Rattle.laws.proofs.Tests.{cond-in}
 use native.Mathlib.Nat.{le-trans, le-of-eq, eq-of-mul-eq-mul-right, mul-le-mul-right, mul-lt-mul-of-pos-right}
-use Rattle.division.proofs.Binary64Names.{negative, field, magnitude, classOf, IsNonzero, modeOf, IsExponent, greatest, roundedTo, roundedResult, orRounded, significandOf, rootScale, rootPlace, RoundedRoot, IeeeRoot, RootPlain, Class, Zero, Subnormal, Normal, Infinite, Nan, Mode, Binary64Result, finiteRoot, rootOfClass, rootOf}
+use Rattle.division.proofs.Binary64Names.{negative, field, magnitude, classOf, FiniteNonzero, modeOf, IsExponent, greatest, roundedTo, roundedResult, orRounded, significandOf, rootScale, rootPlace, RoundedRoot, IeeeRoot, RootPlain, Class, Zero, Subnormal, Normal, Infinite, Nan, Mode, Binary64Result, finiteRoot, rootOfClass, rootOf}
 use Rattle.division.proofs.RoundedResults.{rounded-near, result-fits}
 use Rattle.division.proofs.Scales.{exponent-one, greatest-meets}
 use Rattle.division.proofs.RoundedOne.{rounded-one}
@@ -16,6 +16,7 @@ use Rattle.division.proofs.Roots.{squares, four-pos, root-increasing, r
 answer-of : (direction p : ℕ) (k : Class) {x : Binary64Result} → classOf p ≡ k → orRounded (finiteRoot direction (magnitude p)) (rootOfClass p k) ≡ x → rootOf direction p ≡ x
 answer-of direction p k e f = ap (λ (k : Class). orRounded (finiteRoot direction (magnitude p)) (rootOfClass p k)) e ∙ f
 
+-- § 12.2 The binary64 root is rounded once, and special operands have their answers.
 pub ieee-root : (direction p : ℕ) → IeeeRoot direction p (rootOf direction p)
 ieee-root direction p = record {
   nan = λ e. answer-of direction p Nan e refl;
@@ -27,10 +28,11 @@ ieee-root direction p = record {
       (λ e. answer-of direction p Infinite (e .1) (rw (e .0)));
   root = λ s h.
       subst (RoundedRoot direction (magnitude p)) (sym (⊎-elim (λ e. answer-of direction p Subnormal e (rw s)) (λ e. answer-of direction p Normal e (rw s)) h))
-      (rounded-root direction (magnitude p) (magnitude-below p (nonzero-operand p h .finite)));
+      (rounded-root direction (magnitude p) (magnitude-below p (nonzero-operand p h .1)));
 }
 
 -- one answer for each pattern
+-- § 12.2 No other root fits.
 pub ieee-root-one : (direction p : ℕ) {x y : Binary64Result} → IeeeRoot direction p x → IeeeRoot direction p y → x ≡ y
 ieee-root-one direction p {x} {y} u v = go (negative p) refl
   where
@@ -59,9 +61,9 @@ normal-result mode e k tail l h a b =
 odd-square : (j m c : ℕ) → 0 < c → (2 * j + 1) * (2 * j + 1) * c ≡ 2 ^ 54 * m * c → ⊥
 odd-square j m c p e = omega (arith, eq-of-mul-eq-mul-right c p ((2 * j + 1) * (2 * j + 1)) (2 ^ 54 * m) e)
 
-module _ (p : ℕ) (h : IsNonzero p) where
+module _ (p : ℕ) (h : FiniteNonzero p) where
   scaled : ScaledTo (magnitude p) (significandOf p)
-  scaled = significand-right p (nonzero-operand p h)
+  scaled = significand-right p h
 
   -- the root's exponent, which is neither low nor high
   root-exponent : IsExponent rootScale (rootPlace (magnitude p)) (exponentOf (significandOf p))
@@ -72,6 +74,7 @@ module _ (p : ℕ) (h : IsNonzero p) where
       let m : 2 ^ 54 * radicandOf x < 2 ^ 54 * 2 ^ 54 = omega (arith, s .1) in
       rw (place-is (magnitude p) x scaled) (record { reached = λ p. mul-le-mul-right (4 ^ exponentOf x) n; beyond = mul-lt-mul-of-pos-right m (four-pos (exponentOf x)) })
 
+  -- § 12.2 A root of a number above zero is normal, and inexact is its only flag.
   pub root-plain : (direction : ℕ) {x : Binary64Result} → RoundedRoot direction (magnitude p) x → RootPlain p x
   root-plain direction {x} r =
       let a = magnitude p in
@@ -82,7 +85,7 @@ module _ (p : ℕ) (h : IsNonzero p) where
       let sum : s * s + (n - s * s) ≡ n = omega (arith, g .0) in
       let left : n - s * s ≤ 2 * s = omega (arith, g .1) in
       let v = 2 * s + min 1 (n - s * s) in
-      let e = rounded-one _ false rootScale root-increasing (rootPlace a) r (rounded-root direction a (magnitude-below p (nonzero-operand p h .finite)))
+      let e = rounded-one _ false rootScale root-increasing (rootPlace a) r (rounded-root direction a (magnitude-below p (nonzero-operand p h .1)))
       ∙ root-is a y scaled s (n - s * s) sum left direction v refl in
       let span = half-span a y scaled s (n - s * s) sum left in
       let E = exponent-span a y scaled in

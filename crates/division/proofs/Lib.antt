@@ -12,7 +12,7 @@ pub mod Classes
 pub mod WholeThrough
 pub mod WholeDigits
 pub mod Binary64Through
-pub mod Calls
+pub mod DivisionCalls
 pub mod JoinedFlags
 pub mod SampleRuns
 pub mod PackedBytes
@@ -20,7 +20,7 @@ pub mod PackedCalls
 pub mod RootCalls
 pub mod Ratios
 pub mod RatioCalls
-pub mod Answers
+pub mod AdmittedAnswers
 pub mod IeeeLaws
 pub mod IeeeOne
 pub mod Rechecking

@@ -3,7 +3,8 @@ use Rattle.laws.proofs.Basics.{_≡_, refl, sym, ap, _∙_, ⊎-elim, List, ℕ
 use native.Mathlib.Nat.{eq-or-lt-of-le, le-of-suc-le-suc, pow-suc, pow-succ', div-div-eq-div-mul}
 use lib.Seq.{ext-getD, getD-set-same, getD-set-other}
 use Rattle.laws.proofs.Lists.{list-length, list-value}
-use Rattle.division.specs.Packed.{twoDigits, numberTo, packedNumber, Decimal, Packed, digitsByte, byteAt, packedBytes}
+use Rattle.division.specs.Packed.{twoDigits, numberTo, packedNumber, Decimal, IsPacked}
+use Rattle.division.specs.computed.Packed.{digitsByte, byteAt, packedBytes}
 
 -- a number without its last two digits
 cut-last : (x m : ℕ) → x / 100 ^ m / 100 ≡ x / 100 ^ suc m
@@ -46,13 +47,14 @@ bytes-length x = list-length (byteAt x) 0 8
 bytes-at : (x k : ℕ) → k < 8 → getD (packedBytes x) k 0 ≡ byteAt x k
 bytes-at x k h = list-value (byteAt x) 0 8 k h
 
-pub bytes-back : (bs : List ℕ) → Packed bs → packedBytes (packedNumber bs) ≡ bs
+-- § 13.3 Bytes come back from their number, and each number has one set of bytes.
+pub bytes-back : (bs : List ℕ) → IsPacked bs → packedBytes (packedNumber bs) ≡ bs
 bytes-back bs p = ext-getD 0 (packedBytes (packedNumber bs)) bs (bytes-length (packedNumber bs) ∙ sym (p .eight)) (λ k h.
     let l : k < 8 = omega (arith, bytes-length (packedNumber bs)) in
     bytes-at (packedNumber bs) k l ∙ ap digitsByte (pair-at bs (p .decimal) 8 k (omega arith) l) ∙ omega (arith, p .decimal .high k l, p .decimal .low k l))
 
 module _ (x : ℕ) where
-  pub bytes-packed : Packed (packedBytes x)
+  pub bytes-packed : IsPacked (packedBytes x)
   bytes-packed = record {
     eight = bytes-length x;
     decimal = record { high = λ k h. rw (bytes-at x k h) (omega arith); low = λ k h. rw (bytes-at x k h) (omega arith) };
@@ -70,6 +72,7 @@ module _ (x : ℕ) where
         let w : twoDigits (getD (packedBytes x) n 0) ≡ x / 100 ^ (7 - n) % 100 = rw (bytes-at x n l) (omega arith) in
         ap (numberTo (packedBytes x)) e ∙ number-more (packedBytes x) n ∙ rw (j, v, w) (omega arith)
 
+    -- § 13.3 Bytes come back from their number, and each number has one set of bytes.
     pub number-back : packedNumber (packedBytes x) ≡ x
     number-back = first-bytes 8 (omega arith) ∙ omega arith
 

@@ -2,12 +2,13 @@
 use Rattle.laws.proofs.Basics.{_≡_, refl, ap, List, _⊎_, ⊎-elim, ℕ, _+_, _-_, _/_, _%_, _≤_, _<_, arith, getD, lt-ltb, le-ltb}
 use Rattle.laws.proofs.Division.{le-or-lt}
 use Rattle.laws.proofs.Tests.{Decides}
-use Rattle.selection.proofs.Refusing.{refusal, answerBy, below, eitherOf, Wrongs, rank, Refuses, holds-decides, found, not-found, WellFormed, refuses, clear-admits, refused-at}
+use Rattle.selection.proofs.RefusalNames.{refusal, answerBy, below, eitherOf, Wrongs, rank, Refuses, holds-decides, found, not-found, WellFormed, refuses, clear-admits, refused-at}
 use Rattle.selection.specs.declared.Admission.{Admission}
-use Rattle.selection.specs.Computed.{madeTable}
-use Rattle.division.specs.Whole.{wholeOf}
-use Rattle.division.specs.declared.packed.PackedAnswer.{PackedAnswer}
-use Rattle.division.specs.Packed.{packedNumber, Decimal, operandByte, Above9, isAbove9, firstAbove9, packedRules, packedZeros, packedValues, packedOf}
+use Rattle.selection.specs.computed.Outcomes.{madeTable}
+use Rattle.division.specs.computed.Whole.{wholeOf}
+use Rattle.division.specs.declared.packed.Packed.{Packed}
+use Rattle.division.specs.Packed.{packedNumber, Decimal}
+use Rattle.division.specs.computed.Packed.{operandByte, Above9, isAbove9, firstAbove9, packedRules, packedZeros, packedValues, packedOf}
 use Rattle.selection.specs.declared.Estimate.the-variants.{EightBits}
 
 decimal-none : {bs : List ℕ} → Decimal bs → (i : ℕ) → i < 8 → Above9 (getD bs i 0) → ⊥
@@ -40,7 +41,7 @@ module _ (xs ys : List ℕ) where
 
   -- ---- the answer: the two refusals, and none
 
-  abbrev answer : Admission → PackedAnswer
+  abbrev answer : Admission → Packed
   answer = answerBy packedZeros (packedValues (wholeOf (madeTable EightBits) (packedNumber xs) (packedNumber ys)))
 
   pub byte-refused : (p : ℕ) → p ≡ firstAbove9 xs ys → p < 16 → packedOf xs ys ≡ packedZeros (refusal 15 p)
@@ -58,12 +59,15 @@ module _ (xs ys : List ℕ) where
   pub packed-refuses : Refuses (Wrongs (packedRules xs ys)) (λ x. x .refusal) packedZeros (packedOf xs ys)
   packed-refuses = refuses packed-rules (λ x. x .refusal) packedZeros (packedValues (wholeOf (madeTable EightBits) (packedNumber xs) (packedNumber ys))) refl (λ f. refl) refl
 
+  -- § 13.4 Packed numbers are refused under these rules.
   pub packed-dividend : (p : ℕ) → p < 8 → Above9 (getD xs p 0) → ((i : ℕ) → i < p → Above9 (getD xs i 0) → ⊥) → packedOf xs ys ≡ packedZeros (refusal 15 p)
   packed-dividend p h a before = ap answer (refused-at packed-rules 0 p (omega arith, record { here = rw (dividend-byte p h) a; before = λ i l x. before i l (rw (dividend-byte i (omega arith)) at x) }))
 
+  -- § 13.4 Packed numbers are refused under these rules.
   pub packed-divisor : (p : ℕ) → Decimal xs → p < 8 → Above9 (getD ys p 0) → ((i : ℕ) → i < p → Above9 (getD ys i 0) → ⊥) → packedOf xs ys ≡ packedZeros (refusal 15 (p + 8))
   packed-divisor p d h a before = ap answer (refused-at packed-rules 0 (p + 8) (omega arith, record { here = rw (divisor-byte p h) a; before = none-before d p (omega arith) before }))
 
+  -- § 13.4 Packed numbers are refused under these rules.
   pub packed-by-zero : Decimal xs → Decimal ys → packedNumber ys ≡ 0 → packedOf xs ys ≡ packedZeros (refusal 5 0)
   packed-by-zero dx dy h = ap answer (refused-at packed-rules 1 0 (decimal-past dx dy, (refl, h)))
 

@@ -33,6 +33,7 @@ reach : (a b x y z : ℕ) → a < x → 0 < y → x * y ≡ 2 ^ 53 * z → 0 < b
 reach a b x y z l h e p = omega (arith, mul-lt-mul-of-pos-right l h, mul-le-mul-right z p)
 
 -- the quotient of two magnitudes that the definition gives is rounded once; finite magnitudes are below 2^1024, which is 2^2098 units
+-- § 9.6 The exact magnitude is rounded once.
 pub rounded-quotient : (direction : ℕ) (s : Bool) (a b : ℕ) → a < 2 ^ 2098 → 0 < b → RoundedQuotient direction s a b (finiteQuotient direction s a b)
 rounded-quotient direction s a b l p =
     finite-rounded (quotientScale b) (quotient-increasing b p) (quotientPlace a) direction s (reach a b (2 ^ 2098) (2 ^ 1074) (2 ^ 3119) l (pow-pos 1074) refl p)

@@ -2,12 +2,12 @@
 use Rattle.laws.proofs.Basics.{_≡_, refl, sym, ap, subst, _∙_, _⊎_, inl, inr, ⊎-elim, ℕ, zero, suc, _+_, _*_, _/_, _%_, _^_, _≤_, _<_, arith, ltb, lt-ltb, le-ltb, lit<}
 use native.Mathlib.Nat.{le-div-iff-mul-le, lt-trans, mul-le-mul-right, mul-lt-mul-of-pos-right, mul-pos, div-add-mod', mod-lt}
 use Rattle.laws.proofs.Division.{le-or-lt}
-use Rattle.selection.specs.Computed.{madeTable}
+use Rattle.selection.specs.computed.Outcomes.{madeTable}
 use Rattle.selection.proofs.MadeTables.{kept-passes}
-use Rattle.division.specs.WholeSteps.{wholeThrough}
-use Rattle.division.specs.Ratios.{Ratios, Round, FoundIn, comparisonOf}
+use Rattle.division.specs.computed.WholeSteps.{wholeThrough}
+use Rattle.division.specs.computed.Ratios.{Ratios, Round, FoundIn, comparisonOf}
 use Rattle.division.specs.declared.whole.WholeResult.{WholeResult}
-use Rattle.division.specs.declared.ratio.Comparison.the-variants.{Less, Equal, Greater}
+use Rattle.division.specs.declared.ratio.RatioOrder.the-variants.{Less, Equal, Greater}
 use Rattle.division.proofs.WholeThrough.{whole-divides}
 use Rattle.selection.specs.declared.Estimate.the-variants.{EightBits}
 

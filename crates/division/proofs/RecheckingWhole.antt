@@ -3,15 +3,14 @@ use Rattle.laws.proofs.Basics.{_≡_, refl, ap, _∙_, List, _⊎_, inl, inr, �
 use native.Mathlib.Nat.{pos-of-ne-zero, mul-div-cancel, le-div-iff-mul-le, lt-of-mul-lt-mul-right, mod-lt, div-add-mod'}
 use lib.Pow.{pow-pos}
 use Rattle.laws.proofs.Tests.{Decides}
-use Rattle.selection.proofs.Refusing.{refusal, answerBy, firstRefusal, rank, WellFormed, refuses-one, admits, refuses, cleared, clear-admits, refused-at}
-use Rattle.selection.specs.declared.Admission.{Admission}
+use Rattle.selection.proofs.RefusalNames.{refusal, firstRefusal, rank, WellFormed, refuses-one, refuses, cleared, clear-admits}
 use Rattle.selection.specs.declared.Admission.the-variants.{Admitted}
-use Rattle.recurrence.specs.Recheck.{exactResult, ShowsWrong, Marks, markZeros, markValues, runsWrong, runMark}
+use Rattle.recurrence.specs.computed.Recheck.{exactResult, ShowsWrong, Marks, markZeros, markValues, runsWrong, runMark}
 use Rattle.recurrence.specs.Recurrence.{resultOf}
 use Rattle.recurrence.proofs.RightRuns.{wrong-decides, run-mark-right, run-mark-claim, mark-is, mark-one}
 use Rattle.laws.specs.Shifts.{shiftTo}
-use Rattle.division.specs.WholeSteps.{digitsAfter, shiftedRun, shiftedThrough}
-use Rattle.division.specs.RecheckWhole.{wholeDividend, wholeDivisor, wholeCount, WholeAffected, WholeRight, recheckWholeRules, RecheckWholeAccepts, WholeRechecks, WholeClaim, wholeMark, recheckWholeOf}
+use Rattle.division.specs.computed.WholeSteps.{digitsAfter, shiftedRun, shiftedThrough}
+use Rattle.division.specs.computed.RecheckWhole.{wholeDividend, wholeDivisor, wholeCount, WholeAffected, WholeRight, recheckWholeRules, RecheckWholeAccepts, WholeRechecks, WholeClaim, wholeMark, recheckWholeOf}
 use Rattle.division.specs.declared.whole.WholeResult.{WholeResult}
 use Rattle.recurrence.specs.declared.recheck.AffectedMark.{AffectedMark}
 use Rattle.division.proofs.WholeThrough.{whole-operands, whole-dividend, whole-exact}
@@ -61,6 +60,7 @@ module _ (E : Estimate) where
           omega (arith, lt-of-mul-lt-mul-right (2 ^ s) l, div-add-mod' a b))
           w
 
+      -- § 17.5 The mark of whole numbers is 1 exactly if Q or R is wrong; no other fits.
       pub whole-claim : {m : ℕ} → Marks (WholeAffected E t a b) m → WholeClaim E t a b m
       whole-claim {m} r =
           let c = run-mark-claim E t _ _ _ (whole-operands a b ha pb hb) (omega arith) r in
@@ -90,34 +90,8 @@ module _ (E : Estimate) where
       rechecks = λ x. rw (recheck-whole-admits (length t) a b x) (whole-mark-right t a b (x .dividend) (x .some) (x .divisor));
     }
 
-    -- what the code asks: by the first refusal v
-    pub recheck-whole-answer : {v : Admission} {x : AffectedMark} → firstRefusal (recheckWholeRules (length t) a b) ≡ v
-        → x ≡ answerBy markZeros (markValues (wholeMark E t a b)) v
-        → (x ≡ recheckWholeOf E t a b) × WholeRechecks E t a b x
-    recheck-whole-answer e g = rw (g, ← e) (refl, whole-rechecks-right)
-
-    -- the conditions in numbers: where one holds and none before it, the call refuses so
-    pub recheck-large : (2 ^ 60 ≤ a) ⊎ (2 ^ 60 ≤ b) → recheckWholeOf E t a b ≡ markZeros (refusal 4 0)
-    recheck-large h = ap (answerBy markZeros _) (refused-at (recheck-whole-rules (length t) a b) 0 0 (refl, h))
-
-    pub recheck-by-zero : a < 2 ^ 60 → b ≡ 0 → recheckWholeOf E t a b ≡ markZeros (refusal 5 0)
-    recheck-by-zero h e = ap (answerBy markZeros _) (refused-at (recheck-whole-rules (length t) a b) 1 0 ((h, omega arith), (refl, e)))
-
-    pub recheck-whole-length : a < 2 ^ 60 → 0 < b → b < 2 ^ 60 → (length t ≡ 2048 → ⊥) → recheckWholeOf E t a b ≡ markZeros (refusal 8 0)
-    recheck-whole-length h p k n = ap (answerBy markZeros _) (refused-at (recheck-whole-rules (length t) a b) 2 0 ((h, k), ((λ e. omega arith), (refl, n))))
-
-    -- and where none does, it refuses nothing
-    pub recheck-whole-told : a < 2 ^ 60 → 0 < b → b < 2 ^ 60 → length t ≡ 2048 → recheckWholeOf E t a b .refusal ≡ refusal 0 0
-    recheck-whole-told h p k e = rw (recheck-whole-admits (length t) a b (record { dividend = h; divisor = k; some = p; size = e }))
-
-  module _ {t : List ℕ} {a b : ℕ} where
-    -- an answer that is not refused
-    pub recheck-whole-claim : (x : AffectedMark) → WholeRechecks E t a b x → x .refusal ≡ refusal 0 0 → WholeClaim E t a b (x .affected)
-    recheck-whole-claim x r e =
-        let k = recheck-whole-accepts (length t) a b (admits (recheck-whole-rules (length t) a b) (r .refuses .by .none .0 e)) in
-        whole-claim t a b (k .dividend) (k .some) (k .divisor) (r .rechecks k)
-
     -- no other answer fits
+    -- § 17.5 The mark of whole numbers is 1 exactly if Q or R is wrong; no other fits.
     pub whole-rechecks-one : (f g : AffectedMark) → WholeRechecks E t a b f → WholeRechecks E t a b g → f ≡ g
     whole-rechecks-one f g x y = refuses-one (recheck-whole-rules (length t) a b) (x .refuses) (y .refuses) (λ e r.
         let k = recheck-whole-accepts (length t) a b e in

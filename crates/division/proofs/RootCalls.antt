@@ -2,14 +2,14 @@
 use Rattle.laws.proofs.Basics.{_≡_, sym, ap, subst, _∙_, false, ℕ, min, _+_, _*_, _/_, _%_, _^_, _≤_, _<_, arith}
 use native.Mathlib.Nat.{mod-eq-of-lt}
 use Rattle.laws.proofs.Tests.{cond-in}
-use Rattle.selection.proofs.Refusing.{firstRefusal, rank, WellFormed, cleared, clear-admits}
+use Rattle.selection.proofs.RefusalNames.{firstRefusal, rank, WellFormed, cleared, clear-admits}
 use Rattle.selection.specs.declared.Admission.the-variants.{Admitted}
-use Rattle.division.specs.Format.{magnitude, negative}
-use Rattle.division.specs.Significands.{significandOf, FiniteNonzero}
+use Rattle.division.specs.Format.{magnitude, negative, FiniteNonzero}
+use Rattle.division.specs.computed.Significands.{significandOf}
 use Rattle.division.specs.Rounding.{modeOf}
-use Rattle.division.specs.Computed.{roundedResult}
-use Rattle.division.specs.RootSteps.{DigitsTaken, finiteRoot, rootOfClass, rootByClass}
-use Rattle.division.specs.RootCalls.{rootRules}
+use Rattle.division.specs.computed.Rounding.{roundedResult}
+use Rattle.division.specs.computed.RootSteps.{DigitsTaken, finiteRoot, rootOfClass, rootByClass}
+use Rattle.division.specs.computed.RootCalls.{rootRules}
 use Rattle.division.specs.declared.rounding.Mode.{Mode}
 use Rattle.division.specs.declared.format.Binary64Result.{Binary64Result}
 use Rattle.division.specs.declared.format.Scaled.{Scaled}
@@ -17,7 +17,7 @@ use Rattle.division.specs.declared.format.ByClass.{ByClass}
 use Rattle.division.specs.declared.format.ByClass.the-variants.{Decided, Undecided}
 use Rattle.division.specs.declared.root.RootState.{RootState}
 use Rattle.division.proofs.Quotient.{ScaledTo}
-use Rattle.division.proofs.Classes.{nonzero-operand, by-kind}
+use Rattle.division.proofs.Classes.{by-kind}
 use Rattle.division.proofs.Binary64Through.{significand-right}
 use Rattle.division.proofs.Roots.{exponentOf, radicandOf, radicand-span, exponent-span, half-span, root-is}
 
@@ -52,7 +52,7 @@ module _ (p : ℕ) (x : Scaled) (u : FiniteNonzero p) (ex : x ≡ significandOf 
 
 -- where its class and its sign decide nothing, the operand is a finite number other than zero
 pub root-operand : (p : ℕ) → rootByClass p ≡ Undecided → FiniteNonzero p
-root-operand p u = by-kind p (λ e. absurd (no (sym (ap (rootOfClass p) e) ∙ u))) (nonzero-operand p)
+root-operand p u = by-kind p (λ e. absurd (no (sym (ap (rootOfClass p) e) ∙ u))) (λ h. h)
     (λ e. absurd (cond-in (λ (k : ByClass). k ≡ Undecided → ⊥) (negative p) no no (sym (ap (rootOfClass p) e) ∙ u)))
     (λ e. absurd (no (sym (ap (rootOfClass p) e) ∙ u)))
   where

@@ -3,7 +3,7 @@ use Rattle.laws.proofs.Basics.{_≡_, refl, sym, ap, _∙_, cond, _⊎_, ⊎-el
 use native.Mathlib.Nat.{pow-suc, add-zero}
 use lib.Pow.{pow-mono}
 use Rattle.laws.proofs.Division.{le-or-lt}
-use Rattle.division.specs.RootSteps.{DigitsTaken}
+use Rattle.division.specs.computed.RootSteps.{DigitsTaken}
 use Rattle.division.specs.declared.root.RootState.{RootState}
 
 -- one digit of the weight h, after digits down to twice that weight: s is twice the root so far and r what is left, x and y are the next of both

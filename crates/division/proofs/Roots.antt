@@ -6,8 +6,8 @@ use Rattle.laws.proofs.Comparisons.{not-below, not-most}
 use Rattle.laws.proofs.Powers.{four-pow, by-digits}
 use Rattle.selection.specs.Answer.{refusal}
 use Rattle.division.proofs.Binary64Names.{modeOf, roundedResult, rootScale, rootPlace, RoundedRoot, Scaled, DigitsTaken, wholeRoot, finiteRoot}
-use Rattle.division.specs.RootCalls.{rootValues}
-use Rattle.division.specs.declared.root.RootAnswer.{RootAnswer}
+use Rattle.division.specs.computed.RootCalls.{rootValues}
+use Rattle.division.specs.declared.root.Root.{Root}
 use Rattle.division.specs.declared.root.RootState.{RootState}
 use Rattle.division.proofs.Scales.{Increasing, greatest-meets, greatest-one}
 use Rattle.division.proofs.Rounded.{finite-rounded, finite-is}
@@ -18,11 +18,13 @@ use Rattle.division.proofs.Quotient.{ScaledTo}
 pub squares : (i j : ℕ) → i < j → i * i < j * j
 squares i j h = lt-of-le-of-lt (mul-le-mul-left i (le-of-lt h)) (mul-lt-mul-of-pos-right h (lt-of-le-of-lt zero-le h))
 
+-- § 12.1 The whole root s has s·s ≤ a < (s + 1)·(s + 1); no other fits.
 pub whole-root : (a : ℕ) → a < 2 ^ 60 → (wholeRoot a * wholeRoot a ≤ a) × (a < (wholeRoot a + 1) * (wholeRoot a + 1))
 unfolding wholeRoot
 whole-root a h = greatest-meets (λ s. s * s) squares a 30 0 (omega arith) h
 
 -- there is one
+-- § 12.1 The whole root s has s·s ≤ a < (s + 1)·(s + 1); no other fits.
 pub whole-root-one : (a s : ℕ) → a < 2 ^ 60 → s * s ≤ a → a < (s + 1) * (s + 1) → s ≡ wholeRoot a
 whole-root-one a s h u v = let w = whole-root a h in greatest-one (λ s. s * s) squares a s (wholeRoot a) u v (w .0) (w .1)
 
@@ -30,7 +32,7 @@ whole-root-one a s h u v = let w = whole-root a h in greatest-one (λ s. s * s) 
 digits-whole : (a q r : ℕ) → q * 2 ^ 31 * (q * 2 ^ 31) + 4 * (2 ^ 30 * r) ≡ 4 * (2 ^ 60 * a) → r < q * 2 ^ 31 + 2 ^ 30 → (q * q ≤ a) × (a < (q + 1) * (q + 1)) × (r / 2 ^ 30 ≡ a - q * q)
 digits-whole a q r e l = (omega arith, omega arith, omega arith)
 
-pub whole-is : (a : ℕ) (x : RootState) → a < 2 ^ 60 → DigitsTaken (2 ^ 60 * a) 30 x → _≡_ {A = RootAnswer} (record { refusal = refusal 0 0; root = x .twice / 2 ^ 31; remainder = x .rest / 2 ^ 30 }) (rootValues a (wholeRoot a))
+pub whole-is : (a : ℕ) (x : RootState) → a < 2 ^ 60 → DigitsTaken (2 ^ 60 * a) 30 x → _≡_ {A = Root} (record { refusal = refusal 0 0; root = x .twice / 2 ^ 31; remainder = x .rest / 2 ^ 30 }) (rootValues a (wholeRoot a))
 whole-is a x h d =
     let q = d .digits in
     let u = d .weight in

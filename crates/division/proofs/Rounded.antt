@@ -72,6 +72,7 @@ module _ (scale : ℕ → ℕ → ℕ) (inc : Increasing scale) (m : ℕ) where
   opened direction s = refl
 
   -- the definition's answer has the meaning
+  -- § 12.3 Rounding has one answer, for quotient and root together.
   pub finite-rounded : (direction : ℕ) (s : Bool) → m < scale 3119 (2 ^ 54) → Rounded (modeOf direction s) s scale m (finiteRounded direction s scale m)
   finite-rounded direction s h =
       let e = largest 3119 scale m in

@@ -55,6 +55,7 @@ module _ (mode : Mode) (s : Bool) (scale : ℕ → ℕ → ℕ) (inc : Increasin
   multiples : u .K ≡ v .K
   multiples = rounds-one (scale (v .e)) (inc .up (v .e)) mode m (u .K) (v .K) (rw exponents at (u .rounded)) (v .rounded)
 
+  -- § 12.3 Rounding has one answer, for quotient and root together.
   pub rounded-one : x ≡ y
   rounded-one = ⊎-elim
       (λ (h : 2 ^ 2098 ≤ u .K * 2 ^ u .e). u .over h ∙ sym (v .over (rw (multiples, exponents) at h)))

@@ -66,6 +66,7 @@ module _ (scale : ℕ → ℕ → ℕ) (inc : Increasing scale) where
         (le-or-lt (scale (suc d) (2 ^ 53)) m)
 
     -- there is one
+    -- § 9.6 E is the greatest whole number with 2^E ≤ abs(a/b), at least −1022.
     pub exponent-one : (d e : ℕ) → IsExponent scale m d → IsExponent scale m e → d ≡ e
     exponent-one d e x y = omega (arith, exponent-mono m m d e (le-refl m) x y, exponent-mono m m e d (le-refl m) y x)
 

@@ -8,9 +8,9 @@ use Rattle.laws.proofs.Powers.{four-pow, lifted, pow-cancel}
 use Rattle.laws.specs.Shifts.{shiftTo}
 use Rattle.selection.specs.Table.{Passes}
 use Rattle.recurrence.specs.Recurrence.{Operands, resultOf}
-use Rattle.recurrence.specs.Recheck.{exactResult}
+use Rattle.recurrence.specs.computed.Recheck.{exactResult}
 use Rattle.recurrence.proofs.RunDemand.{result-divides}
-use Rattle.division.specs.WholeSteps.{digitsAfter, shiftedRun, shiftedThrough, wholeThrough}
+use Rattle.division.specs.computed.WholeSteps.{digitsAfter, shiftedRun, shiftedThrough, wholeThrough}
 use Rattle.selection.specs.declared.Estimate.{Estimate}
 
 -- above a number below 2^60 there are four zeros at least; moved up by all of them but three, or by less, it stays in the dividend's span
@@ -58,6 +58,7 @@ module _ (E : Estimate) where
   whole-through t a b p ha pb hb = result-divides E t _ _ _ p (whole-operands a b ha pb hb) (omega arith) ∙ whole-exact a b ha pb hb
 
   -- so the call's quotient and remainder are a / b and a % b
+  -- § 8.1 Q and R have a = Q·b + R and 0 ≤ R < b.
   pub whole-divides : (t : List ℕ) (a b : ℕ) → Passes E t → a < 2 ^ 60 → 0 < b → b < 2 ^ 60 → wholeThrough E t a b ≡ record { quotient = a / b; remainder = a % b }
   unfolding shiftedThrough shiftedRun
   whole-divides t a b p ha pb hb = rw (whole-through t a b p ha pb hb, mul-div-cancel (a % b) (pow-pos (shiftTo 60 b)))

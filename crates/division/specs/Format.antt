@@ -4,10 +4,6 @@ use mathlib.Core.Logic.{_⊎_}
 use Prim.Native.Nat.{ℕ, _+_, _-_, _*_, _/_, _%_, _^_}
 use mathlib.Core.Bool.{Bool, not, cond, _&&_, Bool·beq}
 use lib.Dec.{leb, ltb, eqb}
-use Rattle.selection.specs.Answer.{refusal}
-use Rattle.selection.specs.declared.Refusal.{Refusal}
-use Rattle.division.specs.declared.format.Binary64Result.{Binary64Result}
-use Rattle.division.specs.declared.format.Binary64Answer.{Binary64Answer}
 use Rattle.division.specs.declared.format.Class.{Class}
 use Rattle.division.specs.declared.format.Class.the-variants.{Zero, Subnormal, Normal, Infinite, Nan}
 
@@ -25,19 +21,21 @@ fraction p = p % 2 ^ 52
 abbrev pub magnitude : ℕ → ℕ
 magnitude p = cond (eqb (field p) 0) (fraction p) ((2 ^ 52 + fraction p) * 2 ^ (field p - 1))
 
+-- § 9.1 Each pattern has one of five classes; a not-a-number may be signalling.
 abbrev pub classOf : ℕ → Class
 classOf p =
     cond (eqb (field p) 0) (cond (eqb (fraction p) 0) Zero Subnormal)
     (cond (ltb (field p) 2047) Normal (cond (eqb (fraction p) 0) Infinite Nan))
 
--- a pattern's class is one of those named
-abbrev pub IsNonzero : ℕ → Type 0
-IsNonzero p = (classOf p ≡ Subnormal) ⊎ (classOf p ≡ Normal)
+-- a finite number other than zero, and a finite number, by the pattern's class
+abbrev pub FiniteNonzero : ℕ → Type 0
+FiniteNonzero p = (classOf p ≡ Subnormal) ⊎ (classOf p ≡ Normal)
 
 abbrev pub IsFinite : ℕ → Type 0
-IsFinite p = (classOf p ≡ Zero) ⊎ IsNonzero p
+IsFinite p = (classOf p ≡ Zero) ⊎ FiniteNonzero p
 
 -- a signalling not-a-number: the top fraction bit is 0, the fraction is not 0
+-- § 9.1 Each pattern has one of five classes; a not-a-number may be signalling.
 abbrev pub signalling : ℕ → Bool
 signalling p = eqb (field p) 2047 && (ltb 0 (fraction p) && ltb (fraction p) (2 ^ 51))
 
@@ -74,13 +72,3 @@ invalidFlag = 16
 -- the sign is the exclusive or of the signs
 abbrev pub signOf : ℕ → ℕ → Bool
 signOf a b = not (Bool·beq (negative a) (negative b))
-
--- ---- the answer of a call that gives a pattern and flags
-
--- number and place of a refusal, and zeros
-abbrev pub binary64Zeros : Refusal → Binary64Answer
-binary64Zeros f = record { refusal = f; pattern = 0; flags = 0 }
-
--- pattern and flags, and no refusal
-abbrev pub binary64Values : Binary64Result → Binary64Answer
-binary64Values x = record { refusal = refusal 0 0; pattern = x .pattern; flags = x .flags }

@@ -3,7 +3,7 @@ use mathlib.Core.Path.{_≡_}
 use mathlib.Core.Bool.{true, false, cond}
 use mathlib.Core.Logic.{_⊎_}
 use Prim.Native.Nat.{ℕ, _+_, _*_, _^_, _≤_}
-use Rattle.division.specs.Format.{negative, magnitude, classOf, signalling, quietNan, invalidFlag, IsNonzero}
+use Rattle.division.specs.Format.{negative, magnitude, classOf, signalling, quietNan, invalidFlag, FiniteNonzero}
 use Rattle.division.specs.Rounding.{modeOf}
 use Rattle.division.specs.Rounded.{IsExponent, Rounded}
 use Rattle.division.specs.declared.format.Binary64Result.{Binary64Result}
@@ -18,17 +18,20 @@ abbrev pub rootPlace : ℕ → ℕ
 rootPlace a = 4 * (a * 2 ^ 1074)
 
 -- x is the root of a magnitude above 0, in units of 2^-1074, rounded once
+-- § 12.2 The binary64 root is rounded once, and special operands have their answers.
 abbrev pub RoundedRoot : ℕ → ℕ → Binary64Result → Type 0
 RoundedRoot direction a = Rounded (modeOf direction false) false rootScale (rootPlace a)
 
 -- x is the root of p
+-- § 12.2 The binary64 root is rounded once, and special operands have their answers.
 pub record IeeeRoot (direction p : ℕ) (x : Binary64Result) : Type 0 where
   pub nan : classOf p ≡ Nan → x ≡ record { pattern = quietNan; flags = cond (signalling p) invalidFlag 0 }
-  pub below-zero : negative p ≡ true → IsNonzero p ⊎ (classOf p ≡ Infinite) → x ≡ record { pattern = quietNan; flags = invalidFlag }
+  pub below-zero : negative p ≡ true → FiniteNonzero p ⊎ (classOf p ≡ Infinite) → x ≡ record { pattern = quietNan; flags = invalidFlag }
   pub itself : (classOf p ≡ Zero) ⊎ ((negative p ≡ false) × (classOf p ≡ Infinite)) → x ≡ record { pattern = p; flags = 0 }
-  pub root : negative p ≡ false → IsNonzero p → RoundedRoot direction (magnitude p) x
+  pub root : negative p ≡ false → FiniteNonzero p → RoundedRoot direction (magnitude p) x
 
 -- what never happens to the root x of a finite number p above 0: it is not subnormal and does not overflow, it sets no flag but inexact (1), and no root lies halfway between two multiples
+-- § 12.2 A root of a number above zero is normal, and inexact is its only flag.
 pub record RootPlain (p : ℕ) (x : Binary64Result) : Type 0 where
   pub normal : classOf (x .pattern) ≡ Normal
   pub flags : x .flags ≤ 1

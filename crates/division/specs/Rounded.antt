@@ -11,19 +11,23 @@ use Rattle.division.specs.declared.format.Binary64Result.{Binary64Result
 use Rattle.division.specs.declared.rounding.Mode.{Mode}
 
 -- E is the largest whole number with 2^E at most the exact magnitude, or -1022 if that is larger: 2^E is 2^53 half units of 2^(E - 52), and 2^(E + 1) is 2^54
+-- § 9.6 E is the greatest whole number with 2^E ≤ abs(a/b), at least −1022.
 pub record IsExponent (scale : ℕ → ℕ → ℕ) (m e : ℕ) : Type 0 where
   pub reached : 0 < e → scale e (2 ^ 53) ≤ m
   pub beyond : m < scale e (2 ^ 54)
 
 -- what overflow gives: infinity, or the largest finite number where the mode is toward zero
+-- § 9.7 From 2^1024 on the answer is infinity or the largest finite number, with flags 5.
 abbrev pub overflowOf : Mode → ℕ
 overflowOf mode = cond (pointsToZero mode) largestFinite infinity
 
 -- the flags of a result of K units that stays finite: inexact (1) when it isn't exactly the magnitude; underflow (2) too when that is below 2^-1022, which is 2^53 half units at e = 0
+-- § 9.8 Inexact and underflow are judged by the exact quotient.
 abbrev pub flagsOfResult : (ℕ → ℕ → ℕ) → ℕ → ℕ → ℕ → ℕ
 flagsOfResult scale m e K = cond (eqb (scale e (2 * K)) m) 0 (cond (ltb m (scale 0 (2 ^ 53))) (inexactFlag + underflowFlag) inexactFlag)
 
 -- x is the exact magnitude with the sign s: rounded once, to a multiple K of 2^(E - 52). What a direction means for that sign is the mode (`modeOf`)
+-- § 9.6 The exact magnitude is rounded once.
 pub record Rounded (mode : Mode) (s : Bool) (scale : ℕ → ℕ → ℕ) (m : ℕ) (x : Binary64Result) : Type 0 where
   pub e : ℕ
   pub K : ℕ

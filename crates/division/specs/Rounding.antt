@@ -5,16 +5,11 @@ use mathlib.Core.Path.{_≡_}
 use mathlib.Core.Logic.{_⊎_}
 use Prim.Native.Nat.{ℕ, zero, suc, _+_, _-_, _*_, _%_, _≤_, _<_}
 use mathlib.Core.Bool.{Bool, true, false, cond}
-use mathlib.Core.List.{List, [], _∷_}
-use Rattle.selection.specs.Refusals.{Rule, below, number}
 use Rattle.division.specs.declared.rounding.Mode.{Mode}
 use Rattle.division.specs.declared.rounding.Mode.the-variants.{Nearest, Toward, Away}
 
--- what a call that rounds refuses of its arguments. 6: direction above 3
-abbrev pub directionRules : ℕ → List Rule
-directionRules direction = number 6 (below 3 direction) ∷ []
-
 -- direction 0 nearest, 1 toward zero, 2 toward plus infinity, 3 toward minus infinity; true is a negative sign. Above 3, which the calls refuse, it is read as 0
+-- § 9.2 Each of four directions rounds in its own way.
 abbrev pub modeOf : ℕ → Bool → Mode
 modeOf zero s = Nearest
 modeOf (suc zero) s = Toward
@@ -42,6 +37,7 @@ pub record ToNearest (f : ℕ → ℕ) (m x : ℕ) : Type 0 where
   pub below : m ≤ f (2 * x + 1)
   pub even : (m ≡ f (2 * x + 1)) ⊎ ((0 < x) × (m ≡ f (2 * x - 1))) → x % 2 ≡ 0
 
+-- § 9.2 Each of four directions rounds in its own way.
 abbrev pub Rounds : Mode → (ℕ → ℕ) → ℕ → ℕ → Type 0
 Rounds Nearest f m x = ToNearest f m x
 Rounds Toward f m x = TowardZero f m x

@@ -2,8 +2,9 @@
 ghost use mathlib.Core.Path.{_≡_};
 ghost use Prim.Native.Nat.{_-_, _*_, _^_, _<_};
 ghost use Rattle.laws.specs.Shifts.{shiftTo};
-ghost use Rattle.division.specs.Format.{classOf, signalling, signOf, signBit, binary64Zeros, binary64Values};
-ghost use Rattle.division.specs.Significands.{significandOf, FiniteNonzero, Normalized};
+ghost use Rattle.division.specs.Format.{classOf, FiniteNonzero, signalling, signOf, signBit};
+ghost use Rattle.division.specs.computed.Format.{binary64Zeros, binary64Values};
+ghost use Rattle.division.specs.computed.Significands.{significandOf, Normalized};
 use selection::NO_REFUSAL;
 use selection::Refusal;
 
@@ -16,7 +17,7 @@ pub(crate) const INFINITY: u64 = 0x7FF0_0000_0000_0000;
 
 pub(crate) const LARGEST_FINITE: u64 = 0x7FEF_FFFF_FFFF_FFFF;
 
-// The top fraction bit, which a signalling not-a-number has not.
+// The top fraction bit: 0 in a signalling not-a-number, 1 in a quiet one.
 const QUIET_BIT: u64 = 0x8_0000_0000_0000;
 
 pub(crate) const QUIET_NAN: u64 = 0x7FF8_0000_0000_0000;
@@ -40,7 +41,7 @@ pub struct Binary64Result {
 
 // The answer, as C sees it: the refusal (0: none) and its place, the pattern and the sum of flags, zeros where the call refuses.
 #[repr(C)]
-pub struct Binary64Answer {
+pub struct Binary64 {
     pub refusal: Refusal,
     pub pattern: u64,
     pub flags: u64,
@@ -148,10 +149,10 @@ pub(crate) fn significand(p: u64) -> Scaled
 }
 
 // A refused answer.
-pub(crate) fn zeros(f: Refusal) -> Binary64Answer
+pub(crate) fn zeros(f: Refusal) -> Binary64
     ensures { λ r. ⌜ r ≡ binary64Zeros f ⌝ }
 {
-    Binary64Answer {
+    Binary64 {
         refusal: f,
         pattern: 0,
         flags: 0,
@@ -159,10 +160,10 @@ pub(crate) fn zeros(f: Refusal) -> Binary64Answer
 }
 
 // An answer that is not refused.
-pub(crate) fn values(x: Binary64Result) -> Binary64Answer
+pub(crate) fn values(x: Binary64Result) -> Binary64
     ensures { λ r. ⌜ r ≡ binary64Values x ⌝ }
 {
-    Binary64Answer {
+    Binary64 {
         refusal: NO_REFUSAL,
         pattern: x.pattern,
         flags: x.flags as u64,

@@ -2,15 +2,18 @@
 ghost use mathlib.Core.Path.{_≡_};
 ghost use Prim.Native.Nat.{_≤_, _<_};
 ghost use Rattle.selection.specs.Answer.{refusal};
-ghost use Rattle.division.specs.Packed.{twoDigits, packedNumber, packedBytes, operandByte, isAbove9, firstAbove9, packedZeros, packedValues, packedOf};
-use crate::whole::WholeAnswer;
+ghost use Rattle.division.specs.Packed.{twoDigits, packedNumber};
+ghost use Rattle.division.specs.computed.Packed.{packedBytes, operandByte, isAbove9, firstAbove9, packedZeros, packedValues, packedOf};
+use crate::whole::Whole;
 use crate::whole::divide_whole_kept;
 use selection::NO_REFUSAL;
+use selection::REFUSED_BY_ZERO;
+use selection::REFUSED_DECIMAL;
 use selection::Refusal;
 
 // The answer, as C sees it: the refusal (0: none) and its place, quotient and remainder in bytes, zeros where the call refuses.
 #[repr(C)]
-pub struct PackedAnswer {
+pub struct Packed {
     pub refusal: Refusal,
     pub quotient: [u8; 8],
     pub remainder: [u8; 8],
@@ -85,10 +88,10 @@ fn bytes_of(number: u64) -> [u8; 8]
 }
 
 // A refused answer.
-fn zeros(number: u64, place: u64) -> PackedAnswer
+fn zeros(number: u64, place: u64) -> Packed
     ensures { λ r. ⌜ r ≡ packedZeros (refusal number place) ⌝ }
 {
-    PackedAnswer {
+    Packed {
         refusal: Refusal { number, place },
         quotient: [0u8; 8],
         remainder: [0u8; 8],
@@ -96,12 +99,12 @@ fn zeros(number: u64, place: u64) -> PackedAnswer
 }
 
 // An answer that is not refused.
-fn values(x: WholeAnswer) -> PackedAnswer
+fn values(x: Whole) -> Packed
     ensures { λ r. ⌜ r ≡ packedValues x ⌝ }
 {
     let quotient = bytes_of(x.quotient);
     let remainder = bytes_of(x.remainder);
-    PackedAnswer {
+    Packed {
         refusal: NO_REFUSAL,
         quotient,
         remainder,
@@ -109,16 +112,16 @@ fn values(x: WholeAnswer) -> PackedAnswer
 }
 
 // Quotient and remainder of two packed numbers.
-pub fn divide_packed(dividend: [u8; 8], divisor: [u8; 8]) -> PackedAnswer
+pub fn divide_packed(dividend: [u8; 8], divisor: [u8; 8]) -> Packed
     ensures { λ r. ⌜ r ≡ packedOf dividend divisor ⌝ }
 {
     let wrong = first_above_9(dividend, divisor);
     let b = number_of(divisor);
     if wrong < 16 {
-        return zeros(15, wrong as u64);
+        return zeros(REFUSED_DECIMAL, wrong as u64);
     }
     if b == 0 {
-        return zeros(5, 0);
+        return zeros(REFUSED_BY_ZERO, 0);
     }
     let a = number_of(dividend);
     values(divide_whole_kept(a, b))

@@ -2,17 +2,19 @@
 ghost use mathlib.Core.Path.{_≡_};
 ghost use Prim.Native.Nat.{_*_};
 ghost use Rattle.selection.specs.Answer.{refusal};
-ghost use Rattle.selection.specs.Refusals.{firstRefusal};
-ghost use Rattle.division.specs.Ratios.{Ratios, comparisonOf, ratiosRules, comparedOf, comparisonNumbers};
+ghost use Rattle.selection.specs.computed.Refusals.{firstRefusal};
+ghost use Rattle.division.specs.computed.Ratios.{Ratios, comparisonOf, ratiosRules, comparedOf, comparisonNumbers};
 use crate::whole::OPERAND_END;
 use crate::whole::divide_kept;
 use selection::Admission;
 use selection::NO_REFUSAL;
+use selection::REFUSED_BY_ZERO;
+use selection::REFUSED_TOO_LARGE;
 use selection::Refusal;
 use selection::refused;
 
 // How a / b compares with c / d.
-pub enum Comparison {
+pub enum RatioOrder {
     Less,
     Equal,
     Greater,
@@ -21,14 +23,14 @@ pub enum Comparison {
 
 // The answer, as C sees it: the refusal (0: none) and its place; -1 for less, 0 for equal, 1 for greater, and 0 where the call refuses.
 #[repr(C)]
-pub struct ComparisonNumbers {
+pub struct Comparison {
     pub refusal: Refusal,
     pub order: i64,
 }
 
 // How a / b compares with c / d, kept as how n / m compares with p / q. Where both have the same whole part, the remainders r and s tell: n / m compares with p / q as
 // r / m with s / q, and so as q / s with m / r.
-fn comparison_of(a: u64, b: u64, c: u64, d: u64) -> Comparison
+fn comparison_of(a: u64, b: u64, c: u64, d: u64) -> RatioOrder
     requires { ⌜ Ratios a b c d ⌝ }
     ensures { λ r. ⌜ r ≡ comparisonOf (a * d) (c * b) ⌝ }
 {
@@ -40,19 +42,19 @@ fn comparison_of(a: u64, b: u64, c: u64, d: u64) -> Comparison
         let x = divide_kept(n, m);
         let y = divide_kept(p, q);
         if x.quotient < y.quotient {
-            return Comparison::Less;
+            return RatioOrder::Less;
         }
         if y.quotient < x.quotient {
-            return Comparison::Greater;
+            return RatioOrder::Greater;
         }
         if x.remainder == 0 {
             if y.remainder == 0 {
-                return Comparison::Equal;
+                return RatioOrder::Equal;
             }
-            return Comparison::Less;
+            return RatioOrder::Less;
         }
         if y.remainder == 0 {
-            return Comparison::Greater;
+            return RatioOrder::Greater;
         }
         n = q;
         p = m;
@@ -66,56 +68,56 @@ fn refusal_of(a: u64, b: u64, c: u64, d: u64) -> Admission
     ensures { λ r. ⌜ r ≡ firstRefusal (ratiosRules a b c d) ⌝ }
 {
     if OPERAND_END <= a {
-        return refused(4);
+        return refused(REFUSED_TOO_LARGE);
     }
     if OPERAND_END <= b {
-        return refused(4);
+        return refused(REFUSED_TOO_LARGE);
     }
     if OPERAND_END <= c {
-        return refused(4);
+        return refused(REFUSED_TOO_LARGE);
     }
     if OPERAND_END <= d {
-        return refused(4);
+        return refused(REFUSED_TOO_LARGE);
     }
     if b == 0 {
-        return refused(5);
+        return refused(REFUSED_BY_ZERO);
     }
     if d == 0 {
-        return refused(5);
+        return refused(REFUSED_BY_ZERO);
     }
     Admission::Admitted
 }
 
 // a / b against c / d.
-pub fn compare_ratios(a: u64, b: u64, c: u64, d: u64) -> Comparison
+pub fn compare_ratios(a: u64, b: u64, c: u64, d: u64) -> RatioOrder
     ensures { λ r. ⌜ r ≡ comparedOf a b c d ⌝ }
 {
     let admission = refusal_of(a, b, c, d);
     match admission {
-        Admission::Refused(f) => Comparison::Refused(f),
+        Admission::Refused(f) => RatioOrder::Refused(f),
         Admission::Admitted => comparison_of(a, b, c, d),
     }
 }
 
 // A comparison that is not refused.
-fn comparison_number(order: i64) -> ComparisonNumbers
+fn comparison_number(order: i64) -> Comparison
     ensures { λ r. ⌜ r ≡ record { refusal = refusal 0 0; order = order } ⌝ }
 {
-    ComparisonNumbers {
+    Comparison {
         refusal: NO_REFUSAL,
         order,
     }
 }
 
 // The numbers of a comparison.
-fn numbers_of(x: Comparison) -> ComparisonNumbers
+fn numbers_of(x: RatioOrder) -> Comparison
     ensures { λ r. ⌜ r ≡ comparisonNumbers x ⌝ }
 {
     match x {
-        Comparison::Less => comparison_number(-1),
-        Comparison::Equal => comparison_number(0),
-        Comparison::Greater => comparison_number(1),
-        Comparison::Refused(f) => ComparisonNumbers {
+        RatioOrder::Less => comparison_number(-1),
+        RatioOrder::Equal => comparison_number(0),
+        RatioOrder::Greater => comparison_number(1),
+        RatioOrder::Refused(f) => Comparison {
             refusal: f,
             order: 0,
         },
@@ -123,7 +125,7 @@ fn numbers_of(x: Comparison) -> ComparisonNumbers
 }
 
 // The same in numbers.
-pub fn comparison_numbers(a: u64, b: u64, c: u64, d: u64) -> ComparisonNumbers
+pub fn comparison_numbers(a: u64, b: u64, c: u64, d: u64) -> Comparison
     ensures { λ r. ⌜ r ≡ comparisonNumbers (comparedOf a b c d) ⌝ }
 {
     numbers_of(compare_ratios(a, b, c, d))

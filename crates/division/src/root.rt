@@ -2,12 +2,11 @@
 ghost use mathlib.Core.Path.{_≡_};
 ghost use mathlib.Core.Bool.{cond};
 ghost use Prim.Native.Nat.{ℕ, suc, _+_, _*_, _^_, _≤_, _<_};
-ghost use Rattle.selection.specs.Refusals.{firstRefusal};
-ghost use Rattle.division.specs.Format.{magnitude};
-ghost use Rattle.division.specs.Significands.{FiniteNonzero};
-ghost use Rattle.division.specs.RootSteps.{DigitsTaken, wholeRoot, finiteRoot, unlessNegative, rootByClass, rootOf};
-ghost use Rattle.division.specs.RootCalls.{rootRules, rootValues, rootWholeOf, rootBinary64Of};
-use crate::format::Binary64Answer;
+ghost use Rattle.selection.specs.computed.Refusals.{firstRefusal};
+ghost use Rattle.division.specs.Format.{magnitude, FiniteNonzero};
+ghost use Rattle.division.specs.computed.RootSteps.{DigitsTaken, wholeRoot, finiteRoot, unlessNegative, rootByClass, rootOf};
+ghost use Rattle.division.specs.computed.RootCalls.{rootRules, rootValues, rootWholeOf, rootBinary64Of};
+use crate::format::Binary64;
 use crate::format::Binary64Result;
 use crate::format::ByClass;
 use crate::format::Class;
@@ -23,13 +22,14 @@ use crate::rounding::with_sticky;
 use crate::whole::OPERAND_END;
 use selection::Admission;
 use selection::NO_REFUSAL;
+use selection::REFUSED_TOO_LARGE;
 use selection::Refusal;
 use selection::refused;
 use std::num::wrapping_sub_u64;
 
 // The answer, as C sees it: the refusal (0: none) and its place, the root and the remainder, zeros where the call refuses.
 #[repr(C)]
-pub struct RootAnswer {
+pub struct Root {
     pub refusal: Refusal,
     pub root: u64,
     pub remainder: u64,
@@ -90,18 +90,18 @@ fn refusal_of(a: u64) -> Admission
     ensures { λ r. ⌜ r ≡ firstRefusal (rootRules a) ⌝ }
 {
     if OPERAND_END <= a {
-        return refused(4);
+        return refused(REFUSED_TOO_LARGE);
     }
     Admission::Admitted
 }
 
 // An answer that is not refused: the digits of a * 2^60 down to the weight 2^30.
-fn values(a: u64) -> RootAnswer
+fn values(a: u64) -> Root
     requires { ⌜ a < 2 ^ 60 ⌝ }
     ensures { λ r. ⌜ r ≡ rootValues a (wholeRoot a) ⌝ }
 {
     let state = root_digits(a, 60, 30);
-    RootAnswer {
+    Root {
         refusal: NO_REFUSAL,
         root: state.twice >> 31,
         remainder: state.rest >> 30,
@@ -109,12 +109,12 @@ fn values(a: u64) -> RootAnswer
 }
 
 // The whole root of a, and what is left of a.
-pub fn root_whole(a: u64) -> RootAnswer
+pub fn root_whole(a: u64) -> Root
     ensures { λ r. ⌜ r ≡ rootWholeOf a ⌝ }
 {
     let admission = refusal_of(a);
     match admission {
-        Admission::Refused(f) => RootAnswer {
+        Admission::Refused(f) => Root {
             refusal: f,
             root: 0,
             remainder: 0,
@@ -171,7 +171,7 @@ fn by_class(p: u64) -> ByClass
 }
 
 // The root of p in a direction.
-fn root(p: u64, direction: u64) -> Binary64Result
+fn root_of(p: u64, direction: u64) -> Binary64Result
     requires { ⌜ direction ≤ 3 ⌝ }
     ensures { λ r. ⌜ r ≡ rootOf direction p ⌝ }
 {
@@ -183,12 +183,12 @@ fn root(p: u64, direction: u64) -> Binary64Result
 }
 
 // The pattern and the flags of the root of a in a direction.
-pub fn root_binary64(a: u64, direction: u64) -> Binary64Answer
+pub fn root_binary64(a: u64, direction: u64) -> Binary64
     ensures { λ r. ⌜ r ≡ rootBinary64Of direction a ⌝ }
 {
     let admission = crate::rounding::refusal_of(direction);
     match admission {
         Admission::Refused(f) => crate::format::zeros(f),
-        Admission::Admitted => crate::format::values(root(a, direction)),
+        Admission::Admitted => crate::format::values(root_of(a, direction)),
     }
 }

@@ -1,9 +1,10 @@
 // Rounding, once for every operation that rounds: a magnitude in whole units and a tail to a pattern and its flags.
 ghost use mathlib.Core.Path.{_≡_};
 ghost use Prim.Native.Nat.{min, _+_, _*_, _^_, _≤_, _<_};
-ghost use Rattle.selection.specs.Refusals.{firstRefusal};
-ghost use Rattle.division.specs.Rounding.{directionRules, modeOf};
-ghost use Rattle.division.specs.Computed.{roundedTo, flagsOf, roundedResult};
+ghost use Rattle.selection.specs.computed.Refusals.{firstRefusal};
+ghost use Rattle.division.specs.computed.Format.{directionRules};
+ghost use Rattle.division.specs.Rounding.{modeOf};
+ghost use Rattle.division.specs.computed.Rounding.{roundedTo, flagsOf, roundedResult};
 ghost use Rattle.division.specs.Rounded.{overflowOf};
 use crate::format::Binary64Result;
 use crate::format::HIDDEN_BIT;
@@ -14,6 +15,7 @@ use crate::format::OVERFLOW;
 use crate::format::UNDERFLOW;
 use crate::format::sign_bit;
 use selection::Admission;
+use selection::REFUSED_DIRECTION;
 use selection::refused;
 
 // What a direction means for a magnitude.
@@ -28,7 +30,7 @@ pub(crate) fn refusal_of(direction: u64) -> Admission
     ensures { λ r. ⌜ r ≡ firstRefusal (directionRules direction) ⌝ }
 {
     if 3 < direction {
-        return refused(6);
+        return refused(REFUSED_DIRECTION);
     }
     Admission::Admitted
 }

@@ -3,16 +3,19 @@ ghost use mathlib.Core.Path.{_≡_};
 ghost use mathlib.Core.List.{List};
 ghost use Prim.Native.Nat.{ℕ, _^_, _≤_, _<_};
 ghost use Rattle.selection.specs.Cell as Cell;
-ghost use Rattle.selection.specs.Computed.{madeTable};
-ghost use Rattle.selection.specs.Table.{Passes, rowBytes};
-ghost use Rattle.selection.specs.Refusals.{firstRefusal};
-ghost use Rattle.recurrence.specs.Row.{Row};
-ghost use Rattle.division.specs.WholeSteps.{DivisorShift, DigitCount, shiftedRun, shiftedThrough, wholeThrough};
-ghost use Rattle.division.specs.Whole.{wholeRules, wholeZeros, wholeValues, wholeOf};
+ghost use Rattle.selection.specs.computed.Outcomes.{madeTable};
+ghost use Rattle.selection.specs.Table.{Passes};
+ghost use Rattle.selection.specs.computed.Table.{rowBytes};
+ghost use Rattle.selection.specs.computed.Refusals.{firstRefusal};
+ghost use Rattle.recurrence.specs.computed.Row.{Row};
+ghost use Rattle.division.specs.computed.WholeSteps.{DivisorShift, DigitCount, shiftedRun, shiftedThrough, wholeThrough};
+ghost use Rattle.division.specs.computed.Whole.{wholeRules, wholeZeros, wholeValues, wholeOf};
 ghost use Rattle.selection.specs.declared.Estimate.the-variants.{EightBits};
 use recurrence::RunResult;
 use selection::Admission;
 use selection::NO_REFUSAL;
+use selection::REFUSED_BY_ZERO;
+use selection::REFUSED_TOO_LARGE;
 use selection::Refusal;
 use selection::refused;
 
@@ -26,7 +29,7 @@ pub struct WholeResult {
 
 // The answer, as C sees it: the refusal (0: none) and its place, quotient and remainder, zeros where the call refuses.
 #[repr(C)]
-pub struct WholeAnswer {
+pub struct Whole {
     pub refusal: Refusal,
     pub quotient: u64,
     pub remainder: u64,
@@ -102,22 +105,22 @@ fn refusal_of(a: u64, b: u64) -> Admission
     ensures { λ r. ⌜ r ≡ firstRefusal (wholeRules a b) ⌝ }
 {
     if OPERAND_END <= a {
-        return refused(4);
+        return refused(REFUSED_TOO_LARGE);
     }
     if OPERAND_END <= b {
-        return refused(4);
+        return refused(REFUSED_TOO_LARGE);
     }
     if b == 0 {
-        return refused(5);
+        return refused(REFUSED_BY_ZERO);
     }
     Admission::Admitted
 }
 
 // A refused answer.
-fn zeros(f: Refusal) -> WholeAnswer
+fn zeros(f: Refusal) -> Whole
     ensures { λ r. ⌜ r ≡ wholeZeros f ⌝ }
 {
-    WholeAnswer {
+    Whole {
         refusal: f,
         quotient: 0,
         remainder: 0,
@@ -125,10 +128,10 @@ fn zeros(f: Refusal) -> WholeAnswer
 }
 
 // An answer that is not refused.
-fn values(x: WholeResult) -> WholeAnswer
+fn values(x: WholeResult) -> Whole
     ensures { λ r. ⌜ r ≡ wholeValues x ⌝ }
 {
-    WholeAnswer {
+    Whole {
         refusal: NO_REFUSAL,
         quotient: x.quotient,
         remainder: x.remainder,
@@ -136,7 +139,7 @@ fn values(x: WholeResult) -> WholeAnswer
 }
 
 // Quotient and remainder of a by b through a table.
-pub fn divide_whole(table: &[u8], a: u64, b: u64) -> WholeAnswer
+pub fn divide_whole(table: &[u8], a: u64, b: u64) -> Whole
     ensures { λ r. ⌜ r ≡ wholeOf (now (table .entry)) a b ⌝ }
 {
     let admission = selection::table::admit_after(refusal_of(a, b), table);
@@ -147,7 +150,7 @@ pub fn divide_whole(table: &[u8], a: u64, b: u64) -> WholeAnswer
 }
 
 // The same through the kept table, which is known to pass: it is neither checked nor copied.
-pub fn divide_whole_kept(a: u64, b: u64) -> WholeAnswer
+pub fn divide_whole_kept(a: u64, b: u64) -> Whole
     ensures { λ r. ⌜ r ≡ wholeOf (madeTable EightBits) a b ⌝ }
 {
     let admission = refusal_of(a, b);

@@ -49,6 +49,7 @@ module _ (direction d : ℕ) (h : 0 < d) where
   signs-mono true false a b u v l = zero-le
   signs-mono true true a b u v l = units true b a l v u
 
+-- § 9.9 Quotients keep the order of their dividends.
 pub bigger-stays : (direction a b d : ℕ) {x y : Binary64Result} → Ieee direction a d x → Ieee direction b d y
     → T (finite (valueOf a)) → T (finite (valueOf b)) → T (positive (valueOf d)) → T (le (valueOf a) (valueOf b)) → T (le (valueOf (x .pattern)) (valueOf (y .pattern)))
 bigger-stays direction a b d {x} {y} i j ha hb hd l =

@@ -4,7 +4,7 @@ use lib.Ieee.{le}
 use lib.Ieee.Scale.{finite}
 use lib.Ieee.Positive.{num}
 use Rattle.division.specs.declared.format.Binary64Result.{Binary64Result}
-use Rattle.division.specs.Format.{signOf, IsNonzero}
+use Rattle.division.specs.Format.{signOf, FiniteNonzero}
 use Rattle.division.specs.Ieee.{Ieee}
 use Rattle.division.proofs.IeeeOne.{ieee-one}
 use Rattle.ieee.specs.LanguageQuotient.{valueOf}
@@ -31,5 +31,5 @@ toward-zero a b {x} u = ieee-one (cond (quotientSign (valueOf a) (valueOf b)) 2 
   quotient = λ h k. rw (sign-is h k) (one-alike (signOf a b) (u .quotient h k));
 })
   where
-    sign-is : IsNonzero a → IsNonzero b → quotientSign (valueOf a) (valueOf b) ≡ signOf a b
+    sign-is : FiniteNonzero a → FiniteNonzero b → quotientSign (valueOf a) (valueOf b) ≡ signOf a b
     sign-is h k = let i = number-of a h .0 in let j = number-of b k .0 in rw (i .is, j .is) refl

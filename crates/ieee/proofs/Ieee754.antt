@@ -3,22 +3,23 @@ use Rattle.laws.proofs.Basics.{_≡_, refl, ap, _∙_, sym, Bool, true, false, 
 use lib.Ieee.{ofBits, le}
 use lib.Ieee.Scale.{finite}
 use lib.Ieee.Positive.{positive}
-use Rattle.selection.proofs.Refusing.{refusal}
+use Rattle.selection.proofs.RefusalNames.{refusal}
 use Rattle.selection.specs.declared.Refusal.{Refusal}
 use Rattle.selection.specs.Table.{Passes}
 use Rattle.selection.proofs.MadeTables.{kept-passes}
 use Rattle.division.specs.declared.format.Binary64Result.{Binary64Result}
-use Rattle.division.specs.declared.format.Binary64Answer.{Binary64Answer}
-use Rattle.division.specs.Format.{negative, magnitude, largestFinite, binary64Values}
+use Rattle.division.specs.declared.format.Binary64.{Binary64}
+use Rattle.division.specs.Format.{negative, magnitude, largestFinite}
+use Rattle.division.specs.computed.Format.{binary64Values}
 use Rattle.division.specs.Ieee.{Ieee}
-use Rattle.division.specs.Binary64.{binary64Of}
-use Rattle.division.specs.Samples.{concentrationsOf}
-use Rattle.division.proofs.Answers.{binary64-answer}
+use Rattle.division.specs.computed.Binary64.{binary64Of}
+use Rattle.division.specs.computed.Samples.{samplesOf}
+use Rattle.division.proofs.AdmittedAnswers.{binary64-answer}
 use Rattle.division.proofs.SampleRuns.{samples-right}
 use Rattle.division.proofs.IeeeLaws.{ieee-through}
 use Rattle.ieee.specs.LanguageQuotient.{valueOf, one}
 use Rattle.ieee.specs.Directions.{quotientSign, Pinned, negated, mirrored}
-use Rattle.ieee.specs.Ieee754.{answerValue, Sorted, OneSensitivity, IeeeThrough, NamedPatterns, Thirds, Ieee754}
+use Rattle.ieee.specs.computed.Ieee754.{answerValue, Sorted, OneSensitivity, IeeeThrough, NamedPatterns, Thirds, Ieee754}
 use Rattle.ieee.proofs.LanguageQuotient.{special-quotient, language-quotient}
 use Rattle.ieee.proofs.LanguageOrder.{SignedLe}
 use Rattle.ieee.proofs.Operands.{top, magnitude-top, seen, finite-stands}
@@ -34,10 +35,10 @@ use Rattle.ieee.proofs.BiggerStays.{bigger-stays}
 use Rattle.selection.specs.declared.Estimate.the-variants.{EightBits}
 
 -- an answer without a refusal is its pattern and flags
-abbrev told : Binary64Answer → Binary64Result
+abbrev told : Binary64 → Binary64Result
 told x = record { pattern = x .pattern; flags = x .flags }
 
-whole : (x : Binary64Answer) → x .refusal ≡ refusal 0 0 → x ≡ binary64Values (told x)
+whole : (x : Binary64) → x .refusal ≡ refusal 0 0 → x ≡ binary64Values (told x)
 whole x e = ap (λ (r : Refusal). record { refusal = r; pattern = x .pattern; flags = x .flags }) e
 
 mirrored-span : (d : ℕ) → mirrored d ≤ 3
@@ -55,7 +56,7 @@ module _ (t : List ℕ) (p : Passes EightBits t) where
   means = ieee-through t p
 
   answer-is : (direction a b : ℕ) {y : Binary64Result} → direction ≤ 3 → told (binary64Of t direction a b) ≡ y → binary64Of t direction a b ≡ binary64Values y
-  answer-is direction a b l e = whole (binary64Of t direction a b) (ap (λ (x : Binary64Answer). x .refusal) (binary64-answer t p direction a b l)) ∙ ap binary64Values e
+  answer-is direction a b l e = whole (binary64Of t direction a b) (ap (λ (x : Binary64). x .refusal) (binary64-answer t p direction a b l)) ∙ ap binary64Values e
 
   pinned : (direction a b : ℕ) → direction ≤ 3 → Pinned direction a b (binary64Of t direction a b .pattern)
   pinned d a b l = record { special = special-quotient d a b (means d a b l); directed = λ f. directed a b (f .dividend) (f .divisor) d l (means d a b l) }
@@ -65,7 +66,7 @@ module _ (t : List ℕ) (p : Passes EightBits t) where
   bigger direction a b d l = bigger-stays direction a b d (means direction a d l) (means direction b d l)
 
   sorted : (direction d : ℕ) (currents sensitivities given : List ℕ) → direction ≤ 3 → length currents ≡ length sensitivities → length currents ≤ length given
-      → OneSensitivity d currents sensitivities → Sorted (length currents) currents → Sorted (length currents) (concentrationsOf t direction currents sensitivities given)
+      → OneSensitivity d currents sensitivities → Sorted (length currents) currents → Sorted (length currents) (samplesOf t direction currents sensitivities given .concentrations)
   sorted direction d xs ys given l e r o s =
       let each = samples-right t p direction l xs ys given e r .concentrations .each in
       record {
@@ -113,5 +114,6 @@ thirds : Thirds
 unfolding ofBits
 thirds = record { under = tt; not-over = λ h. h; over = tt; not-under = λ h. h; minus-under = tt; minus-not-under = λ h. h }
 
+-- § 9 All of binary64 holds by the logic's own IEEE 754.
 pub ieee-754 : Ieee754
 ieee-754 = record { named = named; thirds = thirds; passed = through; kept = through _ (kept-passes EightBits) }

@@ -11,12 +11,13 @@ use Rattle.selection.specs.Table.{Passes}
 use Rattle.division.specs.declared.format.Binary64Result.{Binary64Result}
 use Rattle.division.specs.declared.format.Class.{Class}
 use Rattle.division.specs.declared.format.Class.the-variants.{Zero, Infinite, Nan}
-use Rattle.division.specs.Format.{magnitude, classOf, signBit, signOf, IsNonzero}
+use Rattle.division.specs.Format.{magnitude, classOf, signBit, signOf, FiniteNonzero}
 use Rattle.division.specs.Ieee.{Ieee}
-use Rattle.division.specs.Binary64.{binary64Of}
+use Rattle.division.specs.computed.Binary64.{binary64Of}
 use Rattle.division.proofs.Classes.{by-cases, nonzero-operand}
 use Rattle.division.proofs.IeeeLaws.{ieee-through}
-use Rattle.ieee.specs.LanguageQuotient.{valueOf, languageQuotient, LanguageQuotient}
+use Rattle.ieee.specs.LanguageQuotient.{valueOf, languageQuotient}
+use Rattle.ieee.specs.computed.LanguageQuotient.{LanguageQuotient}
 use Rattle.ieee.proofs.LanguageRounding.{quotient-bits}
 use Rattle.ieee.proofs.LanguageReading.{Number, Nonzero, Reads, finite, read}
 use Rattle.selection.specs.declared.Estimate.the-variants.{EightBits}
@@ -73,11 +74,11 @@ class-read : (p : ℕ) (k : Class) → classOf p ≡ k → Reads p k (valueOf p)
 class-read p k e = subst (λ (k : Class). Reads p k (valueOf p)) e (read p)
 
 -- a finite number other than zero is so for the logic
-pub number-of : (p : ℕ) → IsNonzero p → Nonzero p (valueOf p)
-number-of p h = let o = nonzero-operand p h in (finite p (o .finite), o)
+pub number-of : (p : ℕ) → FiniteNonzero p → Nonzero p (valueOf p)
+number-of p h = let o = nonzero-operand p h in (finite p (o .1), o .0)
 
 -- the classes decide all but the quotient of two finite numbers other than zero
-by-class : (direction a b : ℕ) {x : Binary64Result} → Ieee direction a b x → (IsNonzero a → IsNonzero b → x .pattern ≡ languageQuotient a b) → x .pattern ≡ languageQuotient a b
+by-class : (direction a b : ℕ) {x : Binary64Result} → Ieee direction a b x → (FiniteNonzero a → FiniteNonzero b → x .pattern ≡ languageQuotient a b) → x .pattern ≡ languageQuotient a b
 unfolding div toBits
 by-class direction a b u = by-cases a b
     (λ c. rw (u .nan c) (⊎-elim (λ e. rw (class-read a Nan e)) (λ f. rw (class-read b Nan f, over-nan)) c))
@@ -85,21 +86,21 @@ by-class direction a b u = by-cases a b
     (λ z. let p = class-read a Zero (z .0) in let q = class-read b Zero (z .1) in rw (p .is, q .is, is-none p, is-none q))
     (λ z. rw (class-read a Infinite (z .0), class-read b Infinite (z .1)))
     c))
-    (λ h f. let p = number-of a h in let q = class-read b Zero f in let m = is-some (p .0) (p .1 .some) in rw (u .by-zero h f, p .0 .is, q .is, is-none q, ne-eqb (p .0 .m) 0 (omega arith)))
+    (λ h f. let p = number-of a h in let q = class-read b Zero f in let m = is-some (p .0) (p .1) in rw (u .by-zero h f, p .0 .is, q .is, is-none q, ne-eqb (p .0 .m) 0 (omega arith)))
     (λ e h. rw (u .infinite e h, class-read a Infinite e) (⊎-elim (λ f. rw (class-read b Zero f .is)) (λ f. rw (number-of b f .0 .is)) h))
     (λ c. rw (u .zero c) (⊎-elim
-    (λ z. let q = number-of b (z .1) in sym (zero-is (class-read a Zero (z .0)) (q .0) (q .1 .some)))
+    (λ z. let q = number-of b (z .1) in sym (zero-is (class-read a Zero (z .0)) (q .0) (q .1)))
     (λ z. rw (class-read b Infinite (z .1)) (let o = sym (zero-bits (signOf a b)) in ⊎-elim (λ e. rw (class-read a Zero e .is) o) (λ e. rw (number-of a e .0 .is) o) (z .0)))
     c))
 
-pub counted : (p : ℕ) → IsNonzero p → 0 < num (valueOf p)
-counted p h = let n = number-of p h in rw (n .0 .is) (mul-pos (is-some (n .0) (n .1 .some)) (up-pos (n .0 .e)))
+pub counted : (p : ℕ) → FiniteNonzero p → 0 < num (valueOf p)
+counted p h = let n = number-of p h in rw (n .0 .is) (mul-pos (is-some (n .0) (n .1)) (up-pos (n .0 .e)))
 
 pub nearest-quotient : (a b : ℕ) {x : Binary64Result} → Ieee 0 a b x → x .pattern ≡ languageQuotient a b
 nearest-quotient a b u = by-class 0 a b u (λ h k.
     let p = number-of a h in
     let q = number-of b k in
-    quotient-bits (signOf a b) (magnitude a) (magnitude b) (q .1 .some) (u .quotient h k) ∙ sym (ap (toBits binary64) (quotient-is (p .0) (q .0) (q .1 .some))))
+    quotient-bits (signOf a b) (magnitude a) (magnitude b) (q .1) (u .quotient h k) ∙ sym (ap (toBits binary64) (quotient-is (p .0) (q .0) (q .1))))
 
 -- `num` is 0 for a zero, an infinity and a not-a-number
 pub special-quotient : (direction a b : ℕ) {x : Binary64Result} → Ieee direction a b x → (num (valueOf a) ≡ 0) ⊎ (num (valueOf b) ≡ 0) → x .pattern ≡ languageQuotient a b
@@ -107,6 +108,7 @@ special-quotient direction a b u z = by-class direction a b u (λ h k.
     absurd (⊎-elim (λ (e : num (valueOf a) ≡ 0). omega (arith, counted a h)) (λ (e : num (valueOf b) ≡ 0). omega (arith, counted b k)) z))
 
 -- ---- and so through every table that passes
+-- § 9.6 To nearest, the answer is the language's own quotient.
 pub language-quotient : (t : List ℕ) → Passes EightBits t → LanguageQuotient t
 language-quotient t p =
     let nearest : (a b : ℕ) → binary64Of t 0 a b .pattern ≡ languageQuotient a b = λ a b. nearest-quotient a b (ieee-through t p 0 a b (omega arith)) in

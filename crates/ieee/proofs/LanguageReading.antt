@@ -8,7 +8,6 @@ use Rattle.laws.proofs.Division.{le-or-lt}
 use Rattle.division.specs.declared.format.Class.{Class}
 use Rattle.division.specs.declared.format.Class.the-variants.{Zero, Subnormal, Normal, Infinite, Nan}
 use Rattle.division.specs.Format.{negative, field, fraction, magnitude, classOf}
-use Rattle.division.specs.Significands.{FiniteNonzero}
 use Rattle.division.proofs.Classes.{nonzero-operand}
 
 -- a finite value with the sign s, of n units of 2^-1074
@@ -25,7 +24,7 @@ number (inf t) s n h = absurd h
 number (fin t m e) s n h = record { m = m; e = e; is = ap (λ (z : Bool). fin z m e) (h .0); value = h .1 }
 
 abbrev pub Nonzero : ℕ → Float → Type 0
-Nonzero p x = Number (negative p) (magnitude p) x × FiniteNonzero p
+Nonzero p x = Number (negative p) (magnitude p) x × (0 < magnitude p)
 
 -- what is read from a pattern of a class
 abbrev pub Reads : ℕ → Class → Float → Type 0
@@ -60,14 +59,14 @@ pub read : (p : ℕ) → Reads p (classOf p) (ofBits binary64 p)
 read p = ⊎-elim
     (λ (f : field p ≡ 0). ⊎-elim
     (λ (g : fraction p ≡ 0). under Zero (rw (f, g)) (subst (λ (n : ℕ). Number (negative p) n (ofBits binary64 p)) (rw (f, g)) (finite p (omega arith))))
-    (λ (g : 0 < fraction p). let c : classOf p ≡ Subnormal = rw (f, ne-eqb (fraction p) 0 (omega arith)) in under Subnormal c (finite p (omega arith), nonzero-operand p (inl c)))
+    (λ (g : 0 < fraction p). let c : classOf p ≡ Subnormal = rw (f, ne-eqb (fraction p) 0 (omega arith)) in under Subnormal c (finite p (omega arith), nonzero-operand p (inl c) .0))
     (eq-zero-or-pos (fraction p)))
     (λ (f : 0 < field p). ⊎-elim
     (λ (g : 2047 ≤ field p). ⊎-elim
     (λ (h : fraction p ≡ 0). under Infinite (rw (ne-eqb (field p) 0 (omega arith), le-ltb (field p) 2047 g, h)) (infinite p g ∙ rw h))
     (λ (h : 0 < fraction p). under Nan (rw (ne-eqb (field p) 0 (omega arith), le-ltb (field p) 2047 g, ne-eqb (fraction p) 0 (omega arith))) (infinite p g ∙ rw (ne-eqb (fraction p) 0 (omega arith))))
     (eq-zero-or-pos (fraction p)))
-    (λ (g : field p < 2047). let c : classOf p ≡ Normal = rw (ne-eqb (field p) 0 (omega arith), lt-ltb (field p) 2047 g) in under Normal c (finite p g, nonzero-operand p (inr c)))
+    (λ (g : field p < 2047). let c : classOf p ≡ Normal = rw (ne-eqb (field p) 0 (omega arith), lt-ltb (field p) 2047 g) in under Normal c (finite p g, nonzero-operand p (inr c) .0))
     (le-or-lt 2047 (field p)))
     (eq-zero-or-pos (field p))
   where

@@ -16,7 +16,7 @@ use Rattle.division.specs.declared.rounding.Mode.the-variants.{Nearest}
 use Rattle.division.specs.Rounding.{ToNearest}
 use Rattle.division.specs.Rounded.{IsExponent, Rounded}
 use Rattle.division.specs.Ieee.{quotientScale, quotientPlace, RoundedQuotient}
-use Rattle.division.specs.Computed.{nearest, tailAt}
+use Rattle.division.specs.computed.Rounding.{nearest, tailAt}
 use Rattle.division.proofs.Nearest.{rounds-one, rounds}
 use Rattle.division.proofs.Scales.{exponent-one}
 use Rattle.division.proofs.Quotient.{quotient-increasing}

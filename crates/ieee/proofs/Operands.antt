@@ -8,7 +8,7 @@ use lib.Ieee.Positive.{num, first-pos}
 use Rattle.laws.proofs.Division.{le-or-lt}
 use Rattle.division.specs.declared.format.Binary64Result.{Binary64Result}
 use Rattle.division.specs.declared.format.Class.the-variants.{Zero}
-use Rattle.division.specs.Format.{negative, field, fraction, magnitude, classOf, signBit, signOf, IsNonzero}
+use Rattle.division.specs.Format.{negative, field, fraction, magnitude, classOf, signBit, signOf, FiniteNonzero}
 use Rattle.division.specs.declared.rounding.Mode.{Mode}
 use Rattle.division.specs.Rounding.{modeOf, Rounds}
 use Rattle.division.specs.Rounded.{IsExponent, Rounded}
@@ -21,7 +21,7 @@ use Rattle.ieee.proofs.LanguageReading as Reading
 use Rattle.ieee.proofs.LanguageOrder.{SignedLe, Stands, le-signed}
 
 -- a finite pattern's class, by its magnitude
-pub class-of : (p : ℕ) → field p < 2047 → ((classOf p ≡ Zero) × (magnitude p ≡ 0)) ⊎ (IsNonzero p × (0 < magnitude p))
+pub class-of : (p : ℕ) → field p < 2047 → ((classOf p ≡ Zero) × (magnitude p ≡ 0)) ⊎ (FiniteNonzero p × (0 < magnitude p))
 class-of p h = ⊎-elim
     (λ (f : field p ≡ 0). ⊎-elim
     (λ (g : fraction p ≡ 0). inl (rw (f, g), rw (f, g)))

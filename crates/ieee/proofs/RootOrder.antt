@@ -9,10 +9,10 @@ use Rattle.division.specs.declared.format.Class.the-variants.{Infinite}
 use Rattle.division.specs.Format.{negative, field, fraction, magnitude, classOf}
 use Rattle.division.specs.Roots.{rootScale, rootPlace, RoundedRoot, IeeeRoot}
 use Rattle.division.proofs.Roots.{root-increasing}
-use Rattle.division.proofs.Answers.{root-answer}
+use Rattle.division.proofs.AdmittedAnswers.{root-answer}
 use Rattle.division.proofs.IeeeRoots.{ieee-root}
 use Rattle.ieee.specs.LanguageQuotient.{valueOf}
-use Rattle.ieee.specs.RootOrder.{RootOrder}
+use Rattle.ieee.specs.computed.RootOrder.{RootOrder}
 use Rattle.ieee.proofs.LanguageReading as Reading
 use Rattle.ieee.proofs.LanguageOrder.{SignedLe}
 use Rattle.ieee.proofs.Operands.{class-of, Is, finite-stands, finite-value, finite-le}
@@ -136,5 +136,6 @@ module _ (direction : ℕ) where
       (at-least (inf false) b tt m))
       (at-least (valueOf 0) a (finite-above (valueOf 0) (finite-value 0 (omega arith))) k)
 
+-- § 12.2 The greater operand never has the smaller root.
 pub root-ordered : RootOrder
 root-ordered = record { bigger = λ direction a b h. rw (root-answer direction a h, root-answer direction b h) (roots-bigger direction a b (ieee-root direction a) (ieee-root direction b)) }

@@ -3,8 +3,9 @@ use Rattle.laws.proofs.Basics.{_≡_, refl, sym, ap, ap₂, _∙_, Bool, true, 
 use lib.Ieee.{nan, inf, binary64, neg, odd, ofFields, ofBits}
 use Rattle.laws.proofs.Division.{le-or-lt}
 use Rattle.division.specs.declared.format.Binary64Result.{Binary64Result}
-use Rattle.division.specs.Format.{negative, field, fraction, magnitude, classOf, signalling, signBit, signOf, infinity, largestFinite, quietNan, inexactFlag, overflowFlag, invalidFlag, IsNonzero, binary64Values}
-use Rattle.division.specs.Computed.{nanFlags}
+use Rattle.division.specs.Format.{negative, field, fraction, magnitude, classOf, signalling, signBit, signOf, infinity, largestFinite, quietNan, inexactFlag, overflowFlag, invalidFlag, FiniteNonzero}
+use Rattle.division.specs.computed.Format.{binary64Values}
+use Rattle.division.specs.computed.Rounding.{nanFlags}
 use Rattle.division.specs.declared.rounding.Mode.{Mode}
 use Rattle.division.specs.Rounding.{modeOf, pointsToZero}
 use Rattle.division.specs.Rounded.{Rounded}
@@ -14,7 +15,7 @@ use Rattle.division.proofs.Quotient.{quotient-increasing}
 use Rattle.division.proofs.RoundedOne.{rounded-one}
 use Rattle.ieee.specs.LanguageQuotient.{valueOf}
 use Rattle.ieee.specs.Directions.{negated, mirrored}
-use Rattle.ieee.specs.Ieee754.{Opposite}
+use Rattle.ieee.specs.computed.Ieee754.{Opposite}
 use Rattle.ieee.proofs.LanguageReading.{by-fields}
 use Rattle.ieee.proofs.AnswerUnits.{rounded-word}
 
@@ -132,11 +133,11 @@ record Negated (a b a' b' : ℕ) : Type 0 where
   sign : signOf a' b' ≡ not (signOf a b)
 
 module _ (d a b a' b' : ℕ) (l : d ≤ 3) (o : Negated a b a' b') {x y : Binary64Result} (u : Ieee d a' b' x) (v : Ieee (mirrored d) a b y) where
-  quotients : IsNonzero a → IsNonzero b → Opposite (binary64Values x) (binary64Values y)
+  quotients : FiniteNonzero a → FiniteNonzero b → Opposite (binary64Values x) (binary64Values y)
   quotients h k =
       let s = signOf a b in
       let w : RoundedQuotient d (not s) (magnitude a) (magnitude b) x = rw (o .over, o .under, o .sign) at (u .quotient (rw (o .dividend) h) (rw (o .divisor) k)) in
-      let e = rounded-one _ (not s) (quotientScale (magnitude b)) (quotient-increasing (magnitude b) (nonzero-operand b k .some)) (quotientPlace (magnitude a)) w (rw (mirrored-mode d s l) at (negated-rounded s (v .quotient h k))) in
+      let e = rounded-one _ (not s) (quotientScale (magnitude b)) (quotient-increasing (magnitude b) (nonzero-operand b k .0)) (quotientPlace (magnitude a)) w (rw (mirrored-mode d s l) at (negated-rounded s (v .quotient h k))) in
       rw e (record { value = negated-neg (y .pattern) (rounded-word (v .quotient h k)); flags = refl })
 
   opposite : Opposite (binary64Values x) (binary64Values y)

@@ -9,7 +9,7 @@ use Rattle.division.specs.Ieee.{Ieee}
 use Rattle.division.specs.declared.format.Binary64Result.{Binary64Result}
 use Rattle.division.specs.declared.format.Class.the-variants.{Nan}
 use Rattle.ieee.specs.LanguageQuotient.{valueOf}
-use Rattle.ieee.specs.Ieee754.{Signals}
+use Rattle.ieee.specs.computed.Ieee754.{Signals}
 use Rattle.ieee.proofs.LanguageOrder.{both}
 
 is-nan : (x : Float) → isNan x ≡ true → x ≡ nan

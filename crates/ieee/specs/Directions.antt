@@ -72,6 +72,7 @@ pub record FiniteOver (a b : ℕ) : Type 0 where
   pub divisor : 0 < num (valueOf b)
 
 -- what the logic's account asks of p as the pattern of a / b in a direction, for all operands: of zeros, infinities and not-a-numbers the language's own quotient
+-- § 9.6 In every direction the pattern is that of the logic's own IEEE 754.
 pub record Pinned (direction a b p : ℕ) : Type 0 where
   pub special : (num (valueOf a) ≡ 0) ⊎ (num (valueOf b) ≡ 0) → p ≡ languageQuotient a b
   pub directed : FiniteOver a b → Directed direction a b p

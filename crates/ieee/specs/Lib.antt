@@ -1,4 +1,3 @@
 pub mod LanguageQuotient
 pub mod Directions
-pub mod Ieee754
-pub mod RootOrder
+pub mod computed

@@ -1,5 +1,5 @@
 -- Tests that antt computes, and what a passed one says: one test over all entries of a table, and a law that carries it to each.
-use Rattle.laws.proofs.Basics.{_≡_, refl, subst, sym, Bool, true, false, not, cond, _⊎_, inl, inr, ⊎-elim, List, [], _∷_, ℕ, zero, suc, _+_, _≤_, _<_, arith, needs, lt-ltb, le-ltb, le-leb, lt-leb, eq-eqb, ne-eqb, ltb, ltb-true, ltb-false, T, length, getD}
+use Rattle.laws.proofs.Basics.{_≡_, refl, subst, sym, Bool, true, false, not, cond, _⊎_, inl, inr, ⊎-elim, List, [], _∷_, ℕ, zero, suc, _+_, _<_, needs, lt-ltb, le-ltb, le-leb, lt-leb, eq-eqb, ne-eqb, ltb, ltb-true, ltb-false, T, length, getD}
 use native.Mathlib.Nat.{add-zero, zero-add, add-suc, suc-add, le-of-suc-le-suc, not-suc-le-zero, not-le-of-lt, eq-or-lt-of-le}
 
 -- what code that climbs a list of tests asks at each way out: `search tests`
@@ -80,12 +80,3 @@ every-from f (x ∷ xs) i t (suc k) h = rw (add-suc i k, ← suc-add i k) (every
 
 pub every-at : (f : ℕ → ℕ → Bool) (xs : List ℕ) → T (every f 0 xs) → (k : ℕ) → k < length xs → T (f k (getD xs k 0))
 every-at f xs t k h = rw zero-add at (every-from f xs 0 t k h)
-
--- what holds of 0 to 4 holds of each number up to 4
-pub up-to-four : (P : ℕ → Type 0) → P 0 → P 1 → P 2 → P 3 → P 4 → (b : ℕ) → b ≤ 4 → P b
-up-to-four P p q r s t zero h = p
-up-to-four P p q r s t (suc zero) h = q
-up-to-four P p q r s t (suc (suc zero)) h = r
-up-to-four P p q r s t (suc (suc (suc zero))) h = s
-up-to-four P p q r s t (suc (suc (suc (suc zero)))) h = t
-up-to-four P p q r s t (suc (suc (suc (suc (suc b))))) h = absurd (omega arith)

@@ -6,8 +6,8 @@ use Rattle.selection.specs.Answer.{refusal}
 use Rattle.selection.specs.Cell.{Allows, digit}
 use Rattle.laws.specs.Lists.{listFrom}
 use Rattle.laws.proofs.Division.{same-or-other}
-use Rattle.selection.specs.Allowed.{allowsOf}
-use Rattle.selection.specs.Computed.{cellOf, madeOf, madeTable}
+use Rattle.selection.specs.computed.Allowed.{allowsOf}
+use Rattle.selection.specs.computed.Outcomes.{cellOf, madeOf, madeTable}
 use Rattle.selection.specs.Table.{Table, Passes}
 use Rattle.selection.proofs.MadeTables.{kept-passes}
 use Rattle.printing.specs.Text.{ascii, decimalUpto, decimalOf, refusalText}
@@ -80,6 +80,7 @@ above t h =
     let at : getD (set t 1000 5) 1000 0 ≡ 5 = getD-set-same t 1000 5 0 (omega (arith, h .size)) in
     byte-above EightBits (set t 1000 5) 1000 (simp length-set (h .size)) (omega arith) (omega (arith, at)) (λ i l. omega (arith, getD-set-other t 1000 i 5 0 (λ x. omega arith), h .digits i))
 
+-- § 19.2 The example is printed whole.
 pub example : Example
 unfolding allowsOf madeOf listFrom madeTable
 example = let p = kept-passes EightBits in record {

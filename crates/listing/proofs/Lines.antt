@@ -1,14 +1,14 @@
 -- Laws of the listing's lines: the computed ones are those in the specification's words, and there are no others.
 use Rattle.laws.proofs.Basics.{_≡_, refl, sym, ap, subst, _∙_, List, _++_, ℕ, zero, suc, _+_, _/_, _%_, _≤_, _<_, add-one, arith, getD}
-use Rattle.selection.specs.Cell.{LeastWitness, CellChecked, digit}
-use Rattle.selection.specs.Computed.{cellOf}
+use Rattle.selection.specs.Cell.{LeastWitness, digit}
+use Rattle.selection.specs.computed.Cell.{CellChecked}
+use Rattle.selection.specs.computed.Outcomes.{cellOf}
 use Rattle.selection.specs.Table.{Table}
 use Rattle.selection.specs.declared.CellVerdict.{CellVerdict}
 use Rattle.selection.specs.declared.CellVerdict.the-variants as C
-use Rattle.selection.proofs.BiasedPoints.{cell-checked}
+use Rattle.selection.proofs.BiasedPoints.{known-not-refused, cell-checked}
 use Rattle.selection.proofs.Tables.{cell-at}
 use Rattle.selection.proofs.UniqueCell.{cell-checked-one}
-use Rattle.selection.proofs.Verdicts.{never-refused}
 use Rattle.listing.specs.Listing.{Listed, Lines, none, more, lineFrom, lineOf, lineText, linesUpto}
 use Rattle.listing.specs.declared.Line.{Line}
 use Rattle.listing.specs.declared.Line.the-variants.{Nothing, Cell}
@@ -20,7 +20,7 @@ module _ (E : Estimate) where
     verdict-listed : (v : CellVerdict) → CellChecked E (k / 128) (k % 128) (getD t k 0) v → Listed E t k (lineFrom t k v)
     verdict-listed C.Allowed j = record { means = j .means .1 }
     verdict-listed (C.Disallowed w) j = record { means = record { row-is = refl; column-is = refl; digit-is = refl; witness-is = j .means .1 } }
-    verdict-listed (C.Refused f) j = never-refused E (omega arith) (omega arith) (h .digits k) j refl
+    verdict-listed (C.Refused f) j = known-not-refused (cell-at h k below) (j .means)
 
     pub line-listed : Listed E t k (lineOf E t k)
     unfolding lineOf

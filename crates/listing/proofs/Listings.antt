@@ -3,14 +3,16 @@ use Rattle.laws.proofs.Basics.{_≡_, refl, sym, ap, _∙_, List, _++_, ⊎-eli
 use native.Mathlib.Nat.{add-zero}
 use lib.Seq.{take-all}
 use Rattle.laws.proofs.Division.{le-or-lt}
-use Rattle.selection.specs.Answer.{refusal, answerBy}
-use Rattle.selection.specs.Table.{Table, ReportMeaning}
-use Rattle.selection.specs.Computed.{reportOf, refusedReport, tableReport}
+use Rattle.selection.specs.Answer.{refusal}
+use Rattle.selection.specs.computed.Answer.{answerBy}
+use Rattle.selection.specs.Table.{Table}
+use Rattle.selection.specs.computed.Table.{ReportMeaning}
+use Rattle.selection.specs.computed.Outcomes.{reportOf, refusedReport, tableReport}
 use Rattle.selection.specs.declared.Admission.{Admission}
-use Rattle.selection.proofs.Clear.{refused-at}
+use Rattle.selection.proofs.RuleByRule.{refused-at}
 use Rattle.selection.specs.declared.table.Outcome.{Outcome}
 use Rattle.selection.specs.declared.table.Outcome.the-variants as O
-use Rattle.selection.specs.declared.table.Report.{Report}
+use Rattle.selection.specs.declared.table.TableVerdict.{TableVerdict}
 use Rattle.selection.proofs.Tables.{no-table}
 use Rattle.selection.proofs.Reports.{form-rules, report-checked}
 use Rattle.selection.proofs.Rules.{refusal-one}
@@ -33,6 +35,7 @@ module _ (E : Estimate) where
     answer-lists n (O.Bad b) w = table-lists (w .0)
     answer-lists n (O.Refused f) w = record { table = λ h. no-table h (w .0); refused = λ g v. ap refusalText (refusal-one (form-rules t) f g (w .0) v) }
 
+    -- § 19.2 `listing` prints a line for each bad cell, and nothing else fits.
     pub lists : Lists E t (listingOf E t)
     unfolding listingOf
     lists = answer-lists (reportOf E t .count) (reportOf E t .outcome) (report-checked E t .means)
@@ -45,6 +48,7 @@ module _ (E : Estimate) where
     answer-one l n (O.Bad b) w = table-one l (w .0)
     answer-one l n (O.Refused f) w = l .refused f (w .0)
 
+    -- § 19.2 `listing` prints a line for each bad cell, and nothing else fits.
     pub lists-one : {x : List ℕ} → Lists E t x → x ≡ listingOf E t
     unfolding listingOf
     lists-one l = answer-one l (reportOf E t .count) (reportOf E t .outcome) (report-checked E t .means)
@@ -73,9 +77,9 @@ module _ (E : Estimate) where
   lists-read {s} h e = record { lists = λ t g. rw (e, g, settled t (length s) h) (lists t) }
 
   -- the text for the check's answer, from the start of the buffer on: what the code of `listing` asks
-  pub printed : (t : List ℕ) {s s' : List ℕ} {r : ℕ} {a : Report} {o : Outcome} → a ≡ reportOf E t → a .outcome ≡ o → Appended s 0 (textFor E t o) s' r → r ≤ length s → ((take r s' ≡ listingOf E t) × Lists E t (take r s')) × ((drop r s' ≡ drop r s) × Counts r s')
+  pub printed : (t : List ℕ) {s s' : List ℕ} {r : ℕ} {a : TableVerdict} {o : Outcome} → a ≡ reportOf E t → a .outcome ≡ o → Appended s 0 (textFor E t o) s' r → r ≤ length s → ((take r s' ≡ listingOf E t) × Lists E t (take r s')) × ((drop r s' ≡ drop r s) × Counts r s')
   unfolding listingOf
   printed t e f a h =
       let size = appended-size a h in
-      let text = appended-take a ∙ ap (textFor E t) (sym f ∙ ap (λ (x : Report). x .outcome) e) in
+      let text = appended-take a ∙ ap (textFor E t) (sym f ∙ ap (λ (x : TableVerdict). x .outcome) e) in
       ((text, rw text (lists t)), (rw add-zero at (appended-drop a 0), counts _ (omega arith)))

@@ -3,12 +3,13 @@ use mathlib.Core.Path.{_≡_}
 use mathlib.Core.List.{List, []}
 use Prim.Native.Nat.{ℕ}
 use lib.ListN.{getD, set}
-use Rattle.selection.specs.Computed.{madeTable}
+use Rattle.selection.specs.computed.Outcomes.{madeTable}
 use Rattle.selection.specs.Table.{Passes}
 use Rattle.printing.specs.Text.{ascii}
 use Rattle.listing.specs.Listing.{listingOf}
 use Rattle.selection.specs.declared.Estimate.the-variants.{EightBits}
 
+-- § 19.2 The example is printed whole.
 pub record Example : Type 0 where
   -- the made table's byte 215 is 4; changed to 2, the table prints whole
   pub byte : getD (madeTable EightBits) 215 0 ≡ 4

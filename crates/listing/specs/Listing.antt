@@ -6,8 +6,9 @@ use Prim.Native.Nat.{ℕ, zero, suc, _/_, _%_}
 use lib.IntN.{ℤ}
 use lib.ListN.{length, getD, take}
 use Rattle.selection.specs.Cell.{Allows, LeastWitness, digit}
-use Rattle.selection.specs.Table.{Table, NoTable}
-use Rattle.selection.specs.Computed.{cellOf, reportOf}
+use Rattle.selection.specs.Table.{Table}
+use Rattle.selection.specs.computed.Table.{NoTable}
+use Rattle.selection.specs.computed.Outcomes.{cellOf, reportOf}
 use Rattle.selection.specs.declared.Refusal.{Refusal}
 use Rattle.selection.specs.declared.Witness.{Witness}
 use Rattle.selection.specs.declared.CellVerdict.{CellVerdict}
@@ -60,12 +61,14 @@ module _ (E : Estimate) where
     pub whole : x ≡ names ++ rest
 
   -- x is all that is printed for the bytes t of standard input: of a table the line of names and the lines of its cells, and of no table the two lines of the refusal
+  -- § 19.2 `listing` prints a line for each bad cell, and nothing else fits.
   pub record Lists (t x : List ℕ) : Type 0 where
     pub table : Table t → TableLists t x
     pub refused : (f : Refusal) → NoTable t (f .number) (f .place) → x ≡ refusalText f
 
   -- x is all that is printed where a read of standard input has put n bytes at the start of the buffer s: it is the listing of every input that gives these
   -- bytes, all of it or as much as the buffer holds. So the buffer has to hold one byte more than a table
+  -- § 19.1 Input of another length is refusal 8.
   pub record ListsRead (s : List ℕ) (n : ℕ) (x : List ℕ) : Type 0 where
     pub lists : (t : List ℕ) → take n s ≡ take (length s) t → Lists t x
 

@@ -18,6 +18,7 @@ use printing::text::append_number;
 use printing::text::append_signed;
 use selection::CellVerdict;
 use selection::Estimate;
+use selection::TABLE_LENGTH;
 use selection::Witness;
 use selection::table::Outcome;
 
@@ -41,7 +42,7 @@ fn line_of(estimate: Estimate, table: &[u8], k: usize) -> Line
     let row = (k / 128) as u64;
     let column = (k % 128) as u64;
     let byte = table[k];
-    match selection::check_cell(estimate, row, column, byte) {
+    match selection::cell::check_cell(estimate, row, column, byte) {
         CellVerdict::Allowed => Line::Nothing,
         CellVerdict::Disallowed(witness) => Line::Cell(
             row,
@@ -87,7 +88,7 @@ fn append_lines(estimate: Estimate, out: &mut [u8], at: usize, table: &[u8]) -> 
     ensures { λ r. ⌜ r ≤ at + 107 * 2048 ⌝ }
 {
     let mut next = at;
-    for k in 0..2048 {
+    for k in 0..TABLE_LENGTH {
         next = append_line(out, next, line_of(estimate, table, k));
     }
     next

@@ -39,6 +39,7 @@ module _ (E : Estimate) where
     pub no : x ≡ false → HasPoint r c → ⊥
 
   -- what the picture shows of cell k of the table t
+  -- § 19.5 `plot` shows each cell's digit and allowed digits, and outlines bad cells.
   pub record Shown (t : List ℕ) (k : ℕ) (x : Cell) : Type 0 where
     pub row : x .row ≡ k / 128
     pub column : x .column ≡ k % 128
@@ -48,6 +49,7 @@ module _ (E : Estimate) where
     pub allowed : AllowedAre (k / 128) (k % 128) (x .allowed)
 
   -- in the row r of the table t the cells from the column `from` to before `end` are bad, and the next one, if there is one, is not
+  -- § 19.5 `plot` shows each cell's digit and allowed digits, and outlines bad cells.
   pub record BadTo (t : List ℕ) (r from end : ℕ) : Type 0 where
     pub starts : from ≤ end
     pub within : end ≤ 128

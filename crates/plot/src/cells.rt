@@ -19,7 +19,7 @@ fn allowed(estimate: Estimate, row: u64, column: u64, byte: u8) -> bool
     requires { ⌜ (row ≤ 15) × (column ≤ 127) × (byte ≤ 4) ⌝ }
     ensures { λ r. ⌜ (AllowedIs estimate) row column byte r ⌝ }
 {
-    match selection::check_cell(estimate, row, column, byte) {
+    match selection::cell::check_cell(estimate, row, column, byte) {
         CellVerdict::Allowed => true,
         CellVerdict::Disallowed(_) => false,
         // Not for a cell and a digit, and the proof says so.

@@ -14,6 +14,7 @@ use printing::argument::estimate_asked;
 use printing::input::read_input;
 use printing::output::write_output;
 use selection::Estimate;
+use selection::TABLE_LENGTH;
 use selection::table::Outcome;
 
 // Up to so many bad cells, each stretch of them in a row gets a ring.
@@ -54,7 +55,7 @@ fn mark(row: u64, from: u64, end: u64, ring: bool) -> bool
 fn draw_cells(estimate: Estimate, table: &[u8]) -> bool
     requires { ⌜ Table (now table) ⌝ }
 {
-    for k in 0..2048 {
+    for k in 0..TABLE_LENGTH {
         if !draw_cell(estimate, table, k) {
             return false;
         }

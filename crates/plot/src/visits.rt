@@ -9,6 +9,7 @@ use crate::picture;
 use crate::print::print_number;
 use crate::print::print_text;
 use selection::Estimate;
+use selection::TABLE_LENGTH;
 
 const BITS: u64 = 6;
 
@@ -104,7 +105,7 @@ fn draw_visited(visits: &[u32], k: usize) -> bool
 fn draw_all(visits: &[u32]) -> bool
     requires { ⌜ 2048 ≤ length (now visits) ⌝ }
 {
-    for k in 0..2048 {
+    for k in 0..TABLE_LENGTH {
         if !draw_visited(visits, k) {
             return false;
         }
@@ -118,7 +119,7 @@ fn count_met(visits: &[u32]) -> u64
     ensures { λ r. ⌜ Tally (λ k. 0 < getD (now (visits .entry)) k 0) 2048 r ⌝ }
 {
     let mut met: u64 = 0;
-    for k in 0..2048 {
+    for k in 0..TABLE_LENGTH {
         if 0 < visits[k] {
             met += 1;
         }
@@ -173,7 +174,7 @@ fn draw_picture(visits: &[u32]) -> bool
 
 // What the call refuses gets the two lines of a refusal.
 pub(crate) fn draw_visits(bytes: &[u8]) -> bool {
-    let mut visits = [0u32; 2048];
+    let mut visits = [0u32; TABLE_LENGTH];
     let refusal = recurrence::visits::count_visits(bytes, BITS, DIGITS, &mut visits);
     if 0 < refusal.number {
         return picture::print_refusal(refusal);

@@ -27,6 +27,7 @@ decimal-count k n f h =
     elim (decLt k 21) [ yes l ↦ omega arith | no m ↦ absurd (omega (arith, f .2 (omega (arith, lt-of-not-le m)), pow-le-pow-right {n = 10} (omega arith) {i = 20} {j = k - 1} (omega (arith, lt-of-not-le m)))) ]
 
 -- what `io::decimal` makes of n is n in decimal
+-- § 19.1 Numbers are printed in decimal.
 pub decimal-is : (k n : ℕ) → Fewest 10 1 n k → k ≤ 20 → digits 10 k n ≡ decimalOf n
 unfolding decimalOf
 decimal-is k n f h = decimal-digits k 20 n f h

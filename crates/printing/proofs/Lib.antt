@@ -1,5 +1,5 @@
 pub mod Arguments
-pub mod Calls
+pub mod SystemCalls
 pub mod Decimals
 pub mod Signs
 pub mod Texts

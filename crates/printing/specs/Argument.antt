@@ -15,9 +15,11 @@ abbrev pub byDigit : ℕ → Asked
 byDigit c = cond (eqb c 55) (Of SevenBits) (cond (eqb c 56) (Of EightBits) Other)
 
 -- of so many words on the command line, the program's name among them, and of the bytes of the one after it
+-- § 19.1 The argument 7 or 8 chooses the estimate.
 abbrev pub askedBy : ℕ → List ℕ → Asked
 askedBy words word = cond (ltb words 2) (Of EightBits) (cond (ltb 2 words) Other (cond (eqb (length word) 1) (byDigit (getD word 0 0)) Other))
 
+-- § 19.1 The argument 7 or 8 chooses the estimate.
 pub record ArgumentExample : Type 0 where
   pub digits : (byDigit 55 ≡ Of SevenBits) × (byDigit 56 ≡ Of EightBits) × (byDigit 57 ≡ Other)
   pub none : askedBy 1 [] ≡ Of EightBits

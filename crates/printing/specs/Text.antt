@@ -26,6 +26,7 @@ decimalUpto zero n = []
 decimalUpto (suc most) n = cond (ltb n 10) ((code "0" + n) ∷ []) (decimalUpto most (n / 10) ++ ((code "0" + n % 10) ∷ []))
 
 -- n in decimal. A number below 2^64 has at most 20 digits
+-- § 19.1 Numbers are printed in decimal.
 unfoldable pub decimalOf : ℕ → List ℕ
 decimalOf n = decimalUpto 20 n
 
@@ -35,6 +36,7 @@ spelledAfter a [] = a
 spelledAfter a (c ∷ cs) = spelledAfter (10 * a + (c - code "0")) cs
 
 -- a number in decimal, with a minus sign if it is below zero
+-- § 19.1 Numbers are printed in decimal.
 abbrev pub signedOf : ℤ → List ℕ
 signedOf (pos n) = decimalOf n
 signedOf (negsuc n) = ascii "-" ++ decimalOf (suc n)

@@ -1,42 +1,42 @@
 // The C interface: thin exports of the three layers and of the averages. A slice is a pointer and a length; an answer comes back as the layer's own struct.
 ghost use mathlib.Core.Path.{_≡_};
-ghost use Rattle.selection.specs.Answer.{cellNumbers, reportNumbers};
-ghost use Rattle.selection.specs.Bits.{checkCellFor, checkTableFor, rowLimitsFor, makeFor, madeBufferFor, repairFor, repairedFor, changedFor};
-ghost use Rattle.selection.specs.Computed.{cellOf, reportOf, rowLimitsOf, makeOf, madeBuffer, madeTable, repairOf, repairedOf, changedOf};
-ghost use Rattle.recurrence.specs.Run.{runOf, bufferOf};
-ghost use Rattle.recurrence.specs.Step.{stepOf};
-ghost use Rattle.recurrence.specs.Visits.{visitsAnswer, visitsLeft};
-ghost use Rattle.recurrence.specs.Recheck.{affectedRunFor};
-ghost use Rattle.division.specs.Whole.{wholeOf};
-ghost use Rattle.division.specs.Binary64.{binary64Of};
-ghost use Rattle.division.specs.Samples.{samplesOf, concentrationsOf};
-ghost use Rattle.division.specs.Recheck.{recheckFor, affectedFor};
-ghost use Rattle.division.specs.RecheckWhole.{recheckWholeFor};
-ghost use Rattle.division.specs.Packed.{packedOf};
-ghost use Rattle.division.specs.Ratios.{comparedOf, comparisonNumbers};
-ghost use Rattle.division.specs.RootCalls.{rootWholeOf, rootBinary64Of};
-ghost use Rattle.exposure.specs.Computed.{averagesOf, meansOf, remaindersOf};
+ghost use Rattle.selection.specs.computed.Answer.{cellNumbers, reportNumbers};
+ghost use Rattle.selection.specs.computed.Bits.{checkCellFor, checkTableFor, rowLimitsFor, makeFor, repairFor};
+ghost use Rattle.selection.specs.computed.Outcomes.{cellOf, reportOf, rowLimitsOf, makeOf, madeTable, repairOf};
+ghost use Rattle.recurrence.specs.computed.Run.{runOf};
+ghost use Rattle.recurrence.specs.computed.Step.{stepOf};
+ghost use Rattle.recurrence.specs.computed.Visits.{visitsOf};
+ghost use Rattle.recurrence.specs.computed.Recheck.{affectedRunFor};
+ghost use Rattle.division.specs.computed.Whole.{wholeOf};
+ghost use Rattle.division.specs.computed.Binary64.{binary64Of};
+ghost use Rattle.division.specs.computed.Samples.{samplesOf};
+ghost use Rattle.division.specs.computed.Recheck.{affectedFor};
+ghost use Rattle.division.specs.computed.RecheckWhole.{recheckWholeFor};
+ghost use Rattle.division.specs.computed.Packed.{packedOf};
+ghost use Rattle.division.specs.computed.Ratios.{comparedOf, comparisonNumbers};
+ghost use Rattle.division.specs.computed.RootCalls.{rootWholeOf, rootBinary64Of};
+ghost use Rattle.exposure.specs.computed.Outcomes.{averagesOf};
 ghost use Rattle.selection.specs.declared.Estimate.the-variants.{EightBits};
-use division::format::Binary64Answer;
-use division::packed::PackedAnswer;
-use division::ratio::ComparisonNumbers;
-use division::recheck::AffectedAnswer;
-use division::root::RootAnswer;
-use division::samples::SamplesAnswer;
-use division::whole::WholeAnswer;
-use recurrence::RunAnswer;
+use division::format::Binary64;
+use division::packed::Packed;
+use division::ratio::Comparison;
+use division::recheck::AffectedCount;
+use division::root::Root;
+use division::samples::Samples;
+use division::whole::Whole;
+use recurrence::Ran;
 use recurrence::recheck::AffectedMark;
-use recurrence::step::StepAnswer;
+use recurrence::step::Stepped;
 use selection::Estimate;
 use selection::Refusal;
-use selection::maker::RowLimits;
-use selection::numbers::CellNumbers;
-use selection::numbers::ReportNumbers;
-use selection::repair::RepairAnswer;
+use selection::maker::Limits;
+use selection::numbers::Cell;
+use selection::numbers::Report;
+use selection::repair::Repaired;
 
 // A single cell: is the digit of this byte allowed?
 #[no_mangle]
-pub extern "C" fn quendaric_check_cell(row: u64, column: u64, byte: u8) -> CellNumbers
+pub extern "C" fn quendaric_check_cell(row: u64, column: u64, byte: u8) -> Cell
     ensures { λ r. ⌜ r ≡ cellNumbers (cellOf EightBits row column byte) ⌝ }
 {
     selection::numbers::cell_numbers(Estimate::EightBits, row, column, byte)
@@ -44,7 +44,7 @@ pub extern "C" fn quendaric_check_cell(row: u64, column: u64, byte: u8) -> CellN
 
 // A table: passed, or its first bad cell.
 #[no_mangle]
-pub extern "C" fn quendaric_check_table(table: &[u8]) -> ReportNumbers
+pub extern "C" fn quendaric_check_table(table: &[u8]) -> Report
     ensures { λ r. ⌜ r ≡ reportNumbers (reportOf EightBits (now (table .entry))) ⌝ }
 {
     selection::numbers::table_numbers(Estimate::EightBits, table)
@@ -52,7 +52,7 @@ pub extern "C" fn quendaric_check_table(table: &[u8]) -> ReportNumbers
 
 // The columns at which the digits of a made row change.
 #[no_mangle]
-pub extern "C" fn quendaric_row_limits(row: u64) -> RowLimits
+pub extern "C" fn quendaric_row_limits(row: u64) -> Limits
     ensures { λ r. ⌜ r ≡ rowLimitsOf EightBits row ⌝ }
 {
     selection::maker::row_limits(Estimate::EightBits, row)
@@ -61,7 +61,7 @@ pub extern "C" fn quendaric_row_limits(row: u64) -> RowLimits
 // The made table, to the first 2,048 bytes of the buffer.
 #[no_mangle]
 pub extern "C" fn quendaric_make_table(buffer: &mut [u8]) -> Refusal
-    ensures { λ r. ⌜ (r ≡ makeOf (now (buffer .entry))) × (now (buffer .exit) ≡ madeBuffer EightBits (now (buffer .entry))) ⌝ }
+    ensures { λ r. ⌜ record { answer = r; buffer = now (buffer .exit) } ≡ makeOf EightBits (now (buffer .entry)) ⌝ }
 {
     selection::maker::make_table(Estimate::EightBits, buffer)
 }
@@ -75,8 +75,8 @@ pub extern "C" fn quendaric_run(
     digits: usize,
     buffer: &mut [u8],
     place: usize,
-) -> RunAnswer
-    ensures { λ r. ⌜ (r ≡ runOf (now (table .entry)) dividend divisor digits (now (buffer .entry)) place) × (now (buffer .exit) ≡ bufferOf (now (table .entry)) dividend divisor digits (now (buffer .entry)) place) ⌝ }
+) -> Ran
+    ensures { λ r. ⌜ record { answer = r; buffer = now (buffer .exit) } ≡ runOf (now (table .entry)) dividend divisor digits (now (buffer .entry)) place ⌝ }
 {
     recurrence::run(table, dividend, divisor, digits, buffer, place)
 }
@@ -89,15 +89,15 @@ pub extern "C" fn quendaric_run_kept(
     digits: usize,
     buffer: &mut [u8],
     place: usize,
-) -> RunAnswer
-    ensures { λ r. ⌜ (r ≡ runOf (madeTable EightBits) dividend divisor digits (now (buffer .entry)) place) × (now (buffer .exit) ≡ bufferOf (madeTable EightBits) dividend divisor digits (now (buffer .entry)) place) ⌝ }
+) -> Ran
+    ensures { λ r. ⌜ record { answer = r; buffer = now (buffer .exit) } ≡ runOf (madeTable EightBits) dividend divisor digits (now (buffer .entry)) place ⌝ }
 {
     recurrence::run_kept(dividend, divisor, digits, buffer, place)
 }
 
 // One step from any two words, through a lent table.
 #[no_mangle]
-pub extern "C" fn quendaric_step(sum: u64, carry: u64, divisor: u64, table: &[u8]) -> StepAnswer
+pub extern "C" fn quendaric_step(sum: u64, carry: u64, divisor: u64, table: &[u8]) -> Stepped
     ensures { λ r. ⌜ r ≡ stepOf sum carry divisor (now (table .entry)) ⌝ }
 {
     recurrence::step::step(sum, carry, divisor, table)
@@ -105,7 +105,7 @@ pub extern "C" fn quendaric_step(sum: u64, carry: u64, divisor: u64, table: &[u8
 
 // Whole numbers through a lent table.
 #[no_mangle]
-pub extern "C" fn quendaric_divide_whole(table: &[u8], a: u64, b: u64) -> WholeAnswer
+pub extern "C" fn quendaric_divide_whole(table: &[u8], a: u64, b: u64) -> Whole
     ensures { λ r. ⌜ r ≡ wholeOf (now (table .entry)) a b ⌝ }
 {
     division::whole::divide_whole(table, a, b)
@@ -113,7 +113,7 @@ pub extern "C" fn quendaric_divide_whole(table: &[u8], a: u64, b: u64) -> WholeA
 
 // The same through the kept table.
 #[no_mangle]
-pub extern "C" fn quendaric_divide_whole_kept(a: u64, b: u64) -> WholeAnswer
+pub extern "C" fn quendaric_divide_whole_kept(a: u64, b: u64) -> Whole
     ensures { λ r. ⌜ r ≡ wholeOf (madeTable EightBits) a b ⌝ }
 {
     division::whole::divide_whole_kept(a, b)
@@ -126,7 +126,7 @@ pub extern "C" fn quendaric_divide_binary64(
     a: u64,
     b: u64,
     direction: u64,
-) -> Binary64Answer
+) -> Binary64
     ensures { λ r. ⌜ r ≡ binary64Of (now (table .entry)) direction a b ⌝ }
 {
     division::binary64::divide_binary64(table, a, b, direction)
@@ -134,7 +134,7 @@ pub extern "C" fn quendaric_divide_binary64(
 
 // The same through the kept table.
 #[no_mangle]
-pub extern "C" fn quendaric_divide_binary64_kept(a: u64, b: u64, direction: u64) -> Binary64Answer
+pub extern "C" fn quendaric_divide_binary64_kept(a: u64, b: u64, direction: u64) -> Binary64
     ensures { λ r. ⌜ r ≡ binary64Of (madeTable EightBits) direction a b ⌝ }
 {
     division::binary64::divide_binary64_kept(a, b, direction)
@@ -148,8 +148,8 @@ pub extern "C" fn quendaric_divide_samples(
     sensitivities: &[u64],
     concentrations: &mut [u64],
     direction: u64,
-) -> SamplesAnswer
-    ensures { λ r. ⌜ (r ≡ samplesOf (now (table .entry)) direction (now (currents .entry)) (now (sensitivities .entry)) (now (concentrations .entry))) × (now (concentrations .exit) ≡ concentrationsOf (now (table .entry)) direction (now (currents .entry)) (now (sensitivities .entry)) (now (concentrations .entry))) ⌝ }
+) -> Samples
+    ensures { λ r. ⌜ record { answer = r; concentrations = now (concentrations .exit) } ≡ samplesOf (now (table .entry)) direction (now (currents .entry)) (now (sensitivities .entry)) (now (concentrations .entry)) ⌝ }
 {
     division::samples::divide_samples(table, currents, sensitivities, concentrations, direction)
 }
@@ -160,8 +160,8 @@ pub extern "C" fn quendaric_repair_table(
     table: &[u8],
     repaired: &mut [u8],
     changed: &mut [u8],
-) -> RepairAnswer
-    ensures { λ r. ⌜ (r ≡ repairOf EightBits (now (table .entry)) (now (repaired .entry)) (now (changed .entry))) × (now (repaired .exit) ≡ repairedOf EightBits (now (table .entry)) (now (repaired .entry)) (now (changed .entry))) × (now (changed .exit) ≡ changedOf EightBits (now (table .entry)) (now (repaired .entry)) (now (changed .entry))) ⌝ }
+) -> Repaired
+    ensures { λ r. ⌜ record { answer = r; repaired = now (repaired .exit); changed = now (changed .exit) } ≡ repairOf EightBits (now (table .entry)) (now (repaired .entry)) (now (changed .entry)) ⌝ }
 {
     selection::repair::repair_table(Estimate::EightBits, table, repaired, changed)
 }
@@ -174,8 +174,8 @@ pub extern "C" fn quendaric_affected_samples(
     currents: &[u64],
     sensitivities: &[u64],
     affected: &mut [u8],
-) -> AffectedAnswer
-    ensures { λ r. ⌜ (r ≡ recheckFor «estimate_bits» (now (table .entry)) (now (currents .entry)) (now (sensitivities .entry)) (now (affected .entry))) × (now (affected .exit) ≡ affectedFor «estimate_bits» (now (table .entry)) (now (currents .entry)) (now (sensitivities .entry)) (now (affected .entry))) ⌝ }
+) -> AffectedCount
+    ensures { λ r. ⌜ record { answer = r; affected = now (affected .exit) } ≡ affectedFor «estimate_bits» (now (table .entry)) (now (currents .entry)) (now (sensitivities .entry)) (now (affected .entry)) ⌝ }
 {
     division::recheck::affected_samples_for(estimate_bits, table, currents, sensitivities, affected)
 }
@@ -216,14 +216,14 @@ pub extern "C" fn quendaric_average_windows(
     means: &mut [u64],
     remainders: &mut [u64],
 ) -> Refusal
-    ensures { λ r. ⌜ (r ≡ averagesOf (now (readings .entry)) width (now (means .entry)) (now (remainders .entry))) × (now (means .exit) ≡ meansOf (now (readings .entry)) width «newest_first» (now (means .entry)) (now (remainders .entry))) × (now (remainders .exit) ≡ remaindersOf (now (readings .entry)) width «newest_first» (now (means .entry)) (now (remainders .entry))) ⌝ }
+    ensures { λ r. ⌜ record { answer = r; means = now (means .exit); remainders = now (remainders .exit) } ≡ averagesOf (now (readings .entry)) width «newest_first» (now (means .entry)) (now (remainders .entry)) ⌝ }
 {
     exposure::average_windows(readings, width, newest_first, means, remainders)
 }
 
 // Packed decimal numbers, eight bytes each, over the kept table.
 #[no_mangle]
-pub extern "C" fn quendaric_divide_packed(dividend: &[u8; 8], divisor: &[u8; 8]) -> PackedAnswer
+pub extern "C" fn quendaric_divide_packed(dividend: &[u8; 8], divisor: &[u8; 8]) -> Packed
     ensures { λ r. ⌜ r ≡ packedOf (now (dividend .entry)) (now (divisor .entry)) ⌝ }
 {
     division::packed::divide_packed(*dividend, *divisor)
@@ -237,14 +237,14 @@ pub extern "C" fn quendaric_count_visits(
     digits: usize,
     visits: &mut [u32],
 ) -> Refusal
-    ensures { λ r. ⌜ (r ≡ visitsAnswer (now (table .entry)) bits digits (now (visits .entry))) × (now (visits .exit) ≡ visitsLeft (now (table .entry)) bits digits (now (visits .entry))) ⌝ }
+    ensures { λ r. ⌜ record { answer = r; visits = now (visits .exit) } ≡ visitsOf (now (table .entry)) bits digits (now (visits .entry)) ⌝ }
 {
     recurrence::visits::count_visits(table, bits, digits, visits)
 }
 
 // a / b against c / d.
 #[no_mangle]
-pub extern "C" fn quendaric_compare_ratios(a: u64, b: u64, c: u64, d: u64) -> ComparisonNumbers
+pub extern "C" fn quendaric_compare_ratios(a: u64, b: u64, c: u64, d: u64) -> Comparison
     ensures { λ r. ⌜ r ≡ comparisonNumbers (comparedOf a b c d) ⌝ }
 {
     division::ratio::comparison_numbers(a, b, c, d)
@@ -252,7 +252,7 @@ pub extern "C" fn quendaric_compare_ratios(a: u64, b: u64, c: u64, d: u64) -> Co
 
 // The whole root.
 #[no_mangle]
-pub extern "C" fn quendaric_root_whole(a: u64) -> RootAnswer
+pub extern "C" fn quendaric_root_whole(a: u64) -> Root
     ensures { λ r. ⌜ r ≡ rootWholeOf a ⌝ }
 {
     division::root::root_whole(a)
@@ -260,7 +260,7 @@ pub extern "C" fn quendaric_root_whole(a: u64) -> RootAnswer
 
 // The root of a binary64 pattern.
 #[no_mangle]
-pub extern "C" fn quendaric_root_binary64(a: u64, direction: u64) -> Binary64Answer
+pub extern "C" fn quendaric_root_binary64(a: u64, direction: u64) -> Binary64
     ensures { λ r. ⌜ r ≡ rootBinary64Of direction a ⌝ }
 {
     division::root::root_binary64(a, direction)
@@ -275,7 +275,7 @@ pub extern "C" fn quendaric_check_cell_for(
     row: u64,
     column: u64,
     byte: u8,
-) -> CellNumbers
+) -> Cell
     ensures { λ r. ⌜ r ≡ checkCellFor «estimate_bits» row column byte ⌝ }
 {
     selection::bits::check_cell_for(estimate_bits, row, column, byte)
@@ -283,7 +283,7 @@ pub extern "C" fn quendaric_check_cell_for(
 
 // A table.
 #[no_mangle]
-pub extern "C" fn quendaric_check_table_for(estimate_bits: u64, table: &[u8]) -> ReportNumbers
+pub extern "C" fn quendaric_check_table_for(estimate_bits: u64, table: &[u8]) -> Report
     ensures { λ r. ⌜ r ≡ checkTableFor «estimate_bits» (now (table .entry)) ⌝ }
 {
     selection::bits::check_table_for(estimate_bits, table)
@@ -291,7 +291,7 @@ pub extern "C" fn quendaric_check_table_for(estimate_bits: u64, table: &[u8]) ->
 
 // The columns at which the digits of a made row change.
 #[no_mangle]
-pub extern "C" fn quendaric_row_limits_for(estimate_bits: u64, row: u64) -> RowLimits
+pub extern "C" fn quendaric_row_limits_for(estimate_bits: u64, row: u64) -> Limits
     ensures { λ r. ⌜ r ≡ rowLimitsFor «estimate_bits» row ⌝ }
 {
     selection::bits::row_limits_for(estimate_bits, row)
@@ -300,7 +300,7 @@ pub extern "C" fn quendaric_row_limits_for(estimate_bits: u64, row: u64) -> RowL
 // The made table, to the first 2,048 bytes of the buffer.
 #[no_mangle]
 pub extern "C" fn quendaric_make_table_for(estimate_bits: u64, buffer: &mut [u8]) -> Refusal
-    ensures { λ r. ⌜ (r ≡ makeFor «estimate_bits» (now (buffer .entry))) × (now (buffer .exit) ≡ madeBufferFor «estimate_bits» (now (buffer .entry))) ⌝ }
+    ensures { λ r. ⌜ record { answer = r; buffer = now (buffer .exit) } ≡ makeFor «estimate_bits» (now (buffer .entry)) ⌝ }
 {
     selection::bits::make_table_for(estimate_bits, buffer)
 }
@@ -312,8 +312,8 @@ pub extern "C" fn quendaric_repair_table_for(
     table: &[u8],
     repaired: &mut [u8],
     changed: &mut [u8],
-) -> RepairAnswer
-    ensures { λ r. ⌜ (r ≡ repairFor «estimate_bits» (now (table .entry)) (now (repaired .entry)) (now (changed .entry))) × (now (repaired .exit) ≡ repairedFor «estimate_bits» (now (table .entry)) (now (repaired .entry)) (now (changed .entry))) × (now (changed .exit) ≡ changedFor «estimate_bits» (now (table .entry)) (now (repaired .entry)) (now (changed .entry))) ⌝ }
+) -> Repaired
+    ensures { λ r. ⌜ record { answer = r; repaired = now (repaired .exit); changed = now (changed .exit) } ≡ repairFor «estimate_bits» (now (table .entry)) (now (repaired .entry)) (now (changed .entry)) ⌝ }
 {
     selection::bits::repair_table_for(estimate_bits, table, repaired, changed)
 }

@@ -5,9 +5,9 @@ use native.Mathlib.Nat.{pow-le-pow-right}
 use Rattle.laws.proofs.Diff.{diff, diffs, diff-sub}
 use Rattle.laws.proofs.Tests.{by-cond}
 use Rattle.recurrence.specs.Recurrence.{State, after, digits, value, correctedQuotient, correctedRemainder, endRemainder, resultOf}
-use Rattle.recurrence.specs.Run.{longest}
-use Rattle.recurrence.specs.FastRun.{resultFromWord}
-use Rattle.recurrence.specs.OnTheFly.{PairOf}
+use Rattle.recurrence.specs.computed.Run.{longest}
+use Rattle.recurrence.specs.computed.FastRun.{resultFromWord}
+use Rattle.recurrence.specs.computed.OnTheFly.{PairOf}
 use Rattle.recurrence.specs.declared.RunResult.{RunResult}
 use Rattle.recurrence.proofs.Steps.{biased}
 use Rattle.recurrence.proofs.Digits.{divisor-after}

@@ -3,7 +3,7 @@ use Rattle.laws.proofs.Basics.{_≡_, refl, _∙_, List, ℕ, _+_, _≤_, _<_, 
 use Rattle.laws.specs.Lists.{filled}
 use Rattle.laws.proofs.Lists.{fill-more, fill-length, fill-all}
 use Rattle.recurrence.specs.Recurrence.{nextOf, after, digitOf, digits}
-use Rattle.recurrence.specs.FastRun.{withColumn, stateOf}
+use Rattle.recurrence.specs.computed.FastRun.{withColumn, stateOf}
 use Rattle.recurrence.specs.declared.state.RunState.{RunState}
 use Rattle.recurrence.proofs.Digits.{divisor-after}
 use Rattle.selection.specs.declared.Estimate.{Estimate}

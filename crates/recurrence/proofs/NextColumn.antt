@@ -3,12 +3,12 @@ use Rattle.laws.proofs.Basics.{_≡_, refl, ap, _∙_, List, ℕ, _+_, _-_, _*_
 use native.Mathlib.Nat.{mod-add-mod, add-mod-mod}
 use lib.Bits.{bitAnd, bitXor, and-high}
 use Rattle.laws.proofs.Counting.{bit-most}
-use Rattle.laws.proofs.Tests.{up-to-four}
 use Rattle.laws.proofs.Words.{same-mod, mod-sum}
+use Rattle.selection.proofs.DigitBytes.{up-to-four}
 use Rattle.selection.specs.Cell.{column}
 use Rattle.recurrence.specs.CarrySave.{sum3, maj3, multiple, lowestCarry}
 use Rattle.recurrence.specs.Recurrence.{State, stepBy}
-use Rattle.recurrence.specs.FastRun.{withColumn, topBitsOf, divisorMultiples, allTopBits, maskOf, maskedMultiples, maskedTopBits, columnAhead, renewed}
+use Rattle.recurrence.specs.computed.FastRun.{withColumn, topBitsOf, divisorMultiples, allTopBits, maskOf, maskedMultiples, maskedTopBits, columnAhead, renewed}
 use Rattle.recurrence.specs.declared.state.RunState.{RunState}
 use Rattle.recurrence.proofs.CarrySave.{tops, majority}
 use Rattle.recurrence.proofs.Pair.{by-digit}

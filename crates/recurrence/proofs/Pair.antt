@@ -3,13 +3,14 @@ use Rattle.laws.proofs.Basics.{_≡_, refl, ap, _∙_, List, inl, inr, ℕ, zer
 use Rattle.laws.specs.Lists.{listFrom}
 use Rattle.laws.proofs.Diff.{diff, diffs, by-diff}
 use Rattle.laws.proofs.Lists.{list-snoc}
-use Rattle.laws.proofs.Tests.{by-cond, up-to-four}
+use Rattle.laws.proofs.Tests.{by-cond}
 use Rattle.laws.proofs.Words.{same-mod}
+use Rattle.selection.proofs.DigitBytes.{up-to-four}
 use Rattle.selection.specs.Cell.{digit}
 use Rattle.selection.proofs.BiasedPoints.{digit-diff}
 use Rattle.recurrence.specs.Recurrence.{State, cellAt, appended, stepBy, nextOf, after, digitOf, digits, value, correctedQuotient}
-use Rattle.recurrence.specs.OnTheFly.{WordOf, PairOf, Appends, Renews}
-use Rattle.recurrence.specs.FastRun.{renewed}
+use Rattle.recurrence.specs.computed.OnTheFly.{WordOf, PairOf, Appends, Renews}
+use Rattle.recurrence.specs.computed.FastRun.{renewed}
 use Rattle.recurrence.proofs.Digits.{value-append}
 use Rattle.selection.specs.declared.Estimate.{Estimate}
 
@@ -75,6 +76,7 @@ pair-next d p S h c =
     })
 
 -- the corrected quotient is one of the two numbers, chosen by the sign
+-- § 6.7 Where the end remainder is negative, the quotient is S − 1 and D is added.
 pub chosen : (Q : ℕ) (S R : ℤ) (p : State) → Q < 2 ^ 64 → pos Q ≡ correctedQuotient S R → PairOf S p → Q ≡ cond (nonNeg R) (p .value) (p .decremented)
 chosen Q S (pos R) p h e c = word-one Q (p .value) h (rw e (c .value))
 chosen Q S (negsuc R) p h e c = word-one Q (p .decremented) h (rw e (c .decremented))
@@ -91,6 +93,7 @@ module _ (E : Estimate) where
       let c = by-digit (p .value) (p .decremented) d (small (cellAt E p)) in
       record { value = rw (c .value) (appends p (d + 2)); decremented = rw (c .decremented) (appends p (d + 1)) }
 
+  -- § 6.2 The state holds the value and one less, modulo 2^64.
   pub pair-after : (t : List ℕ) (N D : ℕ) → ((k : ℕ) → getD t k 0 ≤ 4) → (i : ℕ) → PairOf (value (digits E t N D i)) (after E t N D i)
   unfolding after nextOf value listFrom
   pair-after t N D small zero = record {

@@ -2,10 +2,10 @@
 use Rattle.laws.proofs.Basics.{_≡_, refl, sym, ap, subst, _∙_, true, false, List, ℕ, suc, _+_, _*_, _≤_, _<_, arith, add-one, length, getD, length-take, length-drop, lt-ltb, le-ltb, le-leb, lt-leb}
 use Rattle.selection.specs.Cell.{row, column}
 use Rattle.selection.proofs.Columns.{column-small}
-use Rattle.selection.specs.Table.{rowBytes}
+use Rattle.selection.specs.computed.Table.{rowBytes}
 use Rattle.recurrence.specs.Recurrence.{cellAt, stepBy, startOf, nextOf, after}
-use Rattle.recurrence.specs.FastRun.{withColumn, stateOf, divisorMultiples, maskOf, maskedTopBits, columnAhead}
-use Rattle.recurrence.specs.Recheck.{byteRead, leftBy, leftEnd, strays, straysBelow, runsWrong, runMark, BurnedRow}
+use Rattle.recurrence.specs.computed.FastRun.{withColumn, stateOf, divisorMultiples, maskOf, maskedTopBits, columnAhead}
+use Rattle.recurrence.specs.computed.Recheck.{byteRead, leftBy, leftEnd, strays, straysBelow, runsWrong, runMark, BurnedRow}
 use Rattle.recurrence.specs.declared.state.RunState.{RunState}
 use Rattle.recurrence.proofs.Rows.{row-at}
 use Rattle.recurrence.proofs.Loop.{stands-next, stands-divisor}

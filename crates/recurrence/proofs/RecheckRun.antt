@@ -1,13 +1,11 @@
 -- Whether a wrong table affected a run: the refusals of the call, its answer, and that no other answer fits.
-use Rattle.laws.proofs.Basics.{_≡_, refl, ap, List, _⊎_, inl, inr, ⊎-elim, ℕ, _^_, _≤_, _<_, arith, length}
-use Rattle.selection.proofs.Refusing.{refusal, answerBy, firstRefusal, rank, WellFormed, refuses-one, admits, refuses, cleared, clear-admits, refused-at}
-use Rattle.selection.specs.declared.Admission.{Admission}
+use Rattle.laws.proofs.Basics.{_≡_, refl, List, ℕ, arith, length}
+use Rattle.selection.proofs.RefusalNames.{refusal, firstRefusal, rank, WellFormed, refuses-one, refuses, cleared, clear-admits}
 use Rattle.selection.specs.declared.Admission.the-variants.{Admitted}
 use Rattle.selection.specs.declared.Estimate.{Estimate}
-use Rattle.recurrence.specs.Recurrence.{Operands}
-use Rattle.recurrence.specs.Recheck.{RunMarkClaim, affectedRunRules, markZeros, markValues, AffectedRunAccepts, RunRechecks, runMark, affectedRunOf}
+use Rattle.recurrence.specs.computed.Recheck.{affectedRunRules, markZeros, markValues, AffectedRunAccepts, RunRechecks, runMark, affectedRunOf}
 use Rattle.recurrence.specs.declared.recheck.AffectedMark.{AffectedMark}
-use Rattle.recurrence.proofs.RightRuns.{wrong-decides, run-mark-right, run-mark-claim, mark-one}
+use Rattle.recurrence.proofs.RightRuns.{wrong-decides, run-mark-right, mark-one}
 
 -- ---- refusals
 
@@ -36,42 +34,8 @@ module _ (E : Estimate) where
       rechecks = λ x. rw (affected-run-admits (length t) N D n x) (run-mark-right E t N D n (x .operands) (x .some));
     }
 
-    -- what the code asks: by the first refusal v
-    pub affected-run-answer : {v : Admission} {x : AffectedMark} → firstRefusal (affectedRunRules (length t) N D n) ≡ v → x ≡ answerBy markZeros (markValues (runMark E t N D n)) v
-        → (x ≡ affectedRunOf E t N D n) × RunRechecks E t N D n x
-    affected-run-answer e g = rw (g, ← e) (refl, run-rechecks-right)
-
-    -- the conditions in numbers: where one holds and none before it, the call refuses so
-    pub affected-run-digits : (n ≡ 0) ⊎ (31 < n) → affectedRunOf E t N D n ≡ markZeros (refusal 2 0)
-    unfolding affectedRunRules
-    affected-run-digits h = ap (answerBy markZeros _) (refused-at (affected-run-rules (length t) N D n) 0 0 (refl, h))
-
-    pub affected-run-operands : 1 ≤ n → n ≤ 31 → (D < 2 ^ 60) ⊎ ((2 ^ 61 ≤ D) ⊎ (2 ^ 61 ≤ N)) → affectedRunOf E t N D n ≡ markZeros (refusal 3 0)
-    unfolding affectedRunRules
-    affected-run-operands l m h = ap (answerBy markZeros _) (refused-at (affected-run-rules (length t) N D n) 1 0 (
-      ((λ e. omega arith), m),
-      (refl, ⊎-elim (λ x. inl (inl x)) (⊎-elim (λ x. inl (inr (omega arith))) (λ x. inr (omega arith))) h),
-    ))
-
-    pub affected-run-length : Operands N D → 1 ≤ n → n ≤ 31 → (length t ≡ 2048 → ⊥) → affectedRunOf E t N D n ≡ markZeros (refusal 8 0)
-    unfolding affectedRunRules
-    affected-run-length o l m h = ap (answerBy markZeros _) (refused-at (affected-run-rules (length t) N D n) 2 0 (
-      ((λ e. omega arith), m),
-      (((o .least, omega (arith, o .most)), omega (arith, o .dividend)), (refl, h)),
-    ))
-
-    -- and where none does, it refuses nothing
-    pub affected-run-told : Operands N D → 1 ≤ n → n ≤ 31 → length t ≡ 2048 → affectedRunOf E t N D n .refusal ≡ refusal 0 0
-    affected-run-told o l m e = rw (affected-run-admits (length t) N D n (record { operands = o; some = l; most = m; size = e }))
-
-  module _ {t : List ℕ} {N D n : ℕ} where
-    -- an answer that is not refused
-    pub affected-run-claim : (x : AffectedMark) → RunRechecks E t N D n x → x .refusal ≡ refusal 0 0 → RunMarkClaim E t N D n (x .affected)
-    affected-run-claim x r e =
-        let k = affected-run-accepts (length t) N D n (admits (affected-run-rules (length t) N D n) (r .refuses .by .none .0 e)) in
-        run-mark-claim E t N D n (k .operands) (k .some) (r .rechecks k)
-
     -- no other answer fits
+    -- § 17.6 No other mark of a run fits.
     pub run-rechecks-one : (f g : AffectedMark) → RunRechecks E t N D n f → RunRechecks E t N D n g → f ≡ g
     run-rechecks-one f g x y = refuses-one (affected-run-rules (length t) N D n) (x .refuses) (y .refuses) (λ e r.
         let k = affected-run-accepts (length t) N D n e in

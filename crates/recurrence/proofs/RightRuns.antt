@@ -5,11 +5,11 @@ use Rattle.laws.proofs.Diff.{diff, diffs}
 use Rattle.laws.proofs.Division.{quotient}
 use Rattle.laws.proofs.Tests.{Decides, either}
 use Rattle.laws.proofs.Search.{first-below}
-use Rattle.selection.specs.Allowed.{isReplaced}
-use Rattle.selection.specs.Repair.{ReplacedAt}
-use Rattle.selection.proofs.RepairCells.{replaced-decides, copied-byte}
+use Rattle.selection.specs.computed.Allowed.{isFaulty}
+use Rattle.selection.specs.Repair.{FaultyAt}
+use Rattle.selection.proofs.RepairCells.{faulty-decides, copied-byte}
 use Rattle.recurrence.specs.Recurrence.{Operands, residue, cellAt, nextOf, after, digitOf, digits, value, endRemainder, correctedQuotient, correctedRemainder, resultOf}
-use Rattle.recurrence.specs.Recheck.{ReadsNoDigit, RightRun, WrongRun, ReadsBad, NeitherRight, ShowsWrong, Marks, RunMarkClaim, runsWrong, runMark}
+use Rattle.recurrence.specs.computed.Recheck.{ReadsNoDigit, RightRun, WrongRun, ReadsFaulty, NeitherRight, ShowsWrong, Marks, RunMarkClaim, runsWrong, runMark}
 use Rattle.recurrence.specs.declared.RunResult.{RunResult}
 use Rattle.recurrence.proofs.Correction.{corrected-result}
 use Rattle.recurrence.proofs.Invariant.{invariant-while}
@@ -82,7 +82,7 @@ module _ (E : Estimate) where
         (outside-end (after E t N D) (digitOf E t N D) N D o refl (λ i. refl) n h e)
 
     -- steps that read good cells only
-    good-run : ((i : ℕ) → i < n → ReplacedAt E t (cellAt E (after E t N D i)) → ⊥) → RightRun E t N D n
+    good-run : ((i : ℕ) → i < n → FaultyAt E t (cellAt E (after E t N D i)) → ⊥) → RightRun E t N D n
     unfolding resultOf
     good-run f =
         let c = corrected-result E t N D n _ (invariant-while E t N D o n (λ i l. good-digit-allowed E t (after E t N D i) (f i l)) .1) h in
@@ -92,6 +92,7 @@ module _ (E : Estimate) where
     pub right-not-wrong : RightRun E t N D n → WrongRun E t N D n → ⊥
     right-not-wrong r = ⊎-elim (λ x. omega (arith, r .digits (x .step) (x .early), x .above)) (λ f. f (r .result))
 
+    -- § 17.2 A mark is 0 exactly if the run is right, and 1 exactly if it is wrong.
     pub wrong-decides : Decides (WrongRun E t N D n) (runsWrong E t N D n)
     wrong-decides = record {
       yes = λ e. ⊎-elim inl (λ x. inr (wrong-differs (N * 4 ^ (n - 1)) D n (omega (arith, o .least)) (x .0))) (wrong-run e);
@@ -101,13 +102,14 @@ module _ (E : Estimate) where
     pub run-mark-right : Marks (WrongRun E t N D n) (runMark E t N D n)
     run-mark-right = mark-right (runsWrong E t N D n) wrong-decides
 
-    -- a wrong run has read a bad cell
-    wrong-reads : WrongRun E t N D n → ReadsBad E t N D n
+    -- a wrong run has read a faulty cell
+    wrong-reads : WrongRun E t N D n → ReadsFaulty E t N D n
     wrong-reads w =
-        ⊎-elim (λ x. absurd (right-not-wrong (good-run (x .1)) w)) (λ x. record { step = _; early = x .0; bad = x .1 .here })
-        (first-below (λ i. isReplaced E t (cellAt E (after E t N D i))) n (λ i l. replaced-decides E t (cellAt E (after E t N D i)) (cell-below E (after E t N D i))))
+        ⊎-elim (λ x. absurd (right-not-wrong (good-run (x .1)) w)) (λ x. record { step = _; early = x .0; faulty = x .1 .here })
+        (first-below (λ i. isFaulty E t (cellAt E (after E t N D i))) n (λ i l. faulty-decides E t (cellAt E (after E t N D i)) (cell-below E (after E t N D i))))
 
     -- what a mark claims
+    -- § 17.3 With mark 0 the words hold the true remainder.
     pub run-mark-claim : {m : ℕ} → Marks (WrongRun E t N D n) m → RunMarkClaim E t N D n m
     run-mark-claim {m} r = go (either (runsWrong E t N D n))
       where
@@ -123,7 +125,7 @@ module _ (E : Estimate) where
               remainder = λ z. absurd (omega arith);
               shown = λ z. ⊎-elim inl (λ x. inr (x .0)) (wrong-run e);
               neither = λ z. ⊎-elim inl (λ x. inr (x .1)) (wrong-run e);
-              bad = λ z. wrong-reads w;
+              faulty = λ z. wrong-reads w;
             }
         go (inr e) =
             let x = right-run e in
@@ -136,5 +138,5 @@ module _ (E : Estimate) where
               remainder = λ z. x .remainder;
               shown = λ z. absurd (omega arith);
               neither = λ z. absurd (omega arith);
-              bad = λ z. absurd (omega arith);
+              faulty = λ z. absurd (omega arith);
             }

@@ -2,12 +2,13 @@
 use Rattle.laws.proofs.Basics.{_≡_, refl, List, ℕ, _+_, _*_, _^_, _<_, arith, getD, length-take, length-drop}
 use lib.Seq.{getD-take, getD-drop}
 use Rattle.selection.specs.Cell.{row}
-use Rattle.selection.specs.Table.{Passes, rowBytes}
-use Rattle.selection.specs.Computed.{madeTable}
+use Rattle.selection.specs.Table.{Passes}
+use Rattle.selection.specs.computed.Table.{rowBytes}
+use Rattle.selection.specs.computed.Outcomes.{madeTable}
 use Rattle.selection.proofs.MadeTables.{kept-passes}
 use Rattle.recurrence.specs.Recurrence.{State}
-use Rattle.recurrence.specs.Row.{Row}
-use Rattle.recurrence.specs.FastRun.{withColumn, divisorMultiples, allTopBits, DigitBytes, StepReady}
+use Rattle.recurrence.specs.computed.Row.{Row}
+use Rattle.recurrence.specs.computed.FastRun.{withColumn, divisorMultiples, allTopBits, DigitBytes, StepReady}
 use Rattle.recurrence.specs.declared.state.RunState.{RunState}
 use Rattle.selection.specs.declared.Estimate.the-variants.{EightBits}
 

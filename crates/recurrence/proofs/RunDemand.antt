@@ -1,30 +1,31 @@
 -- Demand 3 of the run: the claim about all its steps, and the same answer through every table that passes, refusals included.
-use Rattle.laws.proofs.Basics.{_≡_, refl, sym, ap, subst, _∙_, List, ℕ, _+_, _-_, _*_, _^_, _≤_, _<_, arith, cond, length, getD, pos, nonNeg, _-ℤ_, _*ℤ_}
+use Rattle.laws.proofs.Basics.{_≡_, refl, sym, ap, _∙_, List, ℕ, _+_, _-_, _*_, _^_, _≤_, _<_, arith, cond, length, getD, pos, nonNeg, _-ℤ_, _*ℤ_}
 use native.Mathlib.Nat.{pow-le-pow-right}
 use Rattle.laws.specs.Lists.{listFrom}
 use Rattle.laws.proofs.Diff.{diffs}
 use Rattle.laws.proofs.Division.{quotient}
 use Rattle.laws.proofs.Lists.{list-length}
-use Rattle.selection.proofs.Refusing.{answerBy, passed-last}
+use Rattle.selection.proofs.RefusalNames.{passed-last}
 use Rattle.selection.specs.Cell.{row, column, digit}
 use Rattle.selection.specs.Table.{Passes}
-use Rattle.selection.specs.Allowed.{allowsOf}
-use Rattle.selection.specs.Computed.{madeTable, madeOf}
+use Rattle.selection.specs.computed.Allowed.{allowsOf}
+use Rattle.selection.specs.computed.Outcomes.{madeTable, madeOf}
 use Rattle.selection.specs.Word.{Within}
 use Rattle.recurrence.specs.Recurrence.{Operands, residue, cellAt, nextOf, after, digitOf, digits, value, endRemainder, correctedQuotient, correctedRemainder, resultOf}
-use Rattle.recurrence.specs.Run.{longest, mostDigits, runRules, written, runZeros, runValues, runOf}
-use Rattle.recurrence.specs.OnTheFly.{PairDemand, PairExample}
-use Rattle.recurrence.specs.Demand.{RunAnswered, RunsRight, RunClaim}
-use Rattle.recurrence.specs.declared.RunAnswer.{RunAnswer}
+use Rattle.recurrence.specs.computed.Run.{longest, mostDigits, runRules, RunOutcome, runRefused, runValues, runOf}
+use Rattle.recurrence.specs.computed.OnTheFly.{PairDemand, PairExample}
+use Rattle.recurrence.specs.computed.Demand.{RunsRight, RunClaim}
 use Rattle.recurrence.proofs.Steps.{residue-biased, range-of, table-digit-allowed, step-residue}
 use Rattle.recurrence.proofs.Digits.{divisor-after, digit-at}
 use Rattle.recurrence.proofs.Invariant.{invariant-after, quarter}
 use Rattle.recurrence.proofs.Pair.{renews-next, pair-after, chosen}
 use Rattle.recurrence.proofs.Correction.{divided, end-remainder, result-by-sign, corrected-result}
-use Rattle.recurrence.proofs.Refusals.{spans, no-refusal, same-through}
+use Rattle.recurrence.proofs.Refusals.{spans, no-refusal}
+use Rattle.selection.proofs.TableRefusals.{same-through}
 use Rattle.selection.specs.declared.Estimate.{Estimate}
 use Rattle.selection.specs.declared.Estimate.the-variants.{EightBits}
 
+-- § 6.6 Bench case 9 is shown step by step.
 pub pair-example : PairExample
 unfolding madeTable listFrom madeOf allowsOf nextOf after
 pair-example = record { one = (refl, refl); two = (refl, refl); three = (refl, refl) }
@@ -70,6 +71,7 @@ module _ (E : Estimate) where
         (record { low = simp diffs (omega (arith, k .in-range .above, k .meets)); high = simp diffs (omega (arith, k .in-range .below, k .meets)) })
 
 -- in a divider with either estimate
+-- § 6.8 All this holds of the steps of a divider with either estimate.
 pub runs-right : (E : Estimate) (t : List ℕ) (N D n : ℕ) → Passes E t → Operands N D → 1 ≤ n → RunsRight E t N D n
 unfolding after nextOf
 runs-right E t N D n p o h =
@@ -96,6 +98,7 @@ runs-right E t N D n p o h =
 pub results-same : (E F : Estimate) (t u : List ℕ) (N D n : ℕ) → Passes E t → Passes F u → Operands N D → 1 ≤ n → resultOf E t N D n ≡ resultOf F u N D n
 results-same E F t u N D n p q o h = result-divides E t N D n p o h ∙ sym (result-divides F u N D n q o h)
 
+-- § 6.8 All this holds of a caller's run, with every byte of its buffer.
 pub run-claim : (t : List ℕ) → Passes EightBits t → (N D n : ℕ) (b : List ℕ) (place : ℕ) → Operands N D → 1 ≤ n → n ≤ mostDigits → place + n ≤ length b → RunClaim t N D n b place
 unfolding resultOf
 run-claim t p N D n b place o h l r =
@@ -103,12 +106,12 @@ run-claim t p N D n b place o h l r =
     let c = corrected-result EightBits t N D n _ (invariant-after EightBits t N D p o n .1) h in
     let f = result-formed EightBits t N D n p o h in
     record {
-      written = ap (answerBy (λ f. b) (written b place (digits EightBits t N D n) n)) g;
+      written = rw g refl;
       steps = runs-right EightBits t N D n p o h;
-      answer = subst (RunAnswered t N D n) (sym (ap (answerBy runZeros (runValues (resultOf EightBits t N D n))) g))
-          (record { done = refl; count = refl; quotient = f .0; chosen = quotient-chosen EightBits t N D n p o h (omega arith); remainder = f .1; divides = c .divides; below = c .below });
+      answer = rw g (record { done = refl; count = refl; quotient = f .0; chosen = quotient-chosen EightBits t N D n p o h (omega arith); remainder = f .1; divides = c .divides; below = c .below });
     }
 
+-- § 6.6 Each step makes both values anew by two appended bits; they stay one apart.
 pub pair-demand : PairDemand
 pair-demand = record {
   start = λ N D. (refl, refl);
@@ -118,7 +121,8 @@ pair-demand = record {
 }
 
 -- the same answer through every table that passes, whatever the arguments
-pub run-same : (t u : List ℕ) → Passes EightBits t → Passes EightBits u → (N D n : ℕ) (b : List ℕ) (place : ℕ) → runOf t N D n b place ≡ runOf u N D n b place
+-- § 6.9 Through any two tables that pass the answers are the same.
+pub run-same : (t u : List ℕ) → Passes EightBits t → Passes EightBits u → (N D n : ℕ) (b : List ℕ) (place : ℕ) → runOf t N D n b place .answer ≡ runOf u N D n b place .answer
 run-same t u p q N D n b place =
-    same-through (λ (x : RunAnswer). x) runZeros p q (runRules N D n (length b) place)
+    same-through EightBits (λ (x : RunOutcome). x .answer) (runRefused b) p q (runRules N D n (length b) place)
     (λ e. let s = spans N D n (length b) place e in ap runValues (results-same EightBits EightBits t u N D n p q (s .operands) (s .some)))

@@ -5,23 +5,24 @@ use lib.ListN.{List·getD-append}
 use lib.Seq.{getD-append-add}
 use lib.Signed.{leZ, leZ-yes, clashℤ}
 use Rattle.laws.proofs.Diff.{diffs}
-use Rattle.selection.proofs.Refusing.{answerBy, passed-last}
+use Rattle.selection.proofs.RefusalNames.{answerBy, passed-last}
 use Rattle.laws.specs.Lists.{listFrom}
 use Rattle.selection.specs.Cell.{row, column, digit}
 use Rattle.selection.specs.Table.{Passes}
 use Rattle.selection.specs.Word.{signed, Within}
 use Rattle.selection.proofs.BiasedPoints.{digit-diff}
-use Rattle.selection.specs.Allowed.{allowsOf}
-use Rattle.selection.specs.Computed.{madeTable, madeOf}
+use Rattle.selection.specs.computed.Allowed.{allowsOf}
+use Rattle.selection.specs.computed.Outcomes.{madeTable, madeOf}
 use Rattle.selection.proofs.MadeTables.{kept-passes}
 use Rattle.recurrence.specs.Recurrence.{Operands, cellAt, stepBy, stateFrom, nextOf, after, digitOf, digits}
-use Rattle.recurrence.specs.Step.{stepRules, stepZeros, stepValues, stepOf, fedBack}
-use Rattle.recurrence.specs.StepDemand.{Stepped, FeedsRun, StepDemand, StepExample}
-use Rattle.recurrence.specs.declared.step.StepAnswer.{StepAnswer}
+use Rattle.recurrence.specs.computed.Step.{stepRules, stepZeros, stepValues, stepOf, fedBack}
+use Rattle.recurrence.specs.Step.{StepTaken}
+use Rattle.recurrence.specs.computed.StepDemand.{FeedsRun, StepDemand, StepExample}
+use Rattle.recurrence.specs.declared.step.Stepped.{Stepped}
 use Rattle.recurrence.proofs.Steps.{residue-biased, InRange, range-of, table-digit-allowed, step-residue, step-in-range}
 use Rattle.recurrence.proofs.Digits.{divisor-after}
 use Rattle.recurrence.proofs.StepRange.{by-neither}
-use Rattle.recurrence.proofs.Refusals.{same-through}
+use Rattle.selection.proofs.TableRefusals.{same-through}
 use Rattle.recurrence.proofs.RunDemand.{range, run-claim}
 use Rattle.selection.specs.declared.Estimate.the-variants.{EightBits}
 
@@ -38,7 +39,7 @@ module _ (s k D : ℕ) (t : List ℕ) (ok : Passes EightBits t) (least : 2 ^ 60 
       let e = residue-biased (stateFrom s k D) in
       record { least = least; most = most; above = omega (arith, simp diffs at (rw e at (w .low))); below = omega (arith, simp diffs at (rw e at (w .high))) }
 
-  stepped : Stepped s k D (getD t (128 * row D + column EightBits s k) 0) (stepOf s k D t)
+  stepped : StepTaken s k D (getD t (128 * row D + column EightBits s k) 0) (stepOf s k D t)
   unfolding nextOf
   stepped =
       let p = stateFrom s k D in
@@ -87,20 +88,22 @@ module _ (t : List ℕ) (N D : ℕ) (ok : Passes EightBits t) (o : Operands N D)
 
 -- ---- all as one statement
 
+-- § 7.2 Words that are handed in again give the run's digits.
 pub step-demand : StepDemand
 step-demand = record {
   step = stepped;
-  same = λ t u p q s k D. same-through (λ (x : StepAnswer). x .refusal) stepZeros p q (stepRules s k D) (λ e. refl);
+  same = λ t u p q s k D. same-through EightBits (λ (x : Stepped). x .refusal) stepZeros p q (stepRules s k D) (λ e. refl);
   feeds = λ t ok N D n b place o. feeds t N D ok o n b place;
 }
 
 -- ---- worked steps
 
 -- a step through the made table, with words and divisor in their spans
-worked : (s k D : ℕ) {x : StepAnswer} → T (leb (2 ^ 60) D) → T (ltb D (2 ^ 61)) → T (leZ (negℤ (pos (8 * D))) (pos 3 *ℤ signed (s + k))) → T (leZ (pos 3 *ℤ signed (s + k)) (pos (8 * D)))
+worked : (s k D : ℕ) {x : Stepped} → T (leb (2 ^ 60) D) → T (ltb D (2 ^ 61)) → T (leZ (negℤ (pos (8 * D))) (pos 3 *ℤ signed (s + k))) → T (leZ (pos 3 *ℤ signed (s + k)) (pos (8 * D)))
     → stepValues (nextOf EightBits (madeTable EightBits) (stateFrom s k D)) ≡ x → stepOf s k D (madeTable EightBits) ≡ x
 worked s k D l m low high e = step-done s k D (madeTable EightBits) (kept-passes EightBits) (leb→le _ _ l) (ltb→lt _ _ m) (record { low = leZ-yes low; high = leZ-yes high }) ∙ e
 
+-- § 7.1 A step for each digit is worked in numbers.
 pub step-example : StepExample
 unfolding madeTable listFrom madeOf allowsOf nextOf digit signed
 step-example = record {

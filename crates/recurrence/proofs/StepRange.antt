@@ -2,16 +2,12 @@
 use Rattle.laws.proofs.Basics.{_≡_, refl, List, _++_, inl, inr, ⊎-elim, ℕ, _+_, _-_, _*_, _/_, _%_, _^_, _≤_, _<_, arith, ltb, ltb→lt, nltb→le, pos, negℤ, _*ℤ_}
 use Rattle.laws.proofs.Diff.{diffs}
 use Rattle.laws.proofs.Tests.{by-cond}
-use Rattle.selection.proofs.Refusing.{refusal, firstOf, answerBy, Condition, belowℤ, eitherOf, Holds, firstRefusal, rank, tableRules, WellFormed, cleared, clear-admits, refused-at, lent}
-use Rattle.selection.proofs.Orders.{first-lent}
+use Rattle.selection.proofs.RefusalNames.{refusal, Condition, belowℤ, eitherOf, Holds, firstRefusal, rank, tableRules, WellFormed, cleared, clear-admits, refused-at, lent}
 use Rattle.selection.specs.Word.{signed}
-use Rattle.selection.specs.declared.Admission.{Admission}
 use Rattle.selection.specs.declared.Admission.the-variants as A
 use Rattle.selection.proofs.BiasedPoints.{signed-diff}
-use Rattle.recurrence.specs.FastRun.{distanceOf}
-use Rattle.recurrence.specs.Recurrence.{stateFrom, nextOf}
-use Rattle.recurrence.specs.Step.{stepRules, stepZeros, stepValues, stepOf}
-use Rattle.recurrence.specs.declared.step.StepAnswer.{StepAnswer}
+use Rattle.recurrence.specs.computed.FastRun.{distanceOf}
+use Rattle.recurrence.specs.computed.Step.{stepRules}
 use Rattle.selection.specs.declared.Estimate.the-variants.{EightBits}
 
 module _ (s k D : ℕ) where
@@ -28,11 +24,13 @@ module _ (s k D : ℕ) where
   step-lent t = lent EightBits (stepRules s k D) t step-rules tt
 
   -- the code's test
+  -- § 7.3 Refusal 14 is for P out of range.
   pub outside : 8 * D / 3 < distanceOf ((s + k) % 2 ^ 64) → Holds out-of-range
   outside =
       by-cond (λ (x : ℕ). 8 * D / 3 < x → Holds out-of-range) (ltb ((s + k) % 2 ^ 64) (2 ^ 63)) ((s + k) % 2 ^ 64) (2 ^ 64 - (s + k) % 2 ^ 64)
       (λ c h. inr (rw (signed-diff (s + k)) (simp diffs (omega (arith, ltb→lt))))) (λ c h. inl (rw (signed-diff (s + k)) (simp diffs (omega (arith, nltb→le)))))
 
+  -- § 7.3 Refusal 14 is for P out of range.
   pub inside : distanceOf ((s + k) % 2 ^ 64) ≤ 8 * D / 3 → Holds out-of-range → ⊥
   inside =
       by-cond (λ (x : ℕ). x ≤ 8 * D / 3 → Holds out-of-range → ⊥) (ltb ((s + k) % 2 ^ 64) (2 ^ 63)) ((s + k) % 2 ^ 64) (2 ^ 64 - (s + k) % 2 ^ 64)
@@ -53,8 +51,3 @@ module _ (s k D : ℕ) where
   pub step-span : firstRefusal (stepRules s k D) ≡ A.Admitted → D < 2 ^ 61
   unfolding stepRules
   step-span e = omega (arith, cleared step-rules e .0 .1)
-
-  -- the answer, by the first refusal v, where a is that of the arguments
-  pub step-answered : (t : List ℕ) {a w v : Admission} {x : StepAnswer} → a ≡ firstRefusal (stepRules s k D) → w ≡ firstOf a (firstRefusal (tableRules EightBits t)) → w ≡ v
-      → x ≡ answerBy stepZeros (stepValues (nextOf EightBits t (stateFrom s k D))) v → x ≡ stepOf s k D t
-  step-answered t e f g h = rw (h, ← first-lent EightBits (stepRules s k D) t f e g) refl

@@ -2,12 +2,12 @@
 -- natural number below 2^64, which `omega` reads.
 use Rattle.laws.proofs.Basics.{_≡_, List, ℕ, _+_, _-_, _*_, _/_, _%_, _^_, _≤_, _<_, arith, getD, pos, _-ℤ_, _*ℤ_}
 use Rattle.laws.proofs.Diff.{diff, diffs}
-use Rattle.laws.proofs.Tests.{up-to-four}
 use Rattle.laws.proofs.Words.{same-mod}
+use Rattle.selection.proofs.DigitBytes.{up-to-four}
 use Rattle.selection.specs.Word.{Within}
 use Rattle.selection.specs.Cell.{row, column, digit, Allows}
 use Rattle.selection.specs.Table.{Passes}
-use Rattle.selection.specs.Repair.{ReplacedAt}
+use Rattle.selection.specs.Repair.{FaultyAt}
 use Rattle.selection.proofs.BiasedPoints.{signed-diff, digit-diff}
 use Rattle.selection.proofs.Columns.{row-in, column-small, column-of}
 use Rattle.selection.proofs.Reports.{passes-at}
@@ -25,6 +25,7 @@ pub residue-biased : (p : State) → residue p ≡ diff (biased p) (2 ^ 63)
 residue-biased p = signed-diff (p .sum + p .carry)
 
 -- the term is −qD modulo 2^64
+-- § 6.3 Multiple word and lowest carry together are −qD.
 pub term : (d D : ℕ) → d ≤ 4 → D < 2 ^ 61 → (j : ℕ) × (multiple d D + lowestCarry d + d * D ≡ 2 * D + j * 2 ^ 64)
 term d D h l =
     up-to-four (λ d. (j : ℕ) × (multiple d D + lowestCarry d + d * D ≡ 2 * D + j * 2 ^ 64)) (0, omega arith) (0, omega arith) (0, omega arith) (1, omega arith) (1, omega arith) d h
@@ -90,7 +91,7 @@ module _ (E : Estimate) where
     pub table-digit-allowed : Passes E t → InRange p → AllowedAt (getD t (cellAt E p) 0) p
     table-digit-allowed ok g = digit-allowed _ p g (ok .table .digits (cellAt E p)) (passes-at E ok (row (p .divisor)) (column E (p .sum) (p .carry)) (omega arith) (column-small E (p .sum) (p .carry)))
 
-    pub good-digit-allowed : (ReplacedAt E t (cellAt E p) → ⊥) → InRange p → AllowedAt (getD t (cellAt E p) 0) p
+    pub good-digit-allowed : (FaultyAt E t (cellAt E p) → ⊥) → InRange p → AllowedAt (getD t (cellAt E p) 0) p
     good-digit-allowed n g =
         let r = row (p .divisor) in
         let c = column E (p .sum) (p .carry) in

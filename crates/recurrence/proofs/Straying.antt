@@ -11,7 +11,7 @@ use Rattle.selection.specs.Cell.{digit}
 use Rattle.selection.proofs.BiasedPoints.{digit-diff}
 use Rattle.recurrence.specs.CarrySave.{sum3, maj3, multiple, lowestCarry}
 use Rattle.recurrence.specs.Recurrence.{State, Operands, stepBy, residue, startOf, value, formed}
-use Rattle.recurrence.specs.Recheck.{ShowsWrong, leftBy, leftEnd, straysBelow}
+use Rattle.recurrence.specs.computed.Recheck.{ShowsWrong, leftBy, leftEnd, straysBelow}
 use Rattle.recurrence.proofs.CarrySave.{carry-save}
 use Rattle.recurrence.proofs.Steps.{biased, residue-biased, term}
 use Rattle.recurrence.proofs.Digits.{value-append}

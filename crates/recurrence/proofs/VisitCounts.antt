@@ -1,23 +1,20 @@
 -- The visits of all runs: what they add up to, where there are none, and the answer of the call.
-use Rattle.laws.proofs.Basics.{_≡_, refl, sym, ap, _∙_, _↔_, List, _++_, ℕ, _+_, _-_, _*_, _/_, _^_, _≤_, _<_, arith, length, getD}
+use Rattle.laws.proofs.Basics.{_≡_, refl, sym, ap, _∙_, _↔_, List, _++_, ℕ, _+_, _-_, _*_, _/_, _^_, _≤_, _<_, arith, length}
 use native.Mathlib.Nat.{div-add-mod', le-div-iff-mul-le, div-lt-iff-lt-mul, eq-of-mul-eq-mul-right, mul-mod-left}
 use lib.Pow.{pow-add}
-use Rattle.laws.specs.Lists.{listFrom, filled, FilledWith}
+use Rattle.laws.specs.Lists.{listFrom}
 use Rattle.laws.proofs.Lists.{fill-right, filled-one}
 use Rattle.laws.proofs.Powers.{four-pow}
 use Rattle.laws.specs.Sums.{sumBelow}
 use Rattle.laws.proofs.Sums.{sum-as, sum-all, sum-nothing, sum-zero, sum-swap}
-use Rattle.selection.proofs.Refusing.{refusalOf, firstOf, answerBy, Wrongs, firstRefusal, rank, tableRules, WellFormed, clear, either-way, first-is, admits, refused-by, refused-one, none-clear, cleared, clear-admits, lent, passed-last}
-use Rattle.selection.proofs.Orders.{first-lent}
-use Rattle.selection.specs.declared.Refusal.{Refusal}
-use Rattle.selection.specs.declared.Admission.{Admission}
+use Rattle.selection.proofs.RefusalNames.{Wrongs, firstRefusal, rank, tableRules, WellFormed, clear, admits, refuses-one, refuses, none-clear, cleared, clear-admits, lent, passed-last}
 use Rattle.selection.specs.declared.Admission.the-variants.{Admitted}
-use Rattle.selection.specs.Allowed.{allowsOf}
-use Rattle.selection.specs.Computed.{madeTable, madeOf}
+use Rattle.selection.specs.computed.Allowed.{allowsOf}
+use Rattle.selection.specs.computed.Outcomes.{madeTable, madeOf}
 use Rattle.selection.specs.Table.{Passes}
 use Rattle.recurrence.specs.Recurrence.{cellAt, nextOf, after}
-use Rattle.recurrence.specs.Visits.{isAt, runVisits, visitsOf, VisitsClaim, visitsRules, visitsAnswer, visitsLeft, Visits, Significant, OperandOnce, VisitsShown, VisitsDemand, VisitsExample}
-use Rattle.recurrence.specs.VisitSteps.{VisitsSpans, visitsByDivisors, visitsByPairs}
+use Rattle.recurrence.specs.computed.Visits.{isAt, runVisits, allVisits, VisitsClaim, visitsRules, VisitsOutcome, visitsRefused, visitsOf, Visits, Significant, OperandOnce, VisitsShown, VisitsDemand, VisitsExample}
+use Rattle.recurrence.specs.computed.VisitSteps.{VisitsSpans, visitsByDivisors, visitsByPairs}
 use Rattle.recurrence.proofs.Visiting.{sum-at, at-here, at-other, cell-below, unit-some, placed-span, pairs-most, product-most, few-bits, placed-bits}
 use Rattle.selection.specs.declared.Estimate.the-variants.{EightBits}
 
@@ -37,7 +34,7 @@ module _ (t : List ℕ) (m u n : ℕ) where
   pairs-total = sum-swap (λ x. visitsByDivisors t m u n ((m + x) * u)) m 2048 ∙ sum-all _ (m * n) m (λ x h. divisors-total ((m + x) * u))
 
 visits-claim : (t : List ℕ) (k n : ℕ) → VisitsClaim t k n
-unfolding visitsOf visitsByPairs visitsByDivisors runVisits
+unfolding allVisits visitsByPairs visitsByDivisors runVisits
 visits-claim t k n =
     let m = 2 ^ (k - 1) in
     let u = 2 ^ (61 - k) in
@@ -79,33 +76,25 @@ module _ (t : List ℕ) (k n : ℕ) (v : List ℕ) where
   unfolding visitsRules
   room a = none-clear (visits-lent k n (length v) t) a .1 .1 .0
 
-  pub visits-right : Visits t k n v (visitsLeft t k n v) (visitsAnswer t k n v)
+  -- § 15.1 The list holds how often each cell is met.
+  pub visits-right : Visits t k n v (visitsOf t k n v)
   visits-right =
       let c = visits-lent k n (length v) t in
-      record {
-        refuses = refused-by c;
-        keeps = λ m p x. ap (answerBy (λ f. v) (filled (visitsOf t k n) 2048 v)) (first-is c m p x);
-        counts = λ a. let e = admits c a in rw e (fill-right (visitsOf t k n) 2048 v (room a));
-      }
-
-  -- what the code asks: by the first refusal r, where a is that of the arguments
-  pub visits-told : {a u r : Admission} {w : List ℕ} {f : Refusal} → a ≡ firstRefusal (visitsRules k n (length v)) → u ≡ firstOf a (firstRefusal (tableRules EightBits t)) → u ≡ r
-      → f ≡ refusalOf r → w ≡ answerBy (λ f. v) (filled (visitsOf t k n) 2048 v) r → (f ≡ visitsAnswer t k n v) × (w ≡ visitsLeft t k n v) × Visits t k n v w f
-  visits-told i j l g h = rw (g, h, ← first-lent EightBits (visitsRules k n (length v)) t j i l) (refl, refl, visits-right)
+      record { refuses = refuses c (λ (x : VisitsOutcome). x .answer) (visitsRefused v) _ refl (λ f. refl) refl; counts = λ a. rw (admits c a) (fill-right (allVisits t k n) 2048 v (room a)) }
 
 -- what is accepted, and what the list then shows
-visits-shown : (t : List ℕ) (k n : ℕ) (v : List ℕ) → 1 ≤ n → n ≤ 28 → 1 ≤ k → k ≤ 6 → 2048 ≤ length v → Passes EightBits t → VisitsShown t k n v
+visits-shown : (t : List ℕ) (k n : ℕ) (v : List ℕ) → 1 ≤ n → n ≤ 28 → 1 ≤ k → k ≤ 6 → 2048 ≤ length v → Passes EightBits t → VisitsShown t k n v (visitsOf t k n v)
 visits-shown t k n v some most h l r p =
     let e = passed-last EightBits p (visitsRules k n (length v)) ∙ visits-clear k n (length v) some most h l r in
-    let w : FilledWith (visitsOf t k n) 2048 v (visitsLeft t k n v) = rw e (fill-right (visitsOf t k n) 2048 v r) in
+    let w = fill-right (allVisits t k n) 2048 v r in
     let claim = visits-claim t k n in
-    record {
-      accepted = ap refusalOf e;
+    rw e (record {
+      accepted = refl;
       shown = w .each;
       kept = w .kept;
-      total = sum-as (λ c. getD (visitsLeft t k n v) c 0) (visitsOf t k n) 2048 (w .each) ∙ claim .total;
+      total = sum-as _ (allVisits t k n) 2048 (w .each) ∙ claim .total;
       zero = λ c i. (λ z. claim .zero c .0 (sym (w .each c i) ∙ z), λ f. w .each c i ∙ claim .zero c .1 f);
-    }
+    })
 
 -- ---- the operands: all numbers of k significant bits, each once
 
@@ -132,15 +121,18 @@ operands-once k N h l = (
       rw (← o .is) (record { least = p .0; most = p .1; zeros = mul-mod-left (2 ^ (k - 1) + o .x) (2 ^ (61 - k)) }),
 )
 
+-- § 15.2 The counts add up to n·4^(k−1), and one is 0 exactly where no run goes.
 pub visits-demand : VisitsDemand
 visits-demand = record { operands = operands-once; claim = visits-claim; shown = visits-shown }
 
 -- no other answer fits
-pub visits-one : {t : List ℕ} {k n : ℕ} {v w u : List ℕ} (f g : Refusal) → Visits t k n v w f → Visits t k n v u g → (w ≡ u) × (f ≡ g)
-visits-one {t} {k} {n} {v} f g x y =
+-- § 15.1 The list holds how often each cell is met.
+pub visits-one : {t : List ℕ} {k n : ℕ} {v : List ℕ} (a b : VisitsOutcome) → Visits t k n v a → Visits t k n v b → a ≡ b
+visits-one {t} {k} {n} {v} a b x y =
     let c = visits-lent k n (length v) t in
-    (either-way c (λ e. filled-one (x .counts (clear c e)) (y .counts (clear c e))) (λ n p m. x .keeps n p m ∙ sym (y .keeps n p m)), refused-one c (x .refuses) (y .refuses))
+    refuses-one c (x .refuses) (y .refuses) (λ e f i. record { answer = f i; visits = filled-one (x .counts (clear c e)) (y .counts (clear c e)) i })
 
+-- § 15.1 Two bits and three digits are counted in numbers.
 pub visits-example : VisitsExample
-unfolding visitsOf runVisits sumBelow isAt madeTable listFrom madeOf allowsOf after nextOf
+unfolding allVisits runVisits sumBelow isAt madeTable listFrom madeOf allowsOf after nextOf
 visits-example = record { row-0 = (refl, refl, refl, refl); row-8 = (refl, refl, refl, refl) }

@@ -11,9 +11,9 @@ use Rattle.laws.specs.Counting.{countBelow}
 use Rattle.laws.proofs.Counting.{bit-most, count-none, count-more}
 use Rattle.selection.specs.Cell.{row}
 use Rattle.recurrence.specs.Recurrence.{State, cellAt, startOf, nextOf, after}
-use Rattle.recurrence.specs.FastRun.{withColumn, stateOf}
-use Rattle.recurrence.specs.Visits.{isAt, runVisits, visitsOf}
-use Rattle.recurrence.specs.VisitSteps.{Added, Room, VisitsSpans, Placed, visitsByDivisors, visitsByPairs}
+use Rattle.recurrence.specs.computed.FastRun.{withColumn, stateOf}
+use Rattle.recurrence.specs.computed.Visits.{isAt, runVisits, allVisits}
+use Rattle.recurrence.specs.computed.VisitSteps.{Added, Room, VisitsSpans, Placed, visitsByDivisors, visitsByPairs}
 use Rattle.recurrence.specs.declared.state.RunState.{RunState}
 use Rattle.recurrence.proofs.Digits.{divisor-after}
 use Rattle.recurrence.proofs.Loop.{stands-next}
@@ -140,8 +140,8 @@ module _ {k n : ℕ} (v : List ℕ) {l : List ℕ} (r : VisitsSpans k n (length 
   pub bits-ready : let m = 1 * 2 ^ (k - 1) % 2 ^ 64 in Placed m (1 * 2 ^ (61 - k) % 2 ^ 64) × Room (m * (m * n)) l
   bits-ready = rw (first, second, e) (placed-bits k (r .some) (r .bits), room-cleared v (r .room) (omega (arith, product-most (2 ^ (k - 1)) n (few-bits k (r .bits)) (r .digits))))
 
-  pub bits-done : (t : List ℕ) {w : List ℕ} → Added (visitsByPairs t (1 * 2 ^ (k - 1) % 2 ^ 64) (1 * 2 ^ (61 - k) % 2 ^ 64) n) l w → w ≡ filled (visitsOf t k n) 2048 v
-  unfolding visitsByPairs visitsByDivisors visitsOf
+  pub bits-done : (t : List ℕ) {w : List ℕ} → Added (visitsByPairs t (1 * 2 ^ (k - 1) % 2 ^ 64) (1 * 2 ^ (61 - k) % 2 ^ 64) n) l w → w ≡ filled (allVisits t k n) 2048 v
+  unfolding visitsByPairs visitsByDivisors allVisits
   bits-done t x = added-cleared v (r .room) (rw (first, second, e) at x)
 
 -- in a divider with the estimate E

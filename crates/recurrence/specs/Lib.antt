@@ -1,12 +1,4 @@
 pub mod CarrySave
 pub mod Recurrence
-pub mod Run
-pub mod OnTheFly
-pub mod Demand
 pub mod Step
-pub mod StepDemand
-pub mod Row
-pub mod FastRun
-pub mod Visits
-pub mod VisitSteps
-pub mod Recheck
+pub mod computed

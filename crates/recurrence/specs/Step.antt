@@ -1,38 +1,25 @@
--- One step for a caller: the specification, section 7. The refusals in their order, the answer, and the answers of a caller who feeds each returned pair back.
-use mathlib.Core.List.{List, [], _∷_, _++_}
-use Prim.Native.Nat.{ℕ, zero, suc, _+_, _*_}
-use lib.IntN.{pos, negℤ, _*ℤ_}
-use Rattle.selection.specs.Answer.{refusal, answerBy}
+-- One step of the recurrence, in numbers: the specification, section 6.
+use mathlib.Core.Path.{_≡_}
+use Prim.Native.Nat.{ℕ, _+_, _*_, _%_, _^_, _≤_}
+use lib.IntN.{pos, negℤ, _-ℤ_, _*ℤ_}
+use lib.Signed.{_≤ℤ_}
+use Rattle.selection.specs.Answer.{refusal}
 use Rattle.selection.specs.Cell.{digit}
-use Rattle.selection.specs.Table.{tableRules}
-use Rattle.selection.specs.Refusals.{Rule, belowℤ, eitherOf, number, firstRefusal}
-use Rattle.selection.specs.Word.{signed}
-use Rattle.selection.specs.declared.Refusal.{Refusal}
-use Rattle.recurrence.specs.Recurrence.{State, stateFrom, nextOf}
-use Rattle.recurrence.specs.Run.{divisorOutside}
-use Rattle.recurrence.specs.declared.step.StepAnswer.{StepAnswer}
-use Rattle.selection.specs.declared.Estimate.the-variants.{EightBits}
+use Rattle.selection.specs.Word.{signed, Within}
+use Rattle.recurrence.specs.CarrySave.{sum3, maj3, multiple, lowestCarry}
+use Rattle.recurrence.specs.declared.step.Stepped.{Stepped}
 
--- what a step with PS = s, PC = k refuses of its arguments. 3: D outside its span, from 2^60 to 2^61 - 1. 14: with P read from both words, 3P is below −8D or above 8D
-unfoldable pub stepRules : ℕ → ℕ → ℕ → List Rule
-stepRules s k D =
-    number 3 (divisorOutside D)
-    ∷ number 14 (eitherOf (belowℤ (pos 3 *ℤ signed (s + k)) (negℤ (pos (8 * D)))) (belowℤ (pos (8 * D)) (pos 3 *ℤ signed (s + k))))
-    ∷ []
-
--- number and place of a refusal, and zeros
-abbrev pub stepZeros : Refusal → StepAnswer
-stepZeros f = record { refusal = f; digit = pos 0; sum = 0; carry = 0 }
-
--- the digit that led to a state, its two words, and no refusal
-abbrev pub stepValues : State → StepAnswer
-stepValues p = record { refusal = refusal 0 0; digit = digit (p .digit); sum = p .sum; carry = p .carry }
-
--- the answer: after the arguments' refusals the table's, 8, 9, 10; else the run's step
-abbrev pub stepOf : ℕ → ℕ → ℕ → List ℕ → StepAnswer
-stepOf s k D t = answerBy stepZeros (stepValues (nextOf EightBits t (stateFrom s k D))) (firstRefusal (stepRules s k D ++ tableRules EightBits t))
-
--- the answer of call i, counted from 0, to someone who begins at PS = N, PC = 0 and feeds each returned pair back
-unfoldable pub fedBack : List ℕ → ℕ → ℕ → ℕ → StepAnswer
-fedBack t N D zero = stepOf N 0 D t
-fedBack t N D (suc i) = stepOf (fedBack t N D i .sum) (fedBack t N D i .carry) D t
+-- what the answer x to PS = s, PC = k and D says where nothing is refused; d is the table's byte at their cell
+-- § 7.1 One step answers the digit and the next two words.
+pub record StepTaken (s k D d : ℕ) (x : Stepped) : Type 0 where
+  pub done : x .refusal ≡ refusal 0 0
+  -- q is the byte's digit, from −2 to 2
+  pub selected : x .digit ≡ digit d
+  pub least : (negℤ (pos 2)) ≤ℤ (x .digit)
+  pub most : (x .digit) ≤ℤ (pos 2)
+  -- the next words: exclusive or and majority of PS, PC and the multiple, as the run forms them
+  pub sum : x .sum ≡ sum3 s k (multiple d D) * 4 % 2 ^ 64
+  pub carry : x .carry ≡ (maj3 s k (multiple d D) * 2 + lowestCarry d) * 4 % 2 ^ 64
+  -- they make P′ = 4(P − qD), in range again
+  pub next : signed (x .sum + x .carry) ≡ pos 4 *ℤ (signed (s + k) -ℤ x .digit *ℤ pos D)
+  pub range : Within 8 D (pos 3 *ℤ signed (x .sum + x .carry))

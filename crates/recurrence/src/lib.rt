@@ -10,19 +10,23 @@ use crate::state::corrected;
 use crate::state::divisor_multiples;
 use selection::Admission;
 use selection::NO_REFUSAL;
+use selection::REFUSED_DIGITS;
+use selection::REFUSED_ROOM;
+use selection::REFUSED_SPAN;
 use selection::Refusal;
 use selection::refused;
 ghost use mathlib.Core.Path.{_≡_};
 ghost use mathlib.Core.List.{List};
 ghost use Prim.Native.Nat.{ℕ, _≤_};
 ghost use lib.ListN.{length};
-ghost use Rattle.selection.specs.Refusals.{firstRefusal};
+ghost use Rattle.selection.specs.computed.Refusals.{firstRefusal};
 ghost use Rattle.selection.specs.Cell as Cell;
-ghost use Rattle.selection.specs.Table.{Passes, rowBytes};
-ghost use Rattle.selection.specs.Computed.{madeTable};
+ghost use Rattle.selection.specs.Table.{Passes};
+ghost use Rattle.selection.specs.computed.Table.{rowBytes};
+ghost use Rattle.selection.specs.computed.Outcomes.{madeTable};
 ghost use Rattle.recurrence.specs.Recurrence.{Operands, digits, resultOf};
-ghost use Rattle.recurrence.specs.Row.{Row};
-ghost use Rattle.recurrence.specs.Run.{longest, runRules, RunSpans, written, runZeros, runValues, runOf, bufferOf};
+ghost use Rattle.recurrence.specs.computed.Row.{Row};
+ghost use Rattle.recurrence.specs.computed.Run.{longest, runRules, RunSpans, written, runZeros, runValues, runOf};
 ghost use Rattle.selection.specs.declared.Estimate.the-variants.{EightBits};
 
 // The spans: a divisor is from 2^60 to 2^61 - 1, a dividend from 0 to 2^61 - 1.
@@ -38,14 +42,14 @@ const MOST_DIGITS: usize = 28;
 
 // The answer, as C sees it: the refusal (0: none) and its place, quotient, remainder and number of digits, zeros where the run is refused.
 #[repr(C)]
-pub struct RunAnswer {
+pub struct Ran {
     pub refusal: Refusal,
     pub quotient: u64,
     pub remainder: u64,
     pub digits: u64,
 }
 
-// The count stands between the other two, so that a copy of both never loads as one piece what was just stored as two.
+// The order of the fields avoids a store-forwarding stall: a copy does not load quotient and remainder, which are stored one by one, as one piece.
 pub struct RunResult {
     pub quotient: u64,
     pub count: usize,
@@ -106,34 +110,34 @@ fn argument_refusal(dividend: u64, divisor: u64, n: usize, len: usize, place: us
     ensures { λ r. ⌜ r ≡ firstRefusal (runRules dividend divisor n len place) ⌝ }
 {
     if n == 0 {
-        return refused(2);
+        return refused(REFUSED_DIGITS);
     }
     if MOST_DIGITS < n {
-        return refused(2);
+        return refused(REFUSED_DIGITS);
     }
     if divisor < DIVISOR_LEAST {
-        return refused(3);
+        return refused(REFUSED_SPAN);
     }
     if OPERAND_MOST < divisor {
-        return refused(3);
+        return refused(REFUSED_SPAN);
     }
     if OPERAND_MOST < dividend {
-        return refused(3);
+        return refused(REFUSED_SPAN);
     }
     if len < place {
-        return refused(7);
+        return refused(REFUSED_ROOM);
     }
     if len - place < n {
-        return refused(7);
+        return refused(REFUSED_ROOM);
     }
     Admission::Admitted
 }
 
 // A refused answer.
-fn zeros(f: Refusal) -> RunAnswer
+fn zeros(f: Refusal) -> Ran
     ensures { λ r. ⌜ r ≡ runZeros f ⌝ }
 {
-    RunAnswer {
+    Ran {
         refusal: f,
         quotient: 0,
         remainder: 0,
@@ -142,10 +146,10 @@ fn zeros(f: Refusal) -> RunAnswer
 }
 
 // An answer that is not refused.
-fn values(x: RunResult) -> RunAnswer
+fn values(x: RunResult) -> Ran
     ensures { λ r. ⌜ r ≡ runValues x ⌝ }
 {
-    RunAnswer {
+    Ran {
         refusal: NO_REFUSAL,
         quotient: x.quotient,
         remainder: x.remainder,
@@ -161,8 +165,8 @@ pub fn run(
     digits: usize,
     buffer: &mut [u8],
     place: usize,
-) -> RunAnswer
-    ensures { λ r. ⌜ (r ≡ runOf (now (table .entry)) dividend divisor digits (now (buffer .entry)) place) × (now (buffer .exit) ≡ bufferOf (now (table .entry)) dividend divisor digits (now (buffer .entry)) place) ⌝ }
+) -> Ran
+    ensures { λ r. ⌜ record { answer = r; buffer = now (buffer .exit) } ≡ runOf (now (table .entry)) dividend divisor digits (now (buffer .entry)) place ⌝ }
 {
     let arguments = argument_refusal(dividend, divisor, digits, buffer.len(), place);
     let admission = selection::table::admit_after(arguments, table);
@@ -180,14 +184,8 @@ pub fn run(
 }
 
 // The same through the kept table, which is known to pass.
-pub fn run_kept(
-    dividend: u64,
-    divisor: u64,
-    digits: usize,
-    buffer: &mut [u8],
-    place: usize,
-) -> RunAnswer
-    ensures { λ r. ⌜ (r ≡ runOf (madeTable EightBits) dividend divisor digits (now (buffer .entry)) place) × (now (buffer .exit) ≡ bufferOf (madeTable EightBits) dividend divisor digits (now (buffer .entry)) place) ⌝ }
+pub fn run_kept(dividend: u64, divisor: u64, digits: usize, buffer: &mut [u8], place: usize) -> Ran
+    ensures { λ r. ⌜ record { answer = r; buffer = now (buffer .exit) } ≡ runOf (madeTable EightBits) dividend divisor digits (now (buffer .entry)) place ⌝ }
 {
     let admission = argument_refusal(dividend, divisor, digits, buffer.len(), place);
     match admission {

@@ -4,9 +4,9 @@ ghost use mathlib.Core.List.{List};
 ghost use Prim.Native.Nat.{ℕ, _^_, _<_};
 ghost use lib.ListN.{length};
 ghost use Rattle.selection.specs.Cell as Cell;
-ghost use Rattle.selection.specs.Refusals.{firstRefusal};
-ghost use Rattle.selection.specs.Table.{rowBytes};
-ghost use Rattle.recurrence.specs.Recheck.{BurnedRow, affectedRunRules, RunRechecks, runMark, affectedRunOf, affectedRunFor};
+ghost use Rattle.selection.specs.computed.Refusals.{firstRefusal};
+ghost use Rattle.selection.specs.computed.Table.{rowBytes};
+ghost use Rattle.recurrence.specs.computed.Recheck.{BurnedRow, affectedRunRules, runMark, affectedRunOf, affectedRunFor};
 use crate::DIVISOR_LEAST;
 use crate::LONGEST;
 use crate::OPERAND_MOST;
@@ -18,7 +18,11 @@ use crate::state::masked_top_bits;
 use selection::Admission;
 use selection::Estimate;
 use selection::NO_REFUSAL;
+use selection::REFUSED_DIGITS;
+use selection::REFUSED_LENGTH;
+use selection::REFUSED_SPAN;
 use selection::Refusal;
+use selection::TABLE_LENGTH;
 use selection::bits::admit_bits;
 use selection::bits::estimate_of;
 use selection::refused;
@@ -73,22 +77,22 @@ fn refusal_of(table: usize, dividend: u64, divisor: u64, n: usize) -> Admission
     ensures { λ r. ⌜ r ≡ firstRefusal (affectedRunRules table dividend divisor n) ⌝ }
 {
     if n == 0 {
-        return refused(2);
+        return refused(REFUSED_DIGITS);
     }
     if LONGEST < n {
-        return refused(2);
+        return refused(REFUSED_DIGITS);
     }
     if divisor < DIVISOR_LEAST {
-        return refused(3);
+        return refused(REFUSED_SPAN);
     }
     if OPERAND_MOST < divisor {
-        return refused(3);
+        return refused(REFUSED_SPAN);
     }
     if OPERAND_MOST < dividend {
-        return refused(3);
+        return refused(REFUSED_SPAN);
     }
-    if table != 2048 {
-        return refused(8);
+    if table != TABLE_LENGTH {
+        return refused(REFUSED_LENGTH);
     }
     Admission::Admitted
 }
@@ -101,7 +105,7 @@ pub fn affected_run(
     divisor: u64,
     digits: usize,
 ) -> AffectedMark
-    ensures { λ r. ⌜ (r ≡ affectedRunOf estimate (now (table .entry)) dividend divisor digits) × (RunRechecks estimate (now (table .entry)) dividend divisor digits r) ⌝ }
+    ensures { λ r. ⌜ r ≡ affectedRunOf estimate (now (table .entry)) dividend divisor digits ⌝ }
 {
     let admission = refusal_of(table.len(), dividend, divisor, digits);
     match admission {

@@ -9,11 +9,11 @@ ghost use Prim.Native.Nat.{ℕ, _+_, _%_, _^_, _≤_, _<_};
 ghost use lib.ListN.{getD};
 ghost use Rattle.selection.specs.Cell.{column};
 ghost use Rattle.selection.specs.Cell as Cell;
-ghost use Rattle.selection.specs.Table.{rowBytes};
+ghost use Rattle.selection.specs.computed.Table.{rowBytes};
 ghost use Rattle.recurrence.specs.CarrySave.{lowestCarry};
 ghost use Rattle.recurrence.specs.Recurrence.{appended, stepBy, nextOf, stateFrom};
-ghost use Rattle.recurrence.specs.Recheck.{leftBy};
-ghost use Rattle.recurrence.specs.FastRun.{withColumn, stateOf, divisorMultiples, topBitsOf, allTopBits, maskOf, maskedTopBits, columnAhead, DigitBytes, Multiples, StepReady, renewed, resultFromWord};
+ghost use Rattle.recurrence.specs.computed.Recheck.{leftBy};
+ghost use Rattle.recurrence.specs.computed.FastRun.{withColumn, stateOf, divisorMultiples, topBitsOf, allTopBits, maskOf, maskedTopBits, columnAhead, DigitBytes, Multiples, StepReady, renewed, resultFromWord};
 ghost use Rattle.selection.specs.declared.Estimate.the-variants.{EightBits};
 
 // The next column needs the bits 61 to 53 of a word: what is left of it by 2^62, without the bits below 2^53.

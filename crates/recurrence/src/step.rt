@@ -2,21 +2,23 @@
 use crate::state::RunState;
 use selection::Admission;
 use selection::NO_REFUSAL;
+use selection::REFUSED_RANGE;
+use selection::REFUSED_SPAN;
 use selection::Refusal;
 use selection::refused;
 use std::num::wrapping_add_u64;
 ghost use mathlib.Core.Path.{_≡_};
 ghost use Prim.Native.Nat.{_^_, _<_};
-ghost use Rattle.selection.specs.Refusals.{firstRefusal};
+ghost use Rattle.selection.specs.computed.Refusals.{firstRefusal};
 ghost use Rattle.selection.specs.Table.{Passes};
 ghost use Rattle.recurrence.specs.Recurrence.{nextOf, stateFrom};
-ghost use Rattle.recurrence.specs.Step.{stepRules, stepZeros, stepValues, stepOf};
-ghost use Rattle.recurrence.specs.FastRun.{withColumn, stateOf, distanceOf};
+ghost use Rattle.recurrence.specs.computed.Step.{stepRules, stepZeros, stepValues, stepOf};
+ghost use Rattle.recurrence.specs.computed.FastRun.{withColumn, stateOf, distanceOf};
 ghost use Rattle.selection.specs.declared.Estimate.the-variants.{EightBits};
 
 // The answer, as C sees it: the refusal (0: none) and its place, the digit, from -2 to 2, and the next two words, zeros where the step is refused.
 #[repr(C)]
-pub struct StepAnswer {
+pub struct Stepped {
     pub refusal: Refusal,
     pub digit: i64,
     pub sum: u64,
@@ -38,13 +40,13 @@ fn refusal_of(sum: u64, carry: u64, divisor: u64) -> Admission
     ensures { λ r. ⌜ r ≡ firstRefusal (stepRules sum carry divisor) ⌝ }
 {
     if divisor < crate::DIVISOR_LEAST {
-        return refused(3);
+        return refused(REFUSED_SPAN);
     }
     if crate::OPERAND_MOST < divisor {
-        return refused(3);
+        return refused(REFUSED_SPAN);
     }
     if 8 * divisor / 3 < distance(wrapping_add_u64(sum, carry)) {
-        return refused(14);
+        return refused(REFUSED_RANGE);
     }
     Admission::Admitted
 }
@@ -61,10 +63,10 @@ fn admitted(sum: u64, carry: u64, divisor: u64, table: &[u8]) -> RunState
 }
 
 // A refused step.
-fn zeros(f: Refusal) -> StepAnswer
+fn zeros(f: Refusal) -> Stepped
     ensures { λ r. ⌜ r ≡ stepZeros f ⌝ }
 {
-    StepAnswer {
+    Stepped {
         refusal: f,
         digit: 0,
         sum: 0,
@@ -73,10 +75,10 @@ fn zeros(f: Refusal) -> StepAnswer
 }
 
 // The answer of a step that led to a state.
-fn values(p: RunState) -> StepAnswer
+fn values(p: RunState) -> Stepped
     ensures { λ r. ⌜ r ≡ stepValues (stateOf p) ⌝ }
 {
-    StepAnswer {
+    Stepped {
         refusal: NO_REFUSAL,
         digit: selection::digit_of(p.digit),
         sum: p.sum,
@@ -85,7 +87,7 @@ fn values(p: RunState) -> StepAnswer
 }
 
 // One step of the run from any two words and divisor, through a table.
-pub fn step(sum: u64, carry: u64, divisor: u64, table: &[u8]) -> StepAnswer
+pub fn step(sum: u64, carry: u64, divisor: u64, table: &[u8]) -> Stepped
     ensures { λ r. ⌜ r ≡ stepOf sum carry divisor (now (table .entry)) ⌝ }
 {
     let arguments = refusal_of(sum, carry, divisor);

@@ -1,18 +1,23 @@
 // How often each cell is met by the runs of all operands of so many bits.
 use selection::Admission;
 use selection::NO_REFUSAL;
+use selection::REFUSED_BITS;
+use selection::REFUSED_DIGITS;
+use selection::REFUSED_ROOM;
 use selection::Refusal;
+use selection::TABLE_LENGTH;
 use selection::refused;
 ghost use mathlib.Core.Path.{_≡_};
 ghost use mathlib.Core.List.{List};
 ghost use Prim.Native.Nat.{ℕ, _*_, _^_, _≤_, _<_};
 ghost use lib.ListN.{length};
 ghost use Rattle.laws.specs.Lists.{filled};
-ghost use Rattle.selection.specs.Refusals.{firstRefusal};
+ghost use Rattle.selection.specs.computed.Refusals.{firstRefusal};
 ghost use Rattle.selection.specs.Cell as Cell;
-ghost use Rattle.selection.specs.Table.{Passes, rowBytes};
-ghost use Rattle.recurrence.specs.Visits.{visitsRules, runVisits, visitsOf, visitsAnswer, visitsLeft, Visits};
-ghost use Rattle.recurrence.specs.VisitSteps.{Added, Room, Lent, RowAt, VisitsSpans, Placed, visitsByDivisors, visitsByPairs};
+ghost use Rattle.selection.specs.Table.{Passes};
+ghost use Rattle.selection.specs.computed.Table.{rowBytes};
+ghost use Rattle.recurrence.specs.computed.Visits.{visitsRules, runVisits, allVisits, visitsOf};
+ghost use Rattle.recurrence.specs.computed.VisitSteps.{Added, Room, Lent, RowAt, VisitsSpans, Placed, visitsByDivisors, visitsByPairs};
 ghost use Rattle.selection.specs.declared.Estimate.the-variants.{EightBits};
 use crate::MOST_DIGITS;
 use crate::state::RunState;
@@ -74,13 +79,13 @@ fn visit_pairs(table: &[u8], m: u64, unit: u64, n: usize, visits: &mut [u32])
     }
 }
 
-// No cell is met yet. A number that is 0 is left alone: the compiler makes a call of memset of a loop that stores all zeros, and firmware need not have that.
+// Zeroes the counts. The test keeps the compiler from calling memset, which firmware need not have.
 fn clear(visits: &mut [u32])
     requires { ⌜ 2048 ≤ length (now visits) ⌝ }
     ensures { λ r. ⌜ now (visits .exit) ≡ filled (λ (c : ℕ). 0) 2048 (now (visits .entry)) ⌝ }
 {
     let mut c: usize = 0;
-    while c < 2048 {
+    while c < TABLE_LENGTH {
         if visits[c] != 0 {
             visits[c] = 0;
         }
@@ -91,7 +96,7 @@ fn clear(visits: &mut [u32])
 // The visits of all runs through a table that passes.
 fn visit_all(table: &[u8], bits: u64, digits: usize, visits: &mut [u32])
     requires { ⌜ (Passes EightBits (now table)) × (VisitsSpans bits digits (length (now visits))) ⌝ }
-    ensures { λ r. ⌜ now (visits .exit) ≡ filled (visitsOf (now (table .entry)) bits digits) 2048 (now (visits .entry)) ⌝ }
+    ensures { λ r. ⌜ now (visits .exit) ≡ filled (allVisits (now (table .entry)) bits digits) 2048 (now (visits .entry)) ⌝ }
 {
     clear(visits);
     visit_pairs(table, 1 << (bits - 1), 1 << (61 - bits), digits, visits);
@@ -102,19 +107,19 @@ fn refusal_of(bits: u64, digits: usize, len: usize) -> Admission
     ensures { λ r. ⌜ r ≡ firstRefusal (visitsRules bits digits len) ⌝ }
 {
     if digits == 0 {
-        return refused(2);
+        return refused(REFUSED_DIGITS);
     }
     if MOST_DIGITS < digits {
-        return refused(2);
+        return refused(REFUSED_DIGITS);
     }
     if bits == 0 {
-        return refused(16);
+        return refused(REFUSED_BITS);
     }
     if MOST_BITS < bits {
-        return refused(16);
+        return refused(REFUSED_BITS);
     }
-    if len < 2048 {
-        return refused(7);
+    if len < TABLE_LENGTH {
+        return refused(REFUSED_ROOM);
     }
     Admission::Admitted
 }
@@ -122,7 +127,7 @@ fn refusal_of(bits: u64, digits: usize, len: usize) -> Admission
 // For all pairs of operands of so many significant bits, each leading one at bit 60, how many of their runs' digits are taken at each cell: in the first
 // 2,048 numbers of the list.
 pub fn count_visits(table: &[u8], bits: u64, digits: usize, visits: &mut [u32]) -> Refusal
-    ensures { λ r. ⌜ (r ≡ visitsAnswer (now (table .entry)) bits digits (now (visits .entry))) × (now (visits .exit) ≡ visitsLeft (now (table .entry)) bits digits (now (visits .entry))) × (Visits (now (table .entry)) bits digits (now (visits .entry)) (now (visits .exit)) r) ⌝ }
+    ensures { λ r. ⌜ record { answer = r; visits = now (visits .exit) } ≡ visitsOf (now (table .entry)) bits digits (now (visits .entry)) ⌝ }
 {
     let arguments = refusal_of(bits, digits, visits.len());
     let admission = selection::table::admit_after(arguments, table);

@@ -3,11 +3,11 @@ use Rattle.laws.proofs.Basics.{_≡_, refl, ap, _∙_, List, _++_, append-nil, 
 use native.Mathlib.Nat.{eq-or-lt-of-le}
 use lib.Seq.{getD-set-same, getD-set-other}
 use Rattle.laws.specs.Lists.{listFrom}
-use Rattle.selection.specs.Allowed.{allowsOf}
+use Rattle.selection.specs.computed.Allowed.{allowsOf}
 use Rattle.selection.specs.Answer.{refusal}
-use Rattle.selection.specs.Computed.{madeOf, madeTable, repairOf}
-use Rattle.selection.specs.RepairDemand.{readBack, lent}
-use Rattle.selection.specs.declared.repair.RepairAnswer.{RepairAnswer}
+use Rattle.selection.specs.computed.Outcomes.{madeOf, madeTable}
+use Rattle.selection.specs.computed.RepairDemand.{readBack, lent}
+use Rattle.selection.specs.computed.Repair.{RepairOutcome}
 use Rattle.selection.proofs.MadeTables.{kept-passes}
 use Rattle.selection.proofs.RepairDemand.{repair-demand}
 use Rattle.printing.specs.Text.{ascii, decimalUpto, decimalOf, refusalText}
@@ -68,14 +68,15 @@ no-table : refusalText (refusal 8 0) ≡ ascii "refusal place\n8 0\n"
 unfolding decimalUpto decimalOf
 no-table = refl
 
+-- § 19.4 A repair is printed whole.
 pub whole-example : WholeExample
 whole-example = record {
   writes = λ x y w.
-      let d = repair-demand EightBits .example in
+      let d = repair-demand EightBits .example .outcome in
       let v = w .repaired back-size lent lent refl refl in
-      let table : x ≡ made = v .0 ∙ d .repaired in (
+      let table : x ≡ made = v .0 ∙ ap (λ (z : RepairOutcome). z .repaired) d in (
         table,
-        v .1 ∙ ap (λ (u : List ℕ). changesText EightBits back u (repairOf EightBits back lent lent .count)) table ∙ ap (λ (a : RepairAnswer). changesText EightBits back made (a .count)) (d .answer)
+        v .1 ∙ ap (λ (z : RepairOutcome). changesText EightBits back x (z .answer .count)) d ∙ ap (λ (u : List ℕ). changesText EightBits back u 2) table
             ∙ ap (λ (z : List ℕ). ascii "row column byte new\n" ++ (z ++ (ascii "changes " ++ ((decimalOf 2 ++ ascii " for ") ++ (decimalOf 8 ++ ascii " bits\n"))))) cells-are ∙ text,
       );
   refused = λ x y w. let v = w .refused (λ e. omega arith) in (v .0, v .1 ∙ no-table);

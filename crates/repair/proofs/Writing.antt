@@ -1,19 +1,17 @@
 -- What is written is the call's repair and its text; of an input that is read in part, as of all of it.
 use Rattle.laws.proofs.Basics.{_≡_, refl, sym, ap, subst, _∙_, List, [], _++_, ⊎-elim, _≢_, ℕ, _+_, _<_, add-one, arith, length, getD, take, length-take, replicate, length-replicate}
 use lib.Seq.{take-all}
-use Rattle.laws.specs.Lists.{listFrom, filled}
+use Rattle.laws.specs.Lists.{listFrom}
 use Rattle.laws.proofs.Lists.{list-length, fill-all}
 use Rattle.laws.proofs.Division.{le-or-lt}
 use Rattle.laws.specs.Counting.{countBelow}
-use Rattle.selection.proofs.Refusing.{refusal, answerBy, firstRefusal}
+use Rattle.selection.proofs.RefusalNames.{refusal, firstRefusal}
 use Rattle.selection.specs.declared.Refusal.{Refusal}
-use Rattle.selection.specs.declared.Admission.{Admission}
 use Rattle.selection.specs.declared.Admission.the-variants.{Admitted}
-use Rattle.selection.specs.Allowed.{isReplaced}
+use Rattle.selection.specs.computed.Allowed.{isFaulty}
 use Rattle.selection.specs.Table.{Passes}
-use Rattle.selection.specs.Computed.{repairedByte, repairOf, repairedOf}
-use Rattle.selection.specs.Repair.{repairRules, repairZeros}
-use Rattle.selection.specs.declared.repair.RepairAnswer.{RepairAnswer}
+use Rattle.selection.specs.computed.Outcomes.{repairedByte, repairOf}
+use Rattle.selection.specs.computed.Repair.{repairRules, RepairOutcome}
 use Rattle.laws.proofs.Comparisons.{equal}
 use Rattle.selection.proofs.RepairAnswers.{repair-admits, length-refused, repair-told}
 use Rattle.selection.proofs.RepairDemand.{repair-demand}
@@ -37,43 +35,53 @@ module _ (E : Estimate) where
     admitted : firstRefusal (repairRules (length t) (length rs) (length cs)) ≡ Admitted
     admitted = repair-admits (length t) (length rs) (length cs) (record { repaired-room = omega arith; changed-room = omega arith; size = h })
 
-    table-is : repairedOf E t rs cs ≡ listFrom (repairedByte E t) 0 2048
-    table-is = ap (answerBy (λ f. rs) (filled (repairedByte E t) 2048 rs)) admitted ∙ fill-all (repairedByte E t) rs 2048 (omega arith)
+    table-is : repairOf E t rs cs .repaired ≡ listFrom (repairedByte E t) 0 2048
+    table-is = rw admitted (fill-all (repairedByte E t) rs 2048 (omega arith))
 
-    count-is : repairOf E t rs cs .count ≡ countBelow (isReplaced E t) 2048
-    count-is = ap (λ (v : Admission). answerBy repairZeros (record { refusal = refusal 0 0; count = countBelow (isReplaced E t) 2048 }) v .count) admitted
+    count-is : repairOf E t rs cs .answer .count ≡ countBelow (isFaulty E t) 2048
+    count-is = rw admitted refl
 
-  -- a is the answer of a call with buffers of 2,048 bytes
-  pub record Called (t rs cs : List ℕ) (a : RepairAnswer) : Type 0 where
+  -- x is the outcome of a call with buffers of 2,048 bytes
+  pub record Called (t rs cs : List ℕ) (x : RepairOutcome) : Type 0 where
     pub table-room : length rs ≡ 2048
     pub marks-room : length cs ≡ 2048
-    pub answer : a ≡ repairOf E t rs cs
+    pub outcome : x ≡ repairOf E t rs cs
 
   -- what the code of `repair` asks
-  module _ {t rs cs : List ℕ} {a : RepairAnswer} (k : Called t rs cs a) where
-    other-length : length t ≢ 2048 → a .refusal ≡ refusal 8 0
-    other-length m = ap (λ (x : RepairAnswer). x .refusal) (k .answer ∙ length-refused E t rs cs (omega arith) (omega arith) m)
+  module _ {t rs cs : List ℕ} {x : RepairOutcome} (k : Called t rs cs x) where
+    other-length : length t ≢ 2048 → x .answer .refusal ≡ refusal 8 0
+    other-length m = ap (λ (z : RepairOutcome). z .answer .refusal) (k .outcome ∙ length-refused E t rs cs (omega arith) (omega arith) m)
 
-    size-is : a .refusal .number ≡ 0 → length t ≡ 2048
+    size-is : x .answer .refusal .number ≡ 0 → length t ≡ 2048
     size-is n = equal (length t) 2048 (λ m. let z = ap (λ (f : Refusal). f .number) (other-length m) in omega arith)
 
-    -- a table that was repaired has 2,048 bytes, and so has its repair
-    pub sizes : {x : List ℕ} → a .refusal .number ≡ 0 → x ≡ repairedOf E t rs cs → (length t ≡ 2048) × (length x ≡ 2048)
-    sizes n e = let h = size-is n in (h, ap length (e ∙ table-is t rs cs h (k .table-room) (k .marks-room)) ∙ list-length (repairedByte E t) 0 2048)
+    written-is : length t ≡ 2048 → x .repaired ≡ listFrom (repairedByte E t) 0 2048
+    written-is h = ap (λ (z : RepairOutcome). z .repaired) (k .outcome) ∙ table-is t rs cs h (k .table-room) (k .marks-room)
 
-    pub writes-table : {x y : List ℕ} → a .refusal .number ≡ 0 → x ≡ repairedOf E t rs cs → y ≡ changesText E t x (a .count) → Writes E t x y
-    writes-table n ex ey = record {
-      repaired = λ h qs ds q d. (rw (ex, table-is t rs cs h (k .table-room) (k .marks-room), table-is t qs ds h q d), rw (ey, k .answer, count-is t rs cs h (k .table-room) (k .marks-room), count-is t qs ds h q d));
+    -- a table that was repaired has 2,048 bytes, and so has its repair
+    pub sizes : x .answer .refusal .number ≡ 0 → (length t ≡ 2048) × (length (x .repaired) ≡ 2048)
+    sizes n = let h = size-is n in (h, ap length (written-is h) ∙ list-length (repairedByte E t) 0 2048)
+
+    -- § 19.4 `repair` writes the changes and the repaired table.
+    pub writes-table : {y : List ℕ} → x .answer .refusal .number ≡ 0 → y ≡ changesText E t (x .repaired) (x .answer .count) → Writes E t (x .repaired) y
+    writes-table n ey = record {
+      repaired = λ h qs ds q d. (
+        written-is h ∙ sym (table-is t qs ds h q d),
+        ey
+            ∙ ap (changesText E t (x .repaired)) (ap (λ (z : RepairOutcome). z .answer .count) (k .outcome) ∙ count-is t rs cs h (k .table-room) (k .marks-room) ∙ sym (count-is t qs ds h q d)),
+      );
       refused = λ m. absurd (m (size-is n));
     }
 
-    pub writes-refusal : {y : List ℕ} → a .refusal .number ≢ 0 → y ≡ refusalText (a .refusal) → Writes E t [] y
+    -- § 19.4 `repair` writes the changes and the repaired table.
+    pub writes-refusal : {y : List ℕ} → x .answer .refusal .number ≢ 0 → y ≡ refusalText (x .answer .refusal) → Writes E t [] y
     writes-refusal n ey = record {
-      repaired = λ h qs ds q d. absurd (n (rw (k .answer) (ap (λ (f : Refusal). f .number) (repair-told E t rs cs h (omega arith) (omega arith)))));
+      repaired = λ h qs ds q d. absurd (n (ap (λ (z : RepairOutcome). z .answer .refusal .number) (k .outcome) ∙ ap (λ (f : Refusal). f .number) (repair-told E t rs cs h (omega arith) (omega arith))));
       refused = λ m. (refl, ey ∙ ap refusalText (other-length m));
     }
 
   -- more than 2,048 bytes of the input settle what is written for all of it
+  -- § 19.1 Input of another length is refusal 8.
   pub writes-read : {s x y : List ℕ} {n : ℕ} → 2048 < length s → Writes E (take n s) x y → WritesRead E s n x y
   writes-read {s} {x} {y} h w = record {
     writes = λ t e. ⊎-elim (λ l. subst (λ (z : List ℕ). Writes E z x y) (e ∙ take-all (length s) t l) w)
@@ -88,4 +96,4 @@ module _ (E : Estimate) where
       let l : length z ≡ 2048 = length-replicate {A = ℕ} 2048 0 in
       let told = repair-demand E .told t z z h (omega arith) (omega arith) in
       let e = w .repaired h z z l l .0 in
-      rw e (rw (take-all 2048 (repairedOf E t z z) (omega (arith, told .repaired .repaired-kept .size))) at (told .claim .passes))
+      rw e (rw (take-all 2048 (repairOf E t z z .repaired) (omega (arith, told .repaired .repaired-kept .size))) at (told .claim .passes))

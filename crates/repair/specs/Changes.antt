@@ -8,9 +8,9 @@ use Prim.Native.Nat.{ℕ, zero, suc, _/_, _%_}
 use lib.Dec.{eqb}
 use lib.ListN.{length, getD, take}
 use Rattle.selection.specs.Answer.{refusal}
-use Rattle.selection.specs.Bits.{bitsOf}
-use Rattle.selection.specs.Computed.{madeTable, repairOf, repairedOf}
-use Rattle.selection.specs.RepairDemand.{readBack}
+use Rattle.selection.specs.computed.Bits.{bitsOf}
+use Rattle.selection.specs.computed.Outcomes.{madeTable, repairOf}
+use Rattle.selection.specs.computed.RepairDemand.{readBack}
 use Rattle.printing.specs.Text.{ascii, decimalOf, refusalText}
 use Rattle.selection.specs.declared.Estimate.{Estimate}
 use Rattle.selection.specs.declared.Estimate.the-variants.{EightBits}
@@ -36,17 +36,20 @@ pub record LineExample : Type 0 where
 -- in a divider with the estimate E
 module _ (E : Estimate) where
   -- x is all of standard output and y all of standard error, for the bytes t of standard input
+  -- § 19.4 `repair` writes the changes and the repaired table.
   pub record Writes (t x y : List ℕ) : Type 0 where
     -- the table is what the call leaves in a buffer of 2,048 bytes, and the number of changes is its answer's
-    pub repaired : length t ≡ 2048 → (rs cs : List ℕ) → length rs ≡ 2048 → length cs ≡ 2048 → (x ≡ repairedOf E t rs cs) × (y ≡ changesText E t x (repairOf E t rs cs .count))
+    pub repaired : length t ≡ 2048 → (rs cs : List ℕ) → length rs ≡ 2048 → length cs ≡ 2048 → (x ≡ repairOf E t rs cs .repaired) × (y ≡ changesText E t x (repairOf E t rs cs .answer .count))
     pub refused : (length t ≡ 2048 → ⊥) → (x ≡ []) × (y ≡ refusalText (refusal 8 0))
 
   -- the same where a read of standard input has put n bytes at the start of the buffer s: for every input that gives these bytes, all of it or as much as the buffer holds. So the
   -- buffer has to hold one byte more than a table
+  -- § 19.1 Input of another length is refusal 8.
   pub record WritesRead (s : List ℕ) (n : ℕ) (x y : List ℕ) : Type 0 where
     pub writes : (t : List ℕ) → take n s ≡ take (length s) t → Writes t x y
 
 -- a whole text, and the table beside it: the made table read back with 9 for its byte 0 and 2 for its byte 215
+-- § 19.4 A repair is printed whole.
 pub record WholeExample : Type 0 where
   pub writes : (x y : List ℕ) → Writes EightBits (readBack EightBits) x y → (x ≡ madeTable EightBits) × (y ≡ ascii "row column byte new\n0 0 9 2\n1 87 2 4\nchanges 2 for 8 bits\n")
   pub refused : (x y : List ℕ) → Writes EightBits [] x y → (x ≡ []) × (y ≡ ascii "refusal place\n8 0\n")

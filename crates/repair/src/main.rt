@@ -17,6 +17,7 @@ use printing::text::append;
 use printing::text::append_number;
 use printing::text::append_refusal;
 use selection::Estimate;
+use selection::TABLE_LENGTH;
 use selection::bits::bits_of;
 use selection::repair::repair_table;
 
@@ -28,8 +29,6 @@ struct Written {
 
 // One byte more than a table has, so that a longer input is seen.
 const INPUT: usize = 2049;
-
-const TABLE: usize = 2048;
 
 // Room for the longest text: 20 bytes of names, 2,048 lines of four numbers, each of 20 digits and a byte behind it, and 59 bytes of the last line.
 const ROOM: usize = 172111;
@@ -56,7 +55,7 @@ fn append_cells(out: &mut [u8], at: usize, table: &[u8], repaired: &[u8]) -> usi
     ensures { λ r. ⌜ r ≤ at + 84 * 2048 ⌝ }
 {
     let mut next = at;
-    for k in 0..2048 {
+    for k in 0..TABLE_LENGTH {
         next = append_cell(out, next, k, table[k], repaired[k]);
     }
     next
@@ -85,13 +84,13 @@ fn append_changes(
 fn repair(
     estimate: Estimate,
     bytes: &[u8],
-    table: &mut [u8; TABLE],
+    table: &mut [u8; TABLE_LENGTH],
     text: &mut [u8; ROOM],
 ) -> Written
     ensures { λ r. ⌜ (Writes estimate) (now (bytes .entry)) (take (r .table) (now (table .exit))) (take (r .text) (now (text .exit))) ⌝ }
     ensures { λ r. ⌜ Counts (r .table) (now (table .exit)) × Counts (r .text) (now (text .exit)) ⌝ }
 {
-    let mut changed = [0u8; TABLE];
+    let mut changed = [0u8; TABLE_LENGTH];
     let answer = repair_table(estimate, bytes, table, &mut changed);
     if answer.refusal.number != 0 {
         return Written {
@@ -100,7 +99,7 @@ fn repair(
         };
     }
     Written {
-        table: 2048,
+        table: TABLE_LENGTH,
         text: append_changes(text, estimate, bytes, table, answer.count),
     }
 }
@@ -110,7 +109,7 @@ fn repair_input(
     estimate: Estimate,
     bytes: &[u8; INPUT],
     count: usize,
-    table: &mut [u8; TABLE],
+    table: &mut [u8; TABLE_LENGTH],
     text: &mut [u8; ROOM],
 ) -> Written
     requires { ⌜ Counts count (now bytes) ⌝ }
@@ -140,7 +139,7 @@ fn main() {
         write_output(STDERR_FILENO, b"repair: not all was read\n");
         return;
     }
-    let mut table = [0u8; TABLE];
+    let mut table = [0u8; TABLE_LENGTH];
     let mut text = [0u8; ROOM];
     let written = repair_input(estimate, &bytes, input.count, &mut table, &mut text);
     if write_output(STDERR_FILENO, &text[..written.text]) != written.text {

@@ -1,12 +1,13 @@
 -- The test of a cell says which digits are allowed, and which cells of a table are bad.
 use Rattle.laws.proofs.Basics.{_≡_, refl, ap, Bool, true, false, not, cond, List, _⊎_, inl, inr, ⊎-elim, ℕ, _+_, _*_, _/_, _%_, _≤_, _<_, ltb, ℤ, getD}
 use Rattle.laws.proofs.Tests.{Decides, decides-yes, decides-no}
-use Rattle.selection.specs.Cell.{Allows, Against, IsCell, CellChecked, digit}
+use Rattle.selection.specs.Cell.{Allows, Against, digit}
+use Rattle.selection.specs.computed.Cell.{IsCell, CellChecked}
 use Rattle.selection.specs.Table.{Table, BadAt}
-use Rattle.selection.specs.Multiples.{RowOf, multiplesOf, greatestByte, allowsBy, foundAt, cellVerdictOf}
-use Rattle.selection.specs.Multiples.Finding.{NoWitness}
-use Rattle.selection.specs.Allowed.{allowsOf, isBad, isBadIn}
-use Rattle.selection.specs.declared.multiples.RowMultiples.{RowMultiples}
+use Rattle.selection.specs.computed.CellTest.{RowOf, multiplesOf, greatestByte, allowsBy, foundAt, cellVerdictOf}
+use Rattle.selection.specs.computed.CellTest.Finding.{NoWitness}
+use Rattle.selection.specs.computed.Allowed.{allowsOf, isBad, isBadIn}
+use Rattle.selection.specs.declared.cell.RowMultiples.{RowMultiples}
 use Rattle.selection.proofs.BiasedPoints.{test-checked, not-allowed}
 use Rattle.selection.proofs.Tables.{cell-at, cell-row, cell-column}
 use Rattle.selection.specs.declared.Estimate.{Estimate}

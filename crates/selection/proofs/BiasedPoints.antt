@@ -7,18 +7,18 @@ use Rattle.laws.proofs.Diff.{diff, diffs, diff-sub, diff-eq}
 use Rattle.laws.proofs.Division.{le-or-lt}
 use Rattle.laws.proofs.Words.{same-mod}
 use Rattle.selection.specs.Word.{signed, Within}
-use Rattle.selection.specs.Cell.{Point, Keeps, Allows, Against, LeastWitness, IsCell, cellRules, CellChecked, CellMeaning, digit}
-use Rattle.selection.specs.Multiples.{Finding, multiplesOf, testOf, cellVerdictOf}
-use Rattle.selection.specs.Multiples.Finding.{NoWitness, LeastAt}
-use Rattle.selection.specs.Answer.{answerBy}
-use Rattle.selection.specs.Refusals.{Wrongs, rank, IsFirstRefusal}
-use Rattle.selection.specs.Computed.{cellOf}
-use Rattle.selection.specs.declared.CellVerdict.{CellVerdict}
+use Rattle.selection.specs.Cell.{Point, Keeps, Allows, Against, LeastWitness, digit}
+use Rattle.selection.specs.computed.Cell.{IsCell, cellRules, CellChecked, CellMeaning}
+use Rattle.selection.specs.computed.CellTest.{Finding, multiplesOf, testOf, cellVerdictOf}
+use Rattle.selection.specs.computed.CellTest.Finding.{NoWitness, LeastAt}
+use Rattle.selection.specs.computed.Answer.{answerBy}
+use Rattle.selection.specs.computed.Refusals.{Wrongs, rank, IsFirstRefusal}
+use Rattle.selection.specs.computed.Outcomes.{cellOf}
 use Rattle.selection.specs.declared.CellVerdict.the-variants.{Refused}
 use Rattle.selection.proofs.Rules.{WellFormed, by-first}
-use Rattle.selection.proofs.Clear.{none-clear, clear-none, clear-admits}
-use Rattle.selection.proofs.Breaking.{BiasedPoint, Low, High, Breaks, IsLeast}
-use Rattle.selection.proofs.Tested.{test-right}
+use Rattle.selection.proofs.RuleByRule.{none-clear, clear-none, clear-admits}
+use Rattle.selection.proofs.BreakingPoints.{BiasedPoint, Low, High, Breaks, IsLeast}
+use Rattle.selection.proofs.TestIsSearch.{test-right}
 use Rattle.selection.proofs.Search.{span-most}
 use Rattle.selection.specs.declared.Estimate.{Estimate}
 
@@ -122,13 +122,11 @@ module _ (E : Estimate) where
     test-checked = record { means = result-means (testOf (multiplesOf E r) c b) (test-right E known) }
 
   -- the computed verdict is the specification's
+  -- § 4.2 A single cell's digit is allowed, or the least witness is shown.
   pub cell-checked : (r c b : ℕ) → CellChecked E r c b (cellOf E r c b)
   cell-checked r c b = by-first (cell-rules r c b) (λ v. CellChecked E r c b (answerBy Refused (cellVerdictOf (testOf (multiplesOf E r) c b)) v))
       (λ m. let k = none-clear (cell-rules r c b) m in test-checked (record { row = k .0 .0; column = k .0 .1; byte = k .1 .0 }))
       (λ f m. record { means = m })
-
-  pub answers : (r c b : ℕ) {v : CellVerdict} → v ≡ cellOf E r c b → (v ≡ cellOf E r c b) × CellChecked E r c b v
-  answers r c b e = (e, rw e (cell-checked r c b))
 
   -- a cell and a byte that are taken: the test tells
   pub cell-known : {r c b : ℕ} → IsCell r c b → cellOf E r c b ≡ cellVerdictOf (testOf (multiplesOf E r) c b)

@@ -3,9 +3,9 @@ use Rattle.laws.proofs.Basics.{_≡_, refl, ap, Bool, true, false, _||_, List, 
 use Rattle.laws.proofs.Tests.{upto, upto-at, alike, alike-eq, Decides, decides-yes, decides-no}
 use Rattle.laws.proofs.Diff.{diff-eq}
 use Rattle.selection.specs.Cell.{OneOf, AllowedDigits, LeastWitness, digit}
-use Rattle.selection.specs.Maker.{Limits}
-use Rattle.selection.specs.Allowed.{allowsOf}
-use Rattle.selection.specs.Computed.{limitsOf}
+use Rattle.selection.specs.Maker.{AreLimits}
+use Rattle.selection.specs.computed.Allowed.{allowsOf}
+use Rattle.selection.specs.computed.Outcomes.{limitsOf}
 use Rattle.selection.proofs.BiasedPoints.{digit-diff, cell-checked}
 use Rattle.selection.proofs.Allowed.{allows-decides}
 use Rattle.selection.proofs.Making.{limits-right}
@@ -65,7 +65,7 @@ pub case-6 : AllowedDigits EightBits 1 87 (pos 2 ∷ []) × AllowedDigits EightB
 unfolding allowsOf digit
 case-6 = (cell EightBits 1 87 (4 ∷ []) tt tt tt, cell EightBits 1 88 (0 ∷ 1 ∷ 2 ∷ 3 ∷ 4 ∷ []) tt tt tt)
 
-pub case-7 : Limits EightBits 0 (40 ∷ 51 ∷ 59 ∷ 68 ∷ 76 ∷ 87 ∷ [])
+pub case-7 : AreLimits EightBits 0 (40 ∷ 51 ∷ 59 ∷ 68 ∷ 76 ∷ 87 ∷ [])
 unfolding limitsOf
 case-7 = limits-right EightBits 0 (lit≤ tt)
 
@@ -74,6 +74,6 @@ pub case-5-seven : AllowedDigits SevenBits 0 50 (negsuc 1 ∷ []) × AllowedDigi
 unfolding allowsOf digit
 case-5-seven = (cell SevenBits 0 50 (0 ∷ []) tt tt tt, cell SevenBits 0 51 (1 ∷ []) tt tt tt)
 
-pub case-7-seven : Limits SevenBits 0 (40 ∷ 51 ∷ 59 ∷ 68 ∷ 76 ∷ 87 ∷ []) × Limits SevenBits 1 (39 ∷ 50 ∷ 59 ∷ 68 ∷ 77 ∷ 88 ∷ []) × Limits SevenBits 15 (20 ∷ 39 ∷ 54 ∷ 73 ∷ 88 ∷ 107 ∷ [])
+pub case-7-seven : AreLimits SevenBits 0 (40 ∷ 51 ∷ 59 ∷ 68 ∷ 76 ∷ 87 ∷ []) × AreLimits SevenBits 1 (39 ∷ 50 ∷ 59 ∷ 68 ∷ 77 ∷ 88 ∷ []) × AreLimits SevenBits 15 (20 ∷ 39 ∷ 54 ∷ 73 ∷ 88 ∷ 107 ∷ [])
 unfolding limitsOf
 case-7-seven = (limits-right SevenBits 0 (lit≤ tt), limits-right SevenBits 1 (lit≤ tt), limits-right SevenBits 15 (lit≤ tt))

@@ -1,14 +1,14 @@
 -- The test of a cell, given its row's multiples, gives the verdict and witness of the single cell.
 use Rattle.laws.proofs.Basics.{_≡_, refl, sym, subst, ap, _∙_, _↔_, Bool, true, false, cond, not, _||_, ℕ, _+_, _^_, _≤_, _<_, arith, ltb, lt-ltb, le-ltb}
-use Rattle.selection.specs.Cell.{IsCell}
-use Rattle.selection.specs.Multiples.{RowOf, past, allowsBy, leastByte, greatestByte, hasPoint, lowDivisor, highDivisor, lowAt, highAt, foundAt, testOf, witnessOf, cellVerdictOf}
-use Rattle.selection.specs.Multiples.Finding.{NoWitness, LeastAt}
-use Rattle.selection.specs.Computed.{cellOf}
+use Rattle.selection.specs.computed.Cell.{IsCell}
+use Rattle.selection.specs.computed.CellTest.{RowOf, past, allowsBy, leastByte, greatestByte, hasPoint, lowDivisor, highDivisor, lowAt, highAt, foundAt, testOf, witnessOf, cellVerdictOf}
+use Rattle.selection.specs.computed.CellTest.Finding.{NoWitness, LeastAt}
+use Rattle.selection.specs.computed.Outcomes.{cellOf}
 use Rattle.selection.specs.declared.CellVerdict.the-variants.{Allowed, Disallowed}
-use Rattle.selection.specs.declared.multiples.RowMultiples.{RowMultiples}
+use Rattle.selection.specs.declared.cell.RowMultiples.{RowMultiples}
 use Rattle.selection.proofs.Rows.{point-columns}
-use Rattle.selection.proofs.Breaking.{Breaks, IsLeast}
-use Rattle.selection.proofs.Tested.{test-right}
+use Rattle.selection.proofs.BreakingPoints.{Breaks, IsLeast}
+use Rattle.selection.proofs.TestIsSearch.{test-right}
 use Rattle.selection.proofs.BiasedPoints.{cell-known}
 
 -- ---- what the code of `allows` asks: the sum of the two sides is 0, or it is not

@@ -10,6 +10,7 @@ use Rattle.selection.specs.declared.Estimate.{Estimate}
 use Rattle.selection.specs.declared.Estimate.the-variants.{SevenBits, EightBits}
 
 -- a divisor in its span lies in its row, which is one of sixteen
+-- § 2.2 The row of D is the four bits after its leading one.
 pub row-in : (D : ℕ) → 2 ^ 60 ≤ D → D < 2 ^ 61 → (row D ≤ 15) × InRow (row D) D
 row-in D least most = (omega arith, record { from = omega arith; below = omega arith })
 

@@ -4,7 +4,7 @@ use lib.Signed.{_<ℤ_}
 use native.Mathlib.Nat.{not-le-of-lt}
 use Rattle.laws.proofs.Comparisons.{not-below, not-most, equal}
 use Rattle.laws.proofs.Tests.{Decides, decides-yes, decides-no, less-decides}
-use Rattle.selection.specs.Refusals.{Condition, below, belowℤ, atMost, same, differ, eitherOf, Holds, holds}
+use Rattle.selection.specs.computed.Refusals.{Condition, below, belowℤ, atMost, same, differ, eitherOf, Holds, holds}
 
 decides-not : {P : Type 0} (x : Bool) → Decides P x → Decides (P → ⊥) (not x)
 decides-not true d = decides-no (λ n. n (d .yes refl))

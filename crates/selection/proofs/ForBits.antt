@@ -1,14 +1,15 @@
 -- The calls for a number of bits: 7 and 8 are the two estimates, and every other number is refused, before all else.
 use Rattle.laws.proofs.Basics.{_≡_, sym, ap, _∙_, List, _++_, _⊎_, inl, inr, ⊎-elim, refl, ℕ, _<_, T}
-use Rattle.selection.specs.Answer.{refusal, refusalOf, firstOf, answerBy}
-use Rattle.selection.specs.Refusals.{Rule, Wrongs, firstRefusal, rank, IsFirstRefusal, RefusedBy, Refuses}
-use Rattle.selection.specs.Bits.{bitsRules, estimateOf, forBits}
+use Rattle.selection.specs.Answer.{refusal}
+use Rattle.selection.specs.computed.Answer.{refusalOf, firstOf, answerBy}
+use Rattle.selection.specs.computed.Refusals.{Rule, Wrongs, firstRefusal, rank, IsFirstRefusal, RefusedBy, Refuses}
+use Rattle.selection.specs.computed.Bits.{bitsRules, estimateOf, forBits}
 use Rattle.selection.specs.declared.Refusal.{Refusal}
 use Rattle.selection.specs.declared.Admission.{Admission}
 use Rattle.selection.specs.declared.Admission.the-variants.{Admitted, Refused}
 use Rattle.selection.specs.declared.Estimate.{Estimate}
 use Rattle.selection.proofs.Rules.{WellFormed, ranked, rules-meet, rules-append, first-is, refused-by, refused-one}
-use Rattle.selection.proofs.Clear.{refused-at}
+use Rattle.selection.proofs.RuleByRule.{refused-at}
 
 module _ (bits : ℕ) where
   bits-rules : WellFormed (bitsRules bits)

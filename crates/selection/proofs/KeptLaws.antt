@@ -1,7 +1,7 @@
 -- The kept table holds the made digits: one test that antt computes over all cells, and one law that carries it to each entry.
 use Rattle.laws.proofs.Basics.{_≡_, Bool, List, ℕ, _/_, _%_, _<_, arith, T, eqb, eqb→eq, length, getD}
 use Rattle.selection.specs.Maker.{MadeTable}
-use Rattle.selection.specs.Computed.{madeAt}
+use Rattle.selection.specs.computed.Outcomes.{madeAt}
 use Rattle.selection.specs.Table.{Passes}
 use Rattle.selection.proofs.Tables.{table-of}
 use Rattle.laws.proofs.Tests.{every, every-at}
@@ -17,6 +17,7 @@ module _ (E : Estimate) where
   unfoldable pub right : ℕ → ℕ → Bool
   right k x = eqb x (madeAt E k)
 
+  -- § 5.4 The kept table is the one made for eight bits.
   pub made-table : {t : List ℕ} → length t ≡ 2048 → T (every right 0 t) → MadeTable E t
   unfolding right
   made-table {t} e a = made-of e (λ k h. eqb→eq (getD t k 0) (madeAt E k) (every-at right t a k (omega arith)))

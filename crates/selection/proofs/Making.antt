@@ -1,10 +1,11 @@
 -- The made digits and their limits, at all cells by one test that antt computes.
 use Rattle.laws.proofs.Basics.{_≡_, refl, Bool, true, cond, List, _||_, inl, inr, ⊎-elim, ℕ, _+_, _≤_, _<_, arith, T, ltb, leb, eqb, eqb→eq, ltb→lt, leb→le, getD}
 use mir.Facts.{or-yes}
-use Rattle.laws.proofs.Tests.{both, both-left, both-right, upto, upto-at, is-true, up-to-four}
-use Rattle.selection.specs.Maker.{Made, Limits, distance, stepAt}
-use Rattle.selection.specs.Allowed.{allowsOf}
-use Rattle.selection.specs.Computed.{madeOf, limitsOf}
+use Rattle.laws.proofs.Tests.{both, both-left, both-right, upto, upto-at, is-true}
+use Rattle.selection.proofs.DigitBytes.{up-to-four}
+use Rattle.selection.specs.Maker.{Made, AreLimits, distance, stepAt}
+use Rattle.selection.specs.computed.Allowed.{allowsOf}
+use Rattle.selection.specs.computed.Outcomes.{madeOf, limitsOf}
 use Rattle.selection.proofs.BiasedPoints.{not-allowed}
 use Rattle.selection.proofs.Allowed.{tells, allows-decides}
 use Rattle.selection.specs.declared.Estimate.{Estimate}
@@ -37,6 +38,7 @@ all-stepped EightBits = tt
 
 -- in a divider with the estimate E
 module _ (E : Estimate) where
+  -- § 5.1 The made digit is the allowed one nearest zero.
   pub made-right : (r c : ℕ) → r ≤ 15 → c ≤ 127 → Made E r c (madeOf E r c)
   unfolding nearest
   made-right r c hr hc =
@@ -57,7 +59,8 @@ module _ (E : Estimate) where
 
   -- ---- the limits of a row
 
-  pub limits-right : (r : ℕ) → r ≤ 15 → Limits E r (limitsOf E r)
+  -- § 5.3 A row's limits are the six columns where its made digits change.
+  pub limits-right : (r : ℕ) → r ≤ 15 → AreLimits E r (limitsOf E r)
   unfolding stepped limitsOf
   limits-right r hr =
       let least = span-least E in
@@ -69,5 +72,5 @@ module _ (E : Estimate) where
         steps = λ c h. rw (eqb→eq (stepAt (limitsOf E r) c) (madeOf E r c) (upto-at (stepped E r) 128 (upto-at (λ (k : ℕ). upto (stepped E k) 128) 16 (all-stepped E) r (omega arith)) c (omega arith))) (made-right r c hr h);
       }
 
-  pub limits-answer : (r : ℕ) {l : List ℕ} → r ≤ 15 → l ≡ limitsOf E r → (l ≡ limitsOf E r) × Limits E r l
+  pub limits-answer : (r : ℕ) {l : List ℕ} → r ≤ 15 → l ≡ limitsOf E r → (l ≡ limitsOf E r) × AreLimits E r l
   limits-answer r h e = (e, rw e (limits-right r h))

@@ -6,7 +6,7 @@ use Rattle.laws.proofs.Tests.{Decides}
 use Rattle.laws.proofs.Search.{first-below}
 use Rattle.selection.proofs.ConditionTests.{holds-decides, Fails, fails}
 use Rattle.selection.specs.Answer.{refusal}
-use Rattle.selection.specs.Refusals.{Holds, holds, Rule, numberAt, numberFirst, numberOf, Wrong, given}
+use Rattle.selection.specs.computed.Refusals.{Holds, holds, Rule, numberAt, numberFirst, numberOf, Wrong, given}
 use Rattle.laws.specs.Search.{First, firstFrom}
 use Rattle.selection.specs.declared.Admission.{Admission}
 use Rattle.selection.specs.declared.Admission.the-variants.{Admitted, Refused}

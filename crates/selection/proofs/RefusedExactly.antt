@@ -3,13 +3,15 @@ use Rattle.laws.proofs.Basics.{refl, sym, _↔_, List, ℕ, _+_, _*_, _/_, _%_,
 use Rattle.laws.proofs.Diff.{diffs, by-diff}
 use Rattle.laws.proofs.Counting.{tally-as, tally-nothing}
 use Rattle.selection.specs.Word.{Within}
-use Rattle.selection.specs.Answer.{cellNumbers, outcomeNumbers, reportNumbers}
-use Rattle.selection.specs.Cell.{Against, LeastWitness, IsCell, CellChecked, digit}
-use Rattle.selection.specs.Table.{Table, BadAt, Passes, Checked, ReportMeaning}
+use Rattle.selection.specs.computed.Answer.{cellNumbers, outcomeNumbers, reportNumbers}
+use Rattle.selection.specs.Cell.{Against, LeastWitness, digit}
+use Rattle.selection.specs.computed.Cell.{IsCell, CellChecked}
+use Rattle.selection.specs.Table.{Table, BadAt, Passes}
+use Rattle.selection.specs.computed.Table.{Checked, ReportMeaning}
 use Rattle.selection.specs.Demand.{Leaves, SomeLeaves, RefusedExactly, CellTold}
 use Rattle.selection.specs.declared.table.Outcome.{Outcome}
 use Rattle.selection.specs.declared.table.Outcome.the-variants.{Passed, Bad, Refused}
-use Rattle.selection.specs.declared.table.Report.{Report}
+use Rattle.selection.specs.declared.table.TableVerdict.{TableVerdict}
 use Rattle.selection.specs.declared.CellVerdict.{CellVerdict}
 use Rattle.selection.specs.declared.CellVerdict.the-variants as C
 use Rattle.selection.proofs.BiasedPoints.{not-allowed, known-not-refused}
@@ -40,7 +42,8 @@ module _ (E : Estimate) where
   kept : {t : List ℕ} → Passes E t → (k : ℕ) → k < 2048 → SomeLeaves E t k → ⊥
   kept p k h s = not-allowed E (of-bad .1 s .against) (p .allowed k h)
 
-  pub refused-exactly : {t : List ℕ} {a : Report} → Table t → Checked E t a → RefusedExactly E t (reportNumbers a)
+  -- § 21.3 A table is refused exactly when a point leaves the range.
+  pub refused-exactly : {t : List ℕ} {a : TableVerdict} → Table t → Checked E t a → RefusedExactly E t (reportNumbers a)
   refused-exactly {t} {a} h x = go (a .count) (a .outcome) (x .means)
     where
       go : (n : ℕ) (o : Outcome) → ReportMeaning E t n o → RefusedExactly E t (outcomeNumbers n o)
@@ -69,6 +72,7 @@ module _ (E : Estimate) where
           }
       go n (Refused f) w = no-table h (w .0)
 
+  -- § 4.2 The answer on one cell is told in numbers.
   pub cell-told : {r c b : ℕ} → IsCell r c b → (v : CellVerdict) → CellChecked E r c b v → CellTold E r c b (cellNumbers v)
   cell-told k C.Allowed x = record { done = refl; allowed = ((λ e. x .means .1), λ a. refl); besides = λ e. refl; disallowed = λ e. absurd (e refl) }
   cell-told k (C.Disallowed w) x = record {

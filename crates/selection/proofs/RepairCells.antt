@@ -6,10 +6,11 @@ use Rattle.laws.proofs.Counting.{count-tally, tally-most, tally-nothing, tally-
 use lib.Seq.{getD-take, ext-getD}
 use Rattle.selection.specs.Cell.{Allows, digit}
 use Rattle.selection.specs.Table.{Passes}
-use Rattle.selection.specs.Allowed.{aboveFour, isBad, isReplaced}
-use Rattle.selection.specs.Computed.{madeAt, repairedByte, changeMark}
-use Rattle.selection.specs.Repair.{ReplacedAt, DifferAt, RepairedAt, Repaired, RepairClaim}
-use Rattle.selection.specs.Refusals.{differ, holds}
+use Rattle.selection.specs.computed.Allowed.{aboveFour, isBad, isFaulty}
+use Rattle.selection.specs.computed.Outcomes.{madeAt, repairedByte, changeMark}
+use Rattle.selection.specs.Repair.{FaultyAt, DifferAt}
+use Rattle.selection.specs.computed.Repair.{RepairedAt, RepairedTable, RepairClaim}
+use Rattle.selection.specs.computed.Refusals.{differ, holds}
 use Rattle.selection.proofs.ConditionTests.{decides-or, holds-or-not, holds-decides}
 use Rattle.selection.proofs.BiasedPoints.{not-allowed, allows-unless}
 use Rattle.selection.proofs.Allowed.{cell-decides}
@@ -29,17 +30,17 @@ module _ (E : Estimate) where
 
   module _ (t : List ℕ) (k : ℕ) (h : k < 2048) where
     -- the test tells whether the byte is to be changed
-    pub replaced-decides : Decides (ReplacedAt E t k) (isReplaced E t k)
-    replaced-decides = decides-or (aboveFour t k) (isBad E t k) (less-decides 4 (getD t k 0)) (λ n. cell-decides E t k (record { row = omega arith; column = omega arith; byte = not-below n }))
+    pub faulty-decides : Decides (FaultyAt E t k) (isFaulty E t k)
+    faulty-decides = decides-or (aboveFour t k) (isBad E t k) (less-decides 4 (getD t k 0)) (λ n. cell-decides E t k (record { row = omega arith; column = omega arith; byte = not-below n }))
 
-    replaced : ReplacedAt E t k ⊎ (ReplacedAt E t k → ⊥)
-    replaced = holds-or-not (isReplaced E t k) replaced-decides
+    faulty : FaultyAt E t k ⊎ (FaultyAt E t k → ⊥)
+    faulty = holds-or-not (isFaulty E t k) faulty-decides
 
     -- it is not where it holds an allowed digit, and only there
-    pub not-replaced : {b : ℕ} → b ≤ 4 → Allows E (k / 128) (k % 128) (digit b) → getD t k 0 ≡ b → ReplacedAt E t k → ⊥
-    not-replaced l a e = ⊎-elim (λ m. omega arith) (λ x. not-allowed E (x .against) (rw e a))
+    pub not-faulty : {b : ℕ} → b ≤ 4 → Allows E (k / 128) (k % 128) (digit b) → getD t k 0 ≡ b → FaultyAt E t k → ⊥
+    not-faulty l a e = ⊎-elim (λ m. omega arith) (λ x. not-allowed E (x .against) (rw e a))
 
-    pub copied-byte : (ReplacedAt E t k → ⊥) → (getD t k 0 ≤ 4) × Allows E (k / 128) (k % 128) (digit (getD t k 0))
+    pub copied-byte : (FaultyAt E t k → ⊥) → (getD t k 0 ≤ 4) × Allows E (k / 128) (k % 128) (digit (getD t k 0))
     copied-byte n =
         let l : getD t k 0 ≤ 4 = not-below (λ m. n (inl m)) in
         (l, allows-unless E (record { row = omega arith; column = omega arith; byte = l }) (λ D P x. n (inr (record { divisor = D; remainder = P; against = x }))))
@@ -47,39 +48,39 @@ module _ (E : Estimate) where
     -- the computed repair is the one
     pub cell-repaired : RepairedAt E t k (repairedByte E t k) (changeMark E t k)
     unfolding repairedByte changeMark
-    cell-repaired = go (isReplaced E t k) replaced-decides
+    cell-repaired = go (isFaulty E t k) faulty-decides
       where
-        go : (x : Bool) → Decides (ReplacedAt E t k) x → RepairedAt E t k (cond x (madeAt E k) (getD t k 0)) (cond x 1 0)
+        go : (x : Bool) → Decides (FaultyAt E t k) x → RepairedAt E t k (cond x (madeAt E k) (getD t k 0)) (cond x 1 0)
         go true d =
             let m = made-right E (k / 128) (k % 128) (omega arith) (omega arith) in
-            record { made = λ w. m; copied = λ n. absurd (n (d .yes refl)); marked = λ n. refl; unmarked = λ e. absurd (not-replaced (m .byte) (m .allowed) e (d .yes refl)) }
+            record { made = λ w. m; copied = λ n. absurd (n (d .yes refl)); marked = λ n. refl; unmarked = λ e. absurd (not-faulty (m .byte) (m .allowed) e (d .yes refl)) }
         go false d = record { made = λ w. absurd (d .no refl w); copied = λ n. refl; marked = λ n. absurd (n refl); unmarked = λ e. refl }
 
     module _ {b m : ℕ} (r : RepairedAt E t k b m) where
       -- what stands there is an allowed digit
       pub allowed-byte : (b ≤ 4) × Allows E (k / 128) (k % 128) (digit b)
-      allowed-byte = ⊎-elim (λ w. let y = r .made w in (y .byte, y .allowed)) (λ n. rw (r .copied n) (copied-byte n)) replaced
+      allowed-byte = ⊎-elim (λ w. let y = r .made w in (y .byte, y .allowed)) (λ n. rw (r .copied n) (copied-byte n)) faulty
 
       -- only a byte that must be is changed
-      pub changed-replaced : (getD t k 0 ≡ b → ⊥) → ReplacedAt E t k
-      changed-replaced n = ⊎-elim (λ w. w) (λ c. absurd (n (sym (r .copied c)))) replaced
+      pub changed-faulty : (getD t k 0 ≡ b → ⊥) → FaultyAt E t k
+      changed-faulty n = ⊎-elim (λ w. w) (λ c. absurd (n (sym (r .copied c)))) faulty
 
-      pub replaced-changed : ReplacedAt E t k → getD t k 0 ≡ b → ⊥
-      replaced-changed w e = not-replaced (allowed-byte .0) (allowed-byte .1) e w
+      pub faulty-changed : FaultyAt E t k → getD t k 0 ≡ b → ⊥
+      faulty-changed w e = not-faulty (allowed-byte .0) (allowed-byte .1) e w
 
-      pub changed-decides : Decides (getD t k 0 ≡ b → ⊥) (isReplaced E t k)
-      changed-decides = record { yes = λ e. replaced-changed (replaced-decides .yes e); no = λ e n. replaced-decides .no e (changed-replaced n) }
+      pub changed-decides : Decides (getD t k 0 ≡ b → ⊥) (isFaulty E t k)
+      changed-decides = record { yes = λ e. faulty-changed (faulty-decides .yes e); no = λ e n. faulty-decides .no e (changed-faulty n) }
 
     -- and there is one repair of a cell
     pub repaired-one : {b c m n : ℕ} → RepairedAt E t k b m → RepairedAt E t k c n → (b ≡ c) × (m ≡ n)
     repaired-one x y = ⊎-elim
-        (λ w. (byte-one E (x .made w) (y .made w), x .marked (replaced-changed x w) ∙ sym (y .marked (replaced-changed y w))))
+        (λ w. (byte-one E (x .made w) (y .made w), x .marked (faulty-changed x w) ∙ sym (y .marked (faulty-changed y w))))
         (λ w. (x .copied w ∙ sym (y .copied w), x .unmarked (sym (x .copied w)) ∙ sym (y .unmarked (sym (y .copied w)))))
-        replaced
+        faulty
 
   -- ---- the table
 
-  module _ {t rs cs a b : List ℕ} {n : ℕ} (room : 2048 ≤ length rs) (size : length t ≡ 2048) (r : Repaired E t rs cs a b n) where
+  module _ {t rs cs a b : List ℕ} {n : ℕ} (room : 2048 ≤ length rs) (size : length t ≡ 2048) (r : RepairedTable E t rs cs a b n) where
     first-size : length (take 2048 a) ≡ 2048
     first-size = rw length-take (omega (arith, r .repaired-kept .size))
 
@@ -93,7 +94,7 @@ module _ (E : Estimate) where
     }
 
     pub repaired-least : (u : List ℕ) → Passes E u → (m : ℕ) → Tally (DifferAt t u) 2048 m → n ≤ m
-    repaired-least u p m y = tally-most (λ k h d e. not-replaced t k h (p .table .digits k) (p .allowed k h) e (changed-replaced t k h (r .cell k h) d)) (r .count) y
+    repaired-least u p m y = tally-most (λ k h d e. not-faulty t k h (p .table .digits k) (p .allowed k h) e (changed-faulty t k h (r .cell k h) d)) (r .count) y
 
     -- a table that passes is left as it is
     passes-unchanged : Passes E t → n ≡ 0

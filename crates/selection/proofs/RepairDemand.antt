@@ -4,20 +4,21 @@ use lib.ListN.{getD-replicate}
 use lib.Seq.{getD-set-same, getD-set-other, ext-getD}
 use Rattle.laws.specs.Lists.{filled}
 use Rattle.laws.proofs.Lists.{fill-at, fill-length}
-use Rattle.selection.proofs.Refusing.{firstRefusal}
+use Rattle.selection.proofs.RefusalNames.{firstRefusal}
 use Rattle.selection.specs.declared.Admission.the-variants.{Admitted}
 use Rattle.laws.specs.Counting.{countBelow}
 use Rattle.laws.proofs.Tests.{Decides}
 use Rattle.laws.specs.Sums.{sumBelow}
 use Rattle.laws.proofs.Sums.{sum-as}
 use Rattle.laws.proofs.Division.{same-or-other}
-use Rattle.selection.specs.Allowed.{allowsOf, isReplaced}
-use Rattle.selection.specs.Computed.{madeAt, madeTable, repairedByte, changeMark, repairOf}
-use Rattle.selection.specs.Repair.{ReplacedAt, repairRules}
-use Rattle.selection.specs.RepairDemand.{readBack, lent, RepairExample, RepairDemand}
+use Rattle.selection.specs.computed.Allowed.{allowsOf, isFaulty}
+use Rattle.selection.specs.computed.Outcomes.{madeAt, madeTable, repairedByte, changeMark, repairOf}
+use Rattle.selection.specs.Repair.{FaultyAt}
+use Rattle.selection.specs.computed.Repair.{repairRules}
+use Rattle.selection.specs.computed.RepairDemand.{readBack, lent, RepairExample, RepairDemand}
 use Rattle.selection.proofs.MadeTables.{made-table-is, made-at, kept-passes}
 use Rattle.selection.proofs.Reports.{report-passed}
-use Rattle.selection.proofs.RepairCells.{replaced-decides, not-replaced, differ-tally, repaired-claim}
+use Rattle.selection.proofs.RepairCells.{faulty-decides, not-faulty, differ-tally, repaired-claim}
 use Rattle.selection.proofs.RepairAnswers.{repairs-right, repairs-one, repair-admits, repair-told}
 use Rattle.selection.specs.declared.Estimate.{Estimate}
 use Rattle.selection.specs.declared.Estimate.the-variants.{SevenBits, EightBits}
@@ -43,31 +44,31 @@ module _ (E : Estimate) where
   made-size : length (madeTable E) ≡ 2048
   made-size = kept-passes E .table .size
 
-  made-kept : (k : ℕ) → k < 2048 → isReplaced E (madeTable E) k ≡ false
-  made-kept k h = (elim (isReplaced E (madeTable E) k) as (λ x. Decides (ReplacedAt E (madeTable E) k) x → x ≡ false) [
-    | true ↦ λ d. absurd (not-replaced E (madeTable E) k h (kept-passes E .table .digits k) (kept-passes E .allowed k h) refl (d .yes refl))
+  made-kept : (k : ℕ) → k < 2048 → isFaulty E (madeTable E) k ≡ false
+  made-kept k h = (elim (isFaulty E (madeTable E) k) as (λ x. Decides (FaultyAt E (madeTable E) k) x → x ≡ false) [
+    | true ↦ λ d. absurd (not-faulty E (madeTable E) k h (kept-passes E .table .digits k) (kept-passes E .allowed k h) refl (d .yes refl))
     | false ↦ λ d. refl
-  ]) (replaced-decides E (madeTable E) k h)
+  ]) (faulty-decides E (madeTable E) k h)
 
-  -- of a table in which byte j becomes x: the byte of a cell alone tells whether it is replaced
+  -- of a table in which byte j becomes x: the byte of a cell alone tells whether it is faulty
   module _ (t : List ℕ) (j x : ℕ) where
-    set-other : (k : ℕ) → k ≢ j → isReplaced E (set t j x) k ≡ isReplaced E t k
+    set-other : (k : ℕ) → k ≢ j → isFaulty E (set t j x) k ≡ isFaulty E t k
     set-other k n = rw (getD-set-other t j k x 0 n) refl
 
-    set-same : j < length t → isReplaced E (set t j x) j ≡ (ltb 4 x || not (allowsOf E (j / 128) (j % 128) x))
+    set-same : j < length t → isFaulty E (set t j x) j ≡ (ltb 4 x || not (allowsOf E (j / 128) (j % 128) x))
     set-same h = rw (getD-set-same t j x 0 h) refl
 
   abbrev above : List ℕ
   above = set (madeTable E) 0 9
 
-  at-0 : isReplaced E (readBack E) 0 ≡ true
+  at-0 : isFaulty E (readBack E) 0 ≡ true
   at-0 = set-other above 215 2 0 (λ e. omega arith) ∙ set-same (madeTable E) 0 9 (omega (arith, made-size))
 
-  at-215 : isReplaced E (readBack E) 215 ≡ true
+  at-215 : isFaulty E (readBack E) 215 ≡ true
   at-215 = set-same above 215 2 (simp length-set (omega (arith, made-size))) ∙ rw (zero-at-215 E) refl
 
   -- the two cells are replaced by what was made, and all others copied
-  cells : (k : ℕ) → k < 2048 → (isReplaced E (readBack E) k ≡ (eqb k 0 || eqb k 215)) × (repairedByte E (readBack E) k ≡ getD (madeTable E) k 0) × (changeMark E (readBack E) k ≡ getD marked k 0)
+  cells : (k : ℕ) → k < 2048 → (isFaulty E (readBack E) k ≡ (eqb k 0 || eqb k 215)) × (repairedByte E (readBack E) k ≡ getD (madeTable E) k 0) × (changeMark E (readBack E) k ≡ getD marked k 0)
   unfolding repairedByte changeMark
   cells k h = ⊎-elim
       (λ e. rw e (at-0, rw at-0 (made-byte 0 (omega arith)), rw at-0 refl))
@@ -85,15 +86,13 @@ module _ (E : Estimate) where
       made-byte : (k : ℕ) → k < 2048 → madeAt E k ≡ getD (madeTable E) k 0
       made-byte k h = sym (made-at E h (made-table-is E .made k h))
 
-  two : countBelow (isReplaced E (readBack E)) 2048 ≡ 2
+  two : countBelow (isFaulty E (readBack E)) 2048 ≡ 2
   unfolding countBelow sumBelow
-  two = sum-as (λ k. cond (isReplaced E (readBack E) k) 1 0) (λ k. cond (eqb k 0 || eqb k 215) 1 0) 2048 (λ k h. rw (cells k h .0))
+  two = sum-as (λ k. cond (isFaulty E (readBack E) k) 1 0) (λ k. cond (eqb k 0 || eqb k 215) 1 0) 2048 (λ k h. rw (cells k h .0))
 
   example : RepairExample E
   example = record {
-    answer = rw (admitted, two) refl;
-    repaired = rw admitted (filled-is (repairedByte E (readBack E)) lent (madeTable E) size made-size (λ k h. cells k h .1));
-    marks = rw admitted (filled-is (changeMark E (readBack E)) lent marked size (simp length-set size) (λ k h. cells k h .2));
+    outcome = rw (admitted, two, filled-is (repairedByte E (readBack E)) lent (madeTable E) size made-size (λ k h. cells k h .1), filled-is (changeMark E (readBack E)) lent marked size (simp length-set size) (λ k h. cells k h .2)) refl;
   }
     where
       size : length lent ≡ 2048
@@ -104,10 +103,11 @@ module _ (E : Estimate) where
 
   -- ---- the demand
 
+  -- § 14.2 The repaired table passes, and no passing table needs fewer changes.
   pub repair-demand : RepairDemand E
   repair-demand = record {
-    answer = repairs-right E;
-    one = λ t rs cs a b x r. repairs-one E x (repairOf E t rs cs) r (repairs-right E t rs cs);
+    outcome = repairs-right E;
+    one = λ t rs cs x r. repairs-one E x (repairOf E t rs cs) r (repairs-right E t rs cs);
     told = λ t rs cs size room marks-room.
         let r = repairs-right E t rs cs .repairs (record { repaired-room = room; changed-room = marks-room; size = size }) in
         let claim = repaired-claim E room size r in

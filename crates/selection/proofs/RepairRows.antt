@@ -4,12 +4,12 @@ use Rattle.laws.specs.Lists.{filled}
 use Rattle.laws.proofs.Lists.{list-length, fill-more, fill-length, fill-at}
 use Rattle.laws.specs.Counting.{countBelow}
 use Rattle.laws.proofs.Sums.{sum-more}
-use Rattle.selection.specs.Allowed.{isReplaced}
-use Rattle.selection.specs.Maker.{Limits, stepAt}
-use Rattle.selection.specs.Multiples.{RowOf, allowsBy}
-use Rattle.selection.specs.Computed.{madeAt, repairedByte, changeMark}
-use Rattle.selection.specs.RepairRows.{FillsRow}
-use Rattle.selection.specs.declared.multiples.RowMultiples.{RowMultiples}
+use Rattle.selection.specs.computed.Allowed.{isFaulty}
+use Rattle.selection.specs.Maker.{AreLimits, stepAt}
+use Rattle.selection.specs.computed.CellTest.{RowOf, allowsBy}
+use Rattle.selection.specs.computed.Outcomes.{madeAt, repairedByte, changeMark}
+use Rattle.selection.specs.computed.RepairRows.{FillsRow}
+use Rattle.selection.specs.declared.cell.RowMultiples.{RowMultiples}
 use Rattle.selection.proofs.Allowed.{bad-in-row}
 use Rattle.selection.proofs.Tables.{cell-row, cell-column}
 use Rattle.selection.proofs.MadeTables.{made-at}
@@ -61,16 +61,16 @@ module _ (f : ℕ → ℕ) (o : List ℕ) (r : ℕ) {b : List ℕ} where
 
 -- in a divider with the estimate E
 module _ (E : Estimate) where
-  pub byte-is : (t : List ℕ) {r : ℕ} {l : List ℕ} (c : ℕ) {n b : ℕ} → r ≤ 15 → c ≤ 127 → Limits E r l → n ≡ changeMark E t (128 * r + c) → b ≡ cond (eqb n 0) (getD t (128 * r + c) 0) (stepAt l c) → b ≡ repairedByte E t (128 * r + c)
+  pub byte-is : (t : List ℕ) {r : ℕ} {l : List ℕ} (c : ℕ) {n b : ℕ} → r ≤ 15 → c ≤ 127 → AreLimits E r l → n ≡ changeMark E t (128 * r + c) → b ≡ cond (eqb n 0) (getD t (128 * r + c) 0) (stepAt l c) → b ≡ repairedByte E t (128 * r + c)
   unfolding changeMark repairedByte
-  byte-is t {r} {l} c {n} {b} hr hc g e f = go (isReplaced E t (128 * r + c)) (f ∙ rw e refl)
+  byte-is t {r} {l} c {n} {b} hr hc g e f = go (isFaulty E t (128 * r + c)) (f ∙ rw e refl)
     where
       go : (x : Bool) → b ≡ cond (eqb (cond {A = ℕ} x 1 0) 0) (getD t (128 * r + c) 0) (stepAt l c) → b ≡ cond x (madeAt E (128 * r + c)) (getD t (128 * r + c) 0)
       go true k = k ∙ made-at E (omega arith) (rw (cell-row r c hc, cell-column r c hc) (g .steps c hc))
       go false k = k
 
   -- the marks that are 1
-  pub count-mark : (t : List ℕ) (r i : ℕ) {count n : ℕ} → count ≡ countBelow (λ c. isReplaced E t (128 * r + c)) i → n ≡ changeMark E t (128 * r + i) → count + n ≡ countBelow (λ c. isReplaced E t (128 * r + c)) (i + 1)
+  pub count-mark : (t : List ℕ) (r i : ℕ) {count n : ℕ} → count ≡ countBelow (λ c. isFaulty E t (128 * r + c)) i → n ≡ changeMark E t (128 * r + i) → count + n ≡ countBelow (λ c. isFaulty E t (128 * r + c)) (i + 1)
   unfolding changeMark countBelow
   count-mark t r i e g = rw (e, g) (sym (sum-more _ i))
 

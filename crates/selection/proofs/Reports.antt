@@ -5,19 +5,22 @@ use Rattle.laws.proofs.Tests.{by-cond, Decides, less-decides}
 use Rattle.laws.specs.Search.{First, firstFrom}
 use Rattle.laws.specs.Counting.{countBelow}
 use Rattle.laws.proofs.Counting.{count-tally}
-use Rattle.selection.specs.Refusals.{numberFirst, firstRefusal, rank}
-use Rattle.selection.specs.Cell.{Allows, CellChecked, digit}
-use Rattle.selection.specs.Table.{Table, BadAt, Passes, formRules, Checked, ReportMeaning, tableRules}
-use Rattle.selection.specs.Allowed.{aboveFour, isBad}
-use Rattle.selection.specs.Computed.{cellOf, badReport, reportAt, passedReport, refusedReport, tableReport, reportOf}
-use Rattle.selection.specs.Answer.{refusal, reportNumbers, reportZeros, admission, admissionOf, firstOf, answerBy}
+use Rattle.selection.specs.computed.Refusals.{numberFirst, firstRefusal, rank}
+use Rattle.selection.specs.Cell.{Allows, digit}
+use Rattle.selection.specs.computed.Cell.{CellChecked}
+use Rattle.selection.specs.Table.{Table, BadAt, Passes}
+use Rattle.selection.specs.computed.Table.{formRules, Checked, ReportMeaning, tableRules}
+use Rattle.selection.specs.computed.Allowed.{aboveFour, isBad}
+use Rattle.selection.specs.computed.Outcomes.{cellOf, badReport, reportAt, passedReport, refusedReport, tableReport, reportOf}
+use Rattle.selection.specs.Answer.{refusal, reportZeros}
+use Rattle.selection.specs.computed.Answer.{reportNumbers, admission, admissionOf, firstOf, answerBy}
 use Rattle.selection.specs.declared.Admission.{Admission}
 use Rattle.selection.specs.declared.Admission.the-variants as A
 use Rattle.selection.specs.declared.CellVerdict.{CellVerdict}
 use Rattle.selection.specs.declared.CellVerdict.the-variants.{Allowed, Disallowed, Refused}
 use Rattle.selection.specs.declared.table.Outcome.{Outcome}
 use Rattle.selection.specs.declared.table.Outcome.the-variants as O
-use Rattle.selection.specs.declared.table.Report.{Report}
+use Rattle.selection.specs.declared.table.TableVerdict.{TableVerdict}
 use Rattle.selection.specs.declared.table.BadCell.{BadCell}
 use Rattle.selection.proofs.BiasedPoints.{not-allowed, known-not-refused, allows-unless, cell-checked}
 use Rattle.selection.proofs.Allowed.{bad-decides}
@@ -25,7 +28,7 @@ use Rattle.selection.proofs.Tables.{table-of, cell-at, cell-row, cell-c
 use Rattle.selection.proofs.OneRule.{found, not-found, past}
 use Rattle.laws.proofs.Comparisons.{equal}
 use Rattle.selection.proofs.Rules.{WellFormed, by-first, first-is, rules-append}
-use Rattle.selection.proofs.Clear.{none-clear, cleared, clear-admits, refused-at}
+use Rattle.selection.proofs.RuleByRule.{none-clear, cleared, clear-admits, refused-at}
 use Rattle.selection.proofs.UniqueReport.{checked-one}
 pub use Rattle.selection.proofs.UniqueReport.{form-rules}
 use Rattle.selection.specs.declared.Estimate.{Estimate}
@@ -64,6 +67,7 @@ module _ (E : Estimate) where
     report-none e = rw e refl
 
   -- the computed report is the check's answer
+  -- § 4.1 The check counts the bad cells and says passed, or shows the first with its witness.
   pub report-checked : (t : List ℕ) → Checked E t (reportOf E t)
   unfolding reportOf
   report-checked t = by-first (form-rules t) (λ v. Checked E t (answerBy refusedReport (tableReport E t) v))
@@ -77,10 +81,6 @@ module _ (E : Estimate) where
   pub report-table : {t : List ℕ} → Table t → tableReport E t ≡ reportOf E t
   unfolding reportOf
   report-table {t} a = sym (ap (answerBy refusedReport (tableReport E t)) (clear-admits (form-rules t) (a .size, ((λ k h x. not-le-of-lt x (a .digits k)), tt))))
-
-  -- what the code of `check_table` asks
-  pub report-is : {t : List ℕ} {a : Report} → a ≡ reportOf E t → (a ≡ reportOf E t) × Checked E t a
-  report-is {t} e = (e, subst (Checked E t) (sym e) (report-checked t))
 
   -- a table that passes is answered so
   passes-report : {t : List ℕ} → Passes E t → reportOf E t ≡ passedReport
@@ -107,9 +107,11 @@ module _ (E : Estimate) where
       go (O.Refused f) w = sym (rules-append (formRules t) (numberFirst 10 (BadAt E t) (isBad E t) 2048 ∷ []) ∙ ap (λ (v : Admission). firstOf v (firstRefusal (numberFirst 10 (BadAt E t) (isBad E t) 2048 ∷ []))) (first-is (form-rules t) _ _ (w .0)))
 
   -- a table passes exactly if it is admitted
+  -- § 4.4 Calls that divide take a table exactly if it passes.
   pub passes-admitted : {t : List ℕ} → Passes E t → admission (reportOf E t) ≡ A.Admitted
   passes-admitted p = ap admission (passes-report p)
 
+  -- § 4.4 Calls that divide take a table exactly if it passes.
   pub admitted-passes : {t : List ℕ} → admission (reportOf E t) ≡ A.Admitted → Passes E t
   unfolding tableRules
   admitted-passes {t} e = let c = cleared (table-rules t) (sym (admission-rules t) ∙ e) in passes-of t (table-of t (c .0) (c .1 .0)) (c .1 .1 .0)
@@ -119,8 +121,12 @@ module _ (E : Estimate) where
   passes-at p r c hr hc = rw (cell-row r c hc, cell-column r c hc) at (p .allowed (128 * r + c) (omega arith))
 
   -- what the code of `admit_table` asks
-  pub admission-as : (t : List ℕ) {a : Report} {o : Outcome} → a ≡ reportOf E t → a .outcome ≡ o → admissionOf o ≡ admission (reportOf E t)
+  pub admission-as : (t : List ℕ) {a : TableVerdict} {o : Outcome} → a ≡ reportOf E t → a .outcome ≡ o → admissionOf o ≡ admission (reportOf E t)
   admission-as t e f = ap admissionOf (sym f) ∙ ap admission e
 
-  pub bad-cell : {t : List ℕ} {a : Report} {b : BadCell} → Checked E t a → a .outcome ≡ O.Bad b → (b .row ≤ 15) × (b .column ≤ 127)
-  bad-cell {t} {a} c e = let m = subst (ReportMeaning E t (a .count)) e (c .means) in (m .2 .row, m .2 .column)
+  -- what the report says, by its case
+  pub report-means : (t : List ℕ) {a : TableVerdict} {o : Outcome} → a ≡ reportOf E t → a .outcome ≡ o → ReportMeaning E t (a .count) o
+  report-means t {a} e f = subst (ReportMeaning E t (a .count)) f (subst (Checked E t) (sym e) (report-checked t) .means)
+
+  pub bad-cell : (t : List ℕ) {a : TableVerdict} {b : BadCell} → a ≡ reportOf E t → a .outcome ≡ O.Bad b → (b .row ≤ 15) × (b .column ≤ 127)
+  bad-cell t e f = let m = report-means t e f in (m .2 .row, m .2 .column)

@@ -1,11 +1,12 @@
 -- A row's multiples are columns.
 use Rattle.laws.proofs.Basics.{_≡_, refl, sym, subst, Bool, true, false, cond, ℕ, _+_, _*_, _-_, _^_, _≤_, arith, needs, T, ltb, eqb, ltb-true, ltb-false}
-use Rattle.selection.specs.Multiples.{Bounds, RowOf, multiplesOf, hasPoint}
-use Rattle.selection.specs.declared.multiples.RowMultiples.{RowMultiples}
+use Rattle.selection.specs.computed.CellTest.{Bounds, RowOf, multiplesOf, hasPoint}
+use Rattle.selection.specs.declared.cell.RowMultiples.{RowMultiples}
 use Rattle.selection.specs.declared.Estimate.{Estimate}
 use Rattle.selection.specs.declared.Estimate.the-variants.{SevenBits, EightBits}
 
 -- each column is the last on the lower side of its multiple
+-- § 4.3 A row's multiples are those of its least and greatest divisor.
 pub bounds : (E : Estimate) (r : ℕ) → r ≤ 15 → Bounds (multiplesOf E r) ((16 + r) * 2 ^ 56) ((17 + r) * 2 ^ 56 - 1)
 bounds SevenBits r h = search needs
 bounds EightBits r h = search needs

@@ -2,8 +2,9 @@
 use Rattle.laws.proofs.Basics.{_≡_, refl, sym, ap, subst, _∙_, Bool, true, List, [], _∷_, _++_, _⊎_, inl, inr, ⊎-elim, ℕ, zero, suc, _+_, _<_, arith, T, ltb, ltb→lt}
 use Rattle.laws.proofs.Tests.{both, both-left, both-right, upto, upto-at}
 use Rattle.selection.proofs.OneRule.{Tells, past-not, decided, refuses-at, past, past-admits}
-use Rattle.selection.specs.Answer.{refusal, refusalOf, firstOf, answerBy}
-use Rattle.selection.specs.Refusals.{Rule, numberOf, Wrong, given, Wrongs, firstRefusal, rank, IsFirstRefusal, RefusedBy, Refuses, RefusesLent}
+use Rattle.selection.specs.Answer.{refusal}
+use Rattle.selection.specs.computed.Answer.{refusalOf, firstOf, answerBy}
+use Rattle.selection.specs.computed.Refusals.{Rule, numberOf, Wrong, given, Wrongs, firstRefusal, rank, IsFirstRefusal, RefusedBy, Refuses}
 use Rattle.selection.specs.declared.Refusal.{Refusal}
 use Rattle.selection.specs.declared.Admission.{Admission}
 use Rattle.selection.specs.declared.Admission.the-variants.{Admitted, Refused}
@@ -58,6 +59,7 @@ is-first k (r ∷ rs) o s n p x = ⊎-elim
     (x .holds)
 
 -- the order of the refusals 1 to 10 is that of their numbers
+-- § 18.2 There is one order of refusals.
 pub by-number : (m n : ℕ) → m < n → n < 10 → rank (m + 1) < rank (n + 1)
 unfolding rank
 by-number m n h l =
@@ -96,6 +98,7 @@ module _ {rs : List Rule} (c : WellFormed rs) where
   positive zero p x = absurd (omega (arith, after 0 rs (c .in-order) zero p (x .holds)))
   positive (suc n) p x = omega arith
 
+  -- § 18.4 A refusal is given exactly where its condition holds and none before it.
   pub refused-by : RefusedBy (Wrongs rs) (refusalOf (firstRefusal rs))
   refused-by = by-first (λ v. RefusedBy (Wrongs rs) (refusalOf v))
       (λ m. record { exactly = λ n p l. ((λ e. absurd (omega (arith, ap (λ (f : Refusal). f .number) e))), λ x. absurd (m n p (x .holds))); none = ((λ e. m), λ a. refl) })
@@ -121,11 +124,6 @@ module _ {rs : List Rule} (c : WellFormed rs) where
   refuses refused zeros done e z g =
       let same = elim (firstRefusal rs) as (λ v. refused (answerBy zeros done v) ≡ refusalOf v) [ Admitted ↦ e | Refused f ↦ z f ] in
       rw g (record { by = rw same refused-by; besides = λ n p x. rw (first-is n p x) refl })
-
-  -- and one that writes s into a lent list b
-  pub refuses-lent : {X : Type 0} (refused : X → Refusal) (zeros : Refusal → X) (done : X) (b s : List ℕ) → refused done ≡ refusal 0 0 → ((f : Refusal) → refused (zeros f) ≡ f)
-      → {v : Admission} → v ≡ firstRefusal rs → RefusesLent (Wrongs rs) refused zeros (answerBy zeros done v) b (answerBy (λ f. b) s v)
-  refuses-lent refused zeros done b s e z g = record { answer = refuses refused zeros done e z g; kept = λ n p x. ap (answerBy (λ f. b) s) (g ∙ first-is n p x) }
 
 -- ---- one list after another
 pub rules-append : (rs ss : List Rule) → firstRefusal (rs ++ ss) ≡ firstOf (firstRefusal rs) (firstRefusal ss)

@@ -3,8 +3,10 @@ use Rattle.laws.proofs.Basics.{_≡_, subst, List, ⊎-elim, ℕ, _+_, _*_, _/_
 use Rattle.laws.specs.Search.{First}
 use Rattle.laws.proofs.Comparisons.{not-below}
 use Rattle.laws.proofs.Division.{le-or-lt}
-use Rattle.selection.specs.Cell.{LeastWitness, IsCell, digit}
-use Rattle.selection.specs.Table.{Table, BadAt, FirstBad, NoTable}
+use Rattle.selection.specs.Cell.{LeastWitness, digit}
+use Rattle.selection.specs.computed.Cell.{IsCell}
+use Rattle.selection.specs.Table.{Table, BadAt}
+use Rattle.selection.specs.computed.Table.{FirstBad, NoTable}
 use Rattle.selection.specs.declared.Estimate.{Estimate}
 
 -- 2,048 bytes of which none is above 4 are a table

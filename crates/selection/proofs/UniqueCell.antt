@@ -2,7 +2,8 @@
 use Rattle.laws.proofs.Basics.{_≡_, refl, sym, ap, _∙_, ℕ, _^_, _≤_, arith, ℤ, _≤ℤ_}
 use native.Mathlib.Nat.{le-antisymm}
 use Rattle.laws.proofs.Diff.{diff, diffs, diff-eq}
-use Rattle.selection.specs.Cell.{LeastWitness, CellChecked}
+use Rattle.selection.specs.Cell.{LeastWitness}
+use Rattle.selection.specs.computed.Cell.{CellChecked}
 use Rattle.selection.specs.declared.Witness.{Witness}
 use Rattle.selection.specs.declared.CellVerdict.{CellVerdict}
 use Rattle.selection.specs.declared.CellVerdict.the-variants as C
@@ -22,6 +23,7 @@ module _ (E : Estimate) where
         let m : (diff (y .W) (2 ^ 63)) ≤ℤ (diff (x .W) (2 ^ 63)) = rw (← x .is, ← y .is) (b .remainder-least (v .remainder) (rw (← e) (a .against))) in
         λ i. record { divisor = e i; remainder = (x .is ∙ diff-eq _ _ _ _ .1 (omega (arith, simp diffs at l, simp diffs at m)) ∙ sym (y .is)) i }
 
+  -- § 4.2 No other answer on one cell fits.
   pub cell-checked-one : {r c b : ℕ} (v w : CellVerdict) → CellChecked E r c b v → CellChecked E r c b w → v ≡ w
   cell-checked-one C.Allowed C.Allowed j k = refl
   cell-checked-one C.Allowed (C.Disallowed w) j k = absurd (not-allowed E (k .means .1 .against) (j .means .1))

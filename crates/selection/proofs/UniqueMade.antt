@@ -1,14 +1,14 @@
--- The made byte of a cell, the made table, the limits of a row and what the maker leaves are each one.
+-- The made byte of a cell, the made table, the limits of a row and the maker's outcome are each one.
 use Rattle.laws.proofs.Basics.{_≡_, refl, sym, ap, _∙_, not, cond, List, [], _∷_, _++_, ⊎-elim, ℕ, zero, suc, _≤_, _<_, add-one, arith, T-not, eqb, eqb-refl, ltb, length, getD, drop, lt-ltb, le-ltb}
 use native.Mathlib.Nat.{le-antisymm, le-of-suc-le-suc, eq-or-lt-of-le}
 use lib.Seq.{ext-getD}
 use Rattle.laws.proofs.Comparisons.{not-below}
 use Rattle.laws.proofs.Tests.{upto-at}
-use Rattle.selection.specs.Maker.{Made, MadeTable, Limits, limitsRules, makeRules, Limited, Makes}
-use Rattle.selection.specs.Refusals.{rank}
-use Rattle.selection.proofs.Rules.{WellFormed, clear, either-way, refused-one, refuses-one}
-use Rattle.selection.specs.declared.Refusal.{Refusal}
-use Rattle.selection.specs.declared.maker.RowLimits.{RowLimits}
+use Rattle.selection.specs.Maker.{Made, MadeTable, AreLimits}
+use Rattle.selection.specs.computed.Maker.{limitsRules, makeRules, Limited, MakeOutcome, Makes}
+use Rattle.selection.specs.computed.Refusals.{rank}
+use Rattle.selection.proofs.Rules.{WellFormed, clear, refuses-one}
+use Rattle.selection.specs.declared.maker.Limits.{Limits}
 use Rattle.selection.specs.declared.Estimate.{Estimate}
 
 -- ---- the limits of a row
@@ -48,10 +48,11 @@ module _ (E : Estimate) where
   byte-one {a = a} {b = b} m n =
       ⊎-elim (λ e. e) (λ l. ⊎-elim (λ e. sym e) (λ k. absurd (omega arith)) (m .nearest b (n .byte) (n .allowed))) (n .nearest a (m .byte) (m .allowed))
 
+  -- § 5.2 No other answer, and no other made table, fits.
   pub made-one : {s t : List ℕ} → MadeTable E s → MadeTable E t → s ≡ t
   made-one {s} {t} a b = ext-getD 0 s t (a .size ∙ sym (b .size)) (λ k l. let j : k < 2048 = omega (arith, a .size) in byte-one (a .made k j) (b .made k j))
 
-  module _ {r : ℕ} {l : List ℕ} (h : Limits E r l) where
+  module _ {r : ℕ} {l : List ℕ} (h : AreLimits E r l) where
     limit-next : (i : ℕ) → i < 5 → getD l i 0 < getD l (suc i) 0
     limit-next i g = rw add-one at (h .rises i g)
 
@@ -61,7 +62,7 @@ module _ (E : Estimate) where
         ⊎-elim (λ e. rw e (omega arith)) (λ m. omega (arith, limit-least i (omega arith) j (omega arith), limit-next i (omega arith))) (eq-or-lt-of-le k)
 
     -- no limit comes before the other's, where the limits before them are the same
-    not-before : {m : List ℕ} → Limits E r m → (i : ℕ) → i < 6 → ((j : ℕ) → j < i → getD l j 0 ≡ getD m j 0) → getD l i 0 < getD m i 0 → ⊥
+    not-before : {m : List ℕ} → AreLimits E r m → (i : ℕ) → i < 6 → ((j : ℕ) → j < i → getD l j 0 ≡ getD m j 0) → getD l i 0 < getD m i 0 → ⊥
     not-before {m} k i g e b =
         let c = getD l i 0 in
         let small : c ≤ 127 = omega (arith, limit-least 5 (omega arith) i (omega arith), h .within) in
@@ -70,7 +71,7 @@ module _ (E : Estimate) where
         ∙ byte-one (k .steps c small) (h .steps c small)
         ∙ step-is (λ j. getD l j 0) bytes c (suc i) (λ j s. limit-least i g j (omega arith)) (λ s. limit-next i (omega arith)))
 
-  pub limits-one : {r : ℕ} {l m : List ℕ} → Limits E r l → Limits E r m → l ≡ m
+  pub limits-one : {r : ℕ} {l m : List ℕ} → AreLimits E r l → AreLimits E r m → l ≡ m
   limits-one {r} {l} {m} h k = ext-getD 0 l m (h .six ∙ sym (k .six)) (λ i g. before 6 (omega arith) i (omega (arith, h .six)))
     where
       before : (n : ℕ) → n ≤ 6 → (j : ℕ) → j < n → getD l j 0 ≡ getD m j 0
@@ -82,16 +83,18 @@ module _ (E : Estimate) where
           (e j)
           (eq-or-lt-of-le (le-of-suc-le-suc s))
 
-  pub limited-one : {r : ℕ} (a b : RowLimits) → Limited E r a → Limited E r b → a ≡ b
+  -- § 5.3 A row's limits are the six columns where its made digits change.
+  pub limited-one : {r : ℕ} (a b : Limits) → Limited E r a → Limited E r b → a ≡ b
   limited-one {r} a b x y =
       let l = limits-rules r in
       refuses-one l (x .refuses) (y .refuses) (λ e f i. record { refusal = f i; limits = limits-one (x .limits (clear l e)) (y .limits (clear l e)) i })
 
-  pub makes-one : {s t u : List ℕ} (f g : Refusal) → Makes E s t f → Makes E s u g → (t ≡ u) × (f ≡ g)
-  makes-one {s} f g x y =
-      let l = make-rules (length s) in (
-        either-way l
-            (λ e. let k = x .makes (clear l e) in let m = y .makes (clear l e) in k .2 ∙ ap (λ (m : List ℕ). m ++ drop 2048 s) (made-one (k .1) (m .1)) ∙ sym (m .2))
-            (λ n p m. x .keeps n p m ∙ sym (y .keeps n p m)),
-        refused-one l (x .refuses) (y .refuses),
-      )
+  -- § 5.2 No other answer, and no other made table, fits.
+  pub makes-one : {s : List ℕ} (a b : MakeOutcome) → Makes E s a → Makes E s b → a ≡ b
+  makes-one {s} a b x y =
+      let l = make-rules (length s) in
+      refuses-one l (x .refuses) (y .refuses) (λ e f.
+      let k = x .makes (clear l e) in
+      let m = y .makes (clear l e) in
+      let t = k .2 ∙ ap (λ (m : List ℕ). m ++ drop 2048 s) (made-one (k .1) (m .1)) ∙ sym (m .2) in
+      λ i. record { answer = f i; buffer = t i })

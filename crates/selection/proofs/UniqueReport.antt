@@ -3,12 +3,13 @@ use Rattle.laws.proofs.Basics.{_≡_, refl, sym, ap, _∙_, List, ℕ, _+_, _*_
 use Rattle.laws.proofs.Tests.{less-decides}
 use Rattle.laws.proofs.Counting.{tally-one}
 use Rattle.selection.specs.Cell.{LeastWitness, digit}
-use Rattle.selection.specs.Table.{FirstBad, Passes, formRules, Checked, ReportMeaning}
+use Rattle.selection.specs.computed.Table.{FirstBad, formRules, Checked, ReportMeaning}
+use Rattle.selection.specs.Table.{Passes}
 use Rattle.selection.specs.declared.table.Outcome.{Outcome}
 use Rattle.selection.specs.declared.table.Outcome.the-variants.{Passed, Bad, Refused}
-use Rattle.selection.specs.declared.table.Report.{Report}
+use Rattle.selection.specs.declared.table.TableVerdict.{TableVerdict}
 use Rattle.selection.specs.declared.table.BadCell.{BadCell}
-use Rattle.selection.specs.Refusals.{rank}
+use Rattle.selection.specs.computed.Refusals.{rank}
 use Rattle.selection.proofs.OneRule.{first-one}
 use Rattle.selection.proofs.Rules.{WellFormed, refusal-one}
 use Rattle.selection.proofs.Tables.{no-table}
@@ -46,7 +47,8 @@ module _ (E : Estimate) where
   means-one t m n (Refused f) (Refused g) h k = (h .1 ∙ sym (k .1), ap Refused (refusal-one (form-rules t) f g (h .0) (k .0)))
 
   -- no two answers to one table
-  pub checked-one : {t : List ℕ} (a b : Report) → Checked E t a → Checked E t b → a ≡ b
+  -- § 4.1 No other answer of the check fits.
+  pub checked-one : {t : List ℕ} (a b : TableVerdict) → Checked E t a → Checked E t b → a ≡ b
   checked-one {t} a b x y =
       let e = means-one t (a .count) (b .count) (a .outcome) (b .outcome) (x .means) (y .means) in
       λ i. record { count = e .0 i; outcome = e .1 i }

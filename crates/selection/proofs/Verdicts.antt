@@ -1,39 +1,40 @@
 -- What the answers to a table and to a cell tell a caller, by their cases.
-use Rattle.laws.proofs.Basics.{_≡_, refl, sym, subst, List, ℕ, _≤_}
-use Rattle.selection.specs.Answer.{cellNumbers, cellZeros}
-use Rattle.selection.proofs.Refusing.{refusal, answerBy, Wrongs, firstRefusal, Refuses, refuses}
+use Rattle.laws.proofs.Basics.{_≡_, refl, sym, subst, _∙_, List, ℕ, _≤_}
+use Rattle.selection.specs.computed.Answer.{cellNumbers, cellZeros}
+use Rattle.selection.proofs.RefusalNames.{refusal, answerBy, Wrongs, firstRefusal, Refuses, refuses}
 use Rattle.selection.specs.declared.Refusal.{Refusal}
 use Rattle.selection.specs.declared.Admission.{Admission}
-use Rattle.selection.specs.Cell.{cellRules, CellChecked, CellMeaning}
-use Rattle.selection.specs.Multiples.{Finding, multiplesOf, testOf, cellVerdictOf}
-use Rattle.selection.specs.Multiples.Finding.{NoWitness, LeastAt}
-use Rattle.selection.specs.Computed.{cellOf}
-use Rattle.selection.specs.Table.{Table, Checked}
+use Rattle.selection.specs.computed.Cell.{cellRules, CellMeaning}
+use Rattle.selection.specs.computed.CellTest.{Finding, multiplesOf, testOf, cellVerdictOf}
+use Rattle.selection.specs.computed.CellTest.Finding.{NoWitness, LeastAt}
+use Rattle.selection.specs.computed.Outcomes.{cellOf, reportOf}
+use Rattle.selection.specs.Table.{Table}
 use Rattle.selection.specs.declared.Admission.the-variants as A
 use Rattle.selection.specs.declared.CellVerdict.{CellVerdict}
 use Rattle.selection.specs.declared.CellVerdict.the-variants as C
 use Rattle.selection.specs.declared.table.BadCell.{BadCell}
 use Rattle.selection.specs.declared.table.Outcome.the-variants as O
-use Rattle.selection.specs.declared.table.Report.{Report}
-use Rattle.selection.proofs.BiasedPoints.{cell-rules, known-not-refused}
+use Rattle.selection.specs.declared.table.TableVerdict.{TableVerdict}
+use Rattle.selection.proofs.BiasedPoints.{cell-rules, cell-checked, known-not-refused}
+use Rattle.selection.proofs.Reports.{report-means}
 use Rattle.selection.specs.declared.Estimate.{Estimate}
 
 -- in a divider with the estimate E
 module _ (E : Estimate) where
   -- the check's answer, by its case
-  pub passed-table : {t : List ℕ} {a : Report} → Checked E t a → a .outcome ≡ O.Passed → Table t
-  passed-table j e = (rw e at (j .means)) .0 .table
+  pub passed-table : (t : List ℕ) {a : TableVerdict} → a ≡ reportOf E t → a .outcome ≡ O.Passed → Table t
+  passed-table t e f = report-means E t e f .0 .table
 
-  pub bad-table : {t : List ℕ} {a : Report} {b : BadCell} → Checked E t a → a .outcome ≡ O.Bad b → Table t
-  bad-table j e = (rw e at (j .means)) .0
+  pub bad-table : (t : List ℕ) {a : TableVerdict} {b : BadCell} → a ≡ reportOf E t → a .outcome ≡ O.Bad b → Table t
+  bad-table t e f = report-means E t e f .0
 
   -- a single cell's answer, by its case
-  pub verdict-says : {r c b : ℕ} {v w : CellVerdict} → CellChecked E r c b v → v ≡ w → CellMeaning E r c b w
-  verdict-says j e = rw e at (j .means)
+  pub verdict-says : (r c b : ℕ) {v w : CellVerdict} → v ≡ cellOf E r c b → v ≡ w → CellMeaning E r c b w
+  verdict-says r c b e f = subst (CellMeaning E r c b) (sym e ∙ f) (cell-checked E r c b .means)
 
   -- no cell and digit are refused
-  pub never-refused : {r c b : ℕ} {v : CellVerdict} {f : Refusal} {X : Type 0} → r ≤ 15 → c ≤ 127 → b ≤ 4 → CellChecked E r c b v → v ≡ C.Refused f → X
-  never-refused hr hc hb j e = known-not-refused (record { row = hr; column = hc; byte = hb }) (verdict-says j e)
+  pub never-refused : (r c b : ℕ) {v : CellVerdict} {f : Refusal} {X : Type 0} → r ≤ 15 → c ≤ 127 → b ≤ 4 → v ≡ cellOf E r c b → v ≡ C.Refused f → X
+  never-refused r c b hr hc hb e f = known-not-refused (record { row = hr; column = hc; byte = hb }) (verdict-says r c b e f)
 
   -- a single cell refuses by its rules, with zeros besides
   pub cell-refuses : (r c b : ℕ) → Refuses (Wrongs (cellRules r c b)) (λ x. x .refusal) cellZeros (cellNumbers (cellOf E r c b))

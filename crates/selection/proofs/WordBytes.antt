@@ -2,7 +2,7 @@
 use Rattle.laws.proofs.Basics.{_≡_, ap, _∙_, List, [], _∷_, ℕ, suc, _+_, _*_, _/_, _%_, _^_, _≤_, _<_, arith, length, getD, set}
 use Rattle.laws.specs.Lists.{listFrom, filled}
 use Rattle.laws.proofs.Lists.{list-at, fill-more, fill-all}
-use Rattle.selection.specs.WordBytes.{byteOf, wordsBytes}
+use Rattle.selection.specs.computed.WordBytes.{byteOf, wordsBytes}
 
 -- bs stored from i + j on
 abbrev stored : List ℕ → ℕ → ℕ → List ℕ → List ℕ

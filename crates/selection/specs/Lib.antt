@@ -1,16 +1,8 @@
 pub mod Word
 pub mod Cell
-pub mod Multiples
-pub mod Allowed
 pub mod Table
 pub mod Maker
-pub mod Burned
 pub mod Answer
-pub mod Refusals
 pub mod Repair
-pub mod Computed
-pub mod RepairRows
-pub mod RepairDemand
-pub mod WordBytes
 pub mod Demand
-pub mod Bits
+pub mod computed

@@ -1,25 +1,26 @@
 // The calls on tables for a divider by the number of bits that it adds of each remainder word: 7 or 8. Any other number is refused before all else.
 ghost use mathlib.Core.Path.{_≡_};
-ghost use Rattle.selection.specs.Refusals.{firstRefusal};
-ghost use Rattle.selection.specs.Bits.{bitsRules, estimateOf, bitsOf, checkCellFor, checkTableFor, rowLimitsFor, makeFor, madeBufferFor, repairFor, repairedFor, changedFor};
+ghost use Rattle.selection.specs.computed.Refusals.{firstRefusal};
+ghost use Rattle.selection.specs.computed.Bits.{bitsRules, estimateOf, bitsOf, checkCellFor, checkTableFor, rowLimitsFor, makeFor, repairFor};
 use crate::Admission;
 use crate::Estimate;
+use crate::REFUSED_ESTIMATE_BITS;
 use crate::Refusal;
-use crate::maker::RowLimits;
-use crate::numbers::CellNumbers;
-use crate::numbers::ReportNumbers;
+use crate::maker::Limits;
+use crate::numbers::Cell;
+use crate::numbers::Report;
 use crate::refused;
-use crate::repair::RepairAnswer;
+use crate::repair::Repaired;
 
 // The refusal of a number that is neither 7 nor 8, and the estimate of that number.
 pub fn admit_bits(bits: u64) -> Admission
     ensures { λ r. ⌜ r ≡ firstRefusal (bitsRules bits) ⌝ }
 {
     if bits < 7 {
-        return refused(17);
+        return refused(REFUSED_ESTIMATE_BITS);
     }
     if 8 < bits {
-        return refused(17);
+        return refused(REFUSED_ESTIMATE_BITS);
     }
     Admission::Admitted
 }
@@ -45,12 +46,12 @@ pub fn bits_of(estimate: Estimate) -> u64
 }
 
 // A single cell.
-pub fn check_cell_for(bits: u64, row: u64, column: u64, byte: u8) -> CellNumbers
+pub fn check_cell_for(bits: u64, row: u64, column: u64, byte: u8) -> Cell
     ensures { λ r. ⌜ r ≡ checkCellFor bits row column byte ⌝ }
 {
     let admission = admit_bits(bits);
     match admission {
-        Admission::Refused(f) => CellNumbers {
+        Admission::Refused(f) => Cell {
             refusal: f,
             allowed: 0,
             divisor: 0,
@@ -63,12 +64,12 @@ pub fn check_cell_for(bits: u64, row: u64, column: u64, byte: u8) -> CellNumbers
 }
 
 // A table.
-pub fn check_table_for(bits: u64, table: &[u8]) -> ReportNumbers
+pub fn check_table_for(bits: u64, table: &[u8]) -> Report
     ensures { λ r. ⌜ r ≡ checkTableFor bits (now (table .entry)) ⌝ }
 {
     let admission = admit_bits(bits);
     match admission {
-        Admission::Refused(f) => ReportNumbers {
+        Admission::Refused(f) => Report {
             refusal: f,
             count: 0,
             row: 0,
@@ -81,14 +82,14 @@ pub fn check_table_for(bits: u64, table: &[u8]) -> ReportNumbers
 }
 
 // The columns at which the digits of a made row change.
-pub fn row_limits_for(bits: u64, row: u64) -> RowLimits
+pub fn row_limits_for(bits: u64, row: u64) -> Limits
     ensures { λ r. ⌜ r ≡ rowLimitsFor bits row ⌝ }
 {
     let admission = admit_bits(bits);
     match admission {
         Admission::Refused(f) => {
             let none = [0u8; 6];
-            RowLimits {
+            Limits {
                 refusal: f,
                 limits: none,
             }
@@ -99,7 +100,7 @@ pub fn row_limits_for(bits: u64, row: u64) -> RowLimits
 
 // The made table, to the first 2,048 bytes of the buffer.
 pub fn make_table_for(bits: u64, buffer: &mut [u8]) -> Refusal
-    ensures { λ r. ⌜ (r ≡ makeFor bits (now (buffer .entry))) × (now (buffer .exit) ≡ madeBufferFor bits (now (buffer .entry))) ⌝ }
+    ensures { λ r. ⌜ record { answer = r; buffer = now (buffer .exit) } ≡ makeFor bits (now (buffer .entry)) ⌝ }
 {
     let admission = admit_bits(bits);
     match admission {
@@ -114,12 +115,12 @@ pub fn repair_table_for(
     table: &[u8],
     repaired: &mut [u8],
     changed: &mut [u8],
-) -> RepairAnswer
-    ensures { λ r. ⌜ (r ≡ repairFor bits (now (table .entry)) (now (repaired .entry)) (now (changed .entry))) × (now (repaired .exit) ≡ repairedFor bits (now (table .entry)) (now (repaired .entry)) (now (changed .entry))) × (now (changed .exit) ≡ changedFor bits (now (table .entry)) (now (repaired .entry)) (now (changed .entry))) ⌝ }
+) -> Repaired
+    ensures { λ r. ⌜ record { answer = r; repaired = now (repaired .exit); changed = now (changed .exit) } ≡ repairFor bits (now (table .entry)) (now (repaired .entry)) (now (changed .entry)) ⌝ }
 {
     let admission = admit_bits(bits);
     match admission {
-        Admission::Refused(refusal) => RepairAnswer { refusal, count: 0 },
+        Admission::Refused(refusal) => Repaired { refusal, count: 0 },
         Admission::Admitted => {
             crate::repair::repair_table(estimate_of(bits), table, repaired, changed)
         }

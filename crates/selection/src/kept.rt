@@ -2,11 +2,10 @@
 ghost use mathlib.Core.Path.{_≡_};
 ghost use lib.ListN.{length};
 ghost use Rattle.selection.specs.Cell as Cell;
-ghost use Rattle.selection.specs.Computed.{madeTable};
-ghost use Rattle.selection.specs.WordBytes.{wordsBytes};
+ghost use Rattle.selection.specs.computed.Outcomes.{madeTable};
+ghost use Rattle.selection.specs.computed.WordBytes.{wordsBytes};
 ghost use Rattle.selection.specs.declared.Estimate.the-variants.{EightBits};
-ghost use Rattle.selection.specs.Maker.{MadeTable};
-ghost use Rattle.selection.specs.Table.{rowBytes};
+ghost use Rattle.selection.specs.computed.Table.{rowBytes};
 
 // A row is two lines of 64 bytes, a byte a digit plus 2.
 const KEPT: [u8; 2048] = *b"\
@@ -45,7 +44,7 @@ const KEPT: [u8; 2048] = *b"\
 
 // The kept table, whole.
 pub fn kept_table() -> [u8; 2048]
-    ensures { λ r. ⌜ (r ≡ madeTable EightBits) × (MadeTable EightBits r) ⌝ }
+    ensures { λ r. ⌜ r ≡ madeTable EightBits ⌝ }
 {
     KEPT
 }

@@ -4,10 +4,10 @@
 ghost use mathlib.Core.Path.{_≡_};
 ghost use Prim.Native.Nat.{_%_};
 ghost use lib.ListN.{length};
-ghost use Rattle.selection.specs.Computed.{madeTable};
+ghost use Rattle.selection.specs.computed.Outcomes.{madeTable};
 ghost use Rattle.selection.specs.declared.Estimate.the-variants.{EightBits};
-ghost use Rattle.selection.specs.WordBytes.{wordsBytes};
-ghost use Rattle.selection.specs.Table.{rowBytes};
+ghost use Rattle.selection.specs.computed.WordBytes.{wordsBytes};
+ghost use Rattle.selection.specs.computed.Table.{rowBytes};
 
 const ROW0: [u64; 16] = [
     0x0202020202020202,

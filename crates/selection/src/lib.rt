@@ -1,9 +1,9 @@
-// Quotient-digit selection, the lowest layer: the cell rule. Beside it the check of a table, its maker and the kept table.
+// Quotient-digit selection, the lowest layer: the check of a cell, the check of a table, its maker, its repair and the kept table.
 pub mod bits;
+pub mod cell;
 pub mod kept;
 mod kept_words;
 pub mod maker;
-mod multiples;
 pub mod numbers;
 pub mod repair;
 pub mod table;
@@ -11,9 +11,45 @@ pub mod table;
 ghost use mathlib.Core.Path.{_≡_};
 ghost use Rattle.selection.specs.Answer.{refusal};
 ghost use Rattle.selection.specs.declared.Admission.the-variants as Told;
-ghost use Rattle.selection.specs.Cell.{CellChecked, digit};
-ghost use Rattle.selection.specs.Computed.{cellOf};
-use crate::multiples::test_at;
+ghost use Rattle.selection.specs.Cell.{digit};
+
+// The length of a table.
+pub const TABLE_LENGTH: usize = 2048;
+
+// The refusals, by the names that they have in C.
+pub const REFUSED_CELL: u64 = 1;
+
+pub const REFUSED_DIGITS: u64 = 2;
+
+pub const REFUSED_SPAN: u64 = 3;
+
+pub const REFUSED_TOO_LARGE: u64 = 4;
+
+pub const REFUSED_BY_ZERO: u64 = 5;
+
+pub const REFUSED_DIRECTION: u64 = 6;
+
+pub const REFUSED_ROOM: u64 = 7;
+
+pub const REFUSED_LENGTH: u64 = 8;
+
+pub const REFUSED_BYTE: u64 = 9;
+
+pub const REFUSED_BAD_CELL: u64 = 10;
+
+pub const REFUSED_LISTS: u64 = 11;
+
+pub const REFUSED_WIDTH: u64 = 12;
+
+pub const REFUSED_READING: u64 = 13;
+
+pub const REFUSED_RANGE: u64 = 14;
+
+pub const REFUSED_DECIMAL: u64 = 15;
+
+pub const REFUSED_BITS: u64 = 16;
+
+pub const REFUSED_ESTIMATE_BITS: u64 = 17;
 
 // Which divider a table is for: how many of the top bits of each remainder word it adds to estimate the partial remainder.
 pub enum Estimate {
@@ -63,29 +99,4 @@ pub fn digit_of(byte: u8) -> i64
     ensures { λ r. ⌜ r ≡ digit byte ⌝ }
 {
     byte as i64 - 2
-}
-
-// Row, column and byte of a single cell, for a divider with this estimate: allowed, or the least witness against the digit.
-pub fn check_cell(estimate: Estimate, row: u64, column: u64, byte: u8) -> CellVerdict
-    ensures { λ r. ⌜ (r ≡ cellOf estimate row column byte) × (CellChecked estimate row column byte r) ⌝ }
-{
-    if 15 < row {
-        return CellVerdict::Refused(Refusal {
-            number: 1,
-            place: 0,
-        });
-    }
-    if 127 < column {
-        return CellVerdict::Refused(Refusal {
-            number: 1,
-            place: 0,
-        });
-    }
-    if 4 < byte {
-        return CellVerdict::Refused(Refusal {
-            number: 9,
-            place: 128 * row + column,
-        });
-    }
-    test_at(estimate, row, column, byte)
 }

@@ -3,17 +3,20 @@ ghost use mathlib.Core.Path.{_≡_};
 ghost use mathlib.Core.List.{[]};
 ghost use Prim.Native.Nat.{ℕ, _≤_, _<_};
 ghost use lib.ListN.{getD};
-ghost use Rattle.selection.specs.Computed.{limitsOf, rowLimitsOf, makeOf, madeBuffer};
-ghost use Rattle.selection.specs.Maker.{Limits, Limited, stepAt, Makes};
+ghost use Rattle.selection.specs.computed.Outcomes.{limitsOf, rowLimitsOf, makeOf};
+ghost use Rattle.selection.specs.Maker.{AreLimits, stepAt};
 use crate::Estimate;
 use crate::NO_REFUSAL;
+use crate::REFUSED_CELL;
+use crate::REFUSED_ROOM;
 use crate::Refusal;
-use crate::multiples::row_multiples;
+use crate::TABLE_LENGTH;
+use crate::cell::row_multiples;
 
 // The six columns at which the made digits of a row change.
 pub(crate) fn limits_of(estimate: Estimate, row: u64) -> [u8; 6]
     requires { ⌜ row ≤ 15 ⌝ }
-    ensures { λ r. ⌜ (r ≡ limitsOf estimate row) × Limits estimate row r ⌝ }
+    ensures { λ r. ⌜ (r ≡ limitsOf estimate row) × AreLimits estimate row r ⌝ }
 {
     let m = row_multiples(estimate, row);
     [
@@ -28,27 +31,27 @@ pub(crate) fn limits_of(estimate: Estimate, row: u64) -> [u8; 6]
 
 // A row's limits, or refusal 1 and zeros.
 #[repr(C)]
-pub struct RowLimits {
+pub struct Limits {
     pub refusal: Refusal,
     pub limits: [u8; 6],
 }
 
 // The limits of a row.
-pub fn row_limits(estimate: Estimate, row: u64) -> RowLimits
-    ensures { λ r. ⌜ (r ≡ rowLimitsOf estimate row) × (Limited estimate row r) ⌝ }
+pub fn row_limits(estimate: Estimate, row: u64) -> Limits
+    ensures { λ r. ⌜ r ≡ rowLimitsOf estimate row ⌝ }
 {
     if 15 < row {
         let none = [0u8; 6];
-        return RowLimits {
+        return Limits {
             refusal: Refusal {
-                number: 1,
+                number: REFUSED_CELL,
                 place: 0,
             },
             limits: none,
         };
     }
     let l = limits_of(estimate, row);
-    RowLimits {
+    Limits {
         refusal: NO_REFUSAL,
         limits: l,
     }
@@ -81,7 +84,7 @@ pub(crate) fn digit_at(l: [u8; 6], c: u8) -> u8
 
 // The limits of all rows.
 fn all_limits(estimate: Estimate) -> [[u8; 6]; 16]
-    ensures { λ r. ⌜ ((j : ℕ) → j < 16 → Limits estimate j (getD r j [])) ⌝ }
+    ensures { λ r. ⌜ ((j : ℕ) → j < 16 → AreLimits estimate j (getD r j [])) ⌝ }
 {
     let mut all = [[0u8; 6]; 16];
     let mut row: usize = 0;
@@ -95,17 +98,17 @@ fn all_limits(estimate: Estimate) -> [[u8; 6]; 16]
 
 // The made table, in the first 2,048 bytes of the buffer.
 pub fn make_table(estimate: Estimate, buffer: &mut [u8]) -> Refusal
-    ensures { λ r. ⌜ (r ≡ makeOf (now (buffer .entry))) × (now (buffer .exit) ≡ madeBuffer estimate (now (buffer .entry))) × (Makes estimate (now (buffer .entry)) (now (buffer .exit)) r) ⌝ }
+    ensures { λ r. ⌜ record { answer = r; buffer = now (buffer .exit) } ≡ makeOf estimate (now (buffer .entry)) ⌝ }
 {
-    if buffer.len() < 2048 {
+    if buffer.len() < TABLE_LENGTH {
         return Refusal {
-            number: 7,
+            number: REFUSED_ROOM,
             place: 0,
         };
     }
     let all = all_limits(estimate);
     let mut k: usize = 0;
-    while k < 2048 {
+    while k < TABLE_LENGTH {
         let row = k / 128;
         let l = all[row];
         buffer[k] = digit_at(l, (k % 128) as u8);

@@ -5,32 +5,35 @@ ghost use Prim.Native.Nat.{_+_, _*_, _≤_};
 ghost use lib.Dec.{ltb, eqb};
 ghost use lib.ListN.{length};
 ghost use Rattle.laws.specs.Counting.{countBelow};
-ghost use Rattle.selection.specs.Refusals.{firstRefusal};
-ghost use Rattle.selection.specs.Allowed.{isReplaced};
+ghost use Rattle.selection.specs.computed.Refusals.{firstRefusal};
+ghost use Rattle.selection.specs.computed.Allowed.{isFaulty};
 ghost use Rattle.selection.specs.Maker.{stepAt};
-ghost use Rattle.selection.specs.Multiples.{RowOf, allowsBy};
-ghost use Rattle.selection.specs.Computed.{repairedByte, changeMark, repairOf, repairedOf, changedOf};
-ghost use Rattle.selection.specs.RepairRows.{FillsRow, MarksRow, BytesRow, RepairedTo};
-ghost use Rattle.selection.specs.Repair.{repairRules, RepairAccepts, Repairs};
+ghost use Rattle.selection.specs.computed.CellTest.{RowOf, allowsBy};
+ghost use Rattle.selection.specs.computed.Outcomes.{repairedByte, changeMark, repairOf};
+ghost use Rattle.selection.specs.computed.RepairRows.{FillsRow, MarksRow, BytesRow, RepairedTo};
+ghost use Rattle.selection.specs.computed.Repair.{repairRules, RepairAccepts};
 use crate::Admission;
 use crate::Estimate;
 use crate::NO_REFUSAL;
+use crate::REFUSED_LENGTH;
+use crate::REFUSED_ROOM;
 use crate::Refusal;
+use crate::TABLE_LENGTH;
+use crate::cell::RowMultiples;
+use crate::cell::allows;
+use crate::cell::row_multiples;
 use crate::maker::digit_at;
 use crate::maker::limits_of;
-use crate::multiples::RowMultiples;
-use crate::multiples::allows;
-use crate::multiples::row_multiples;
 use crate::refused;
 
 // The answer, as C sees it: the refusal (0: none) and its place, and the number of changes.
 #[repr(C)]
-pub struct RepairAnswer {
+pub struct Repaired {
     pub refusal: Refusal,
     pub count: u64,
 }
 
-// 1 for a byte that is to be changed: it is above 4, or its digit is not allowed. Else 0.
+// 1 for a faulty cell, whose byte is to be changed, else 0.
 fn mark_of(m: RowMultiples, c: u8, byte: u8) -> u8
     requires { ⌜ RowOf m × (c ≤ 127) ⌝ }
     ensures { λ r. ⌜ (r ≡ cond (ltb 4 byte || not (allowsBy m c byte)) 1 0) × (r ≤ 1) ⌝ }
@@ -58,7 +61,7 @@ fn byte_of(l: [u8; 6], c: u8, byte: u8, mark: u8) -> u8
 // vectors that do not fit the registers and go to the stack.
 fn mark_row(table: &[u8], m: RowMultiples, changed: &mut [u8]) -> u8
     requires { ⌜ MarksRow (now table) m (now changed) ⌝ }
-    ensures { λ r. ⌜ FillsRow (changeMark (m .estimate) (now (table .entry))) (m .row) (now (changed .entry)) (now (changed .exit)) × (r ≡ countBelow (λ c. isReplaced (m .estimate) (now (table .entry)) (128 * m .row + c)) 128) ⌝ }
+    ensures { λ r. ⌜ FillsRow (changeMark (m .estimate) (now (table .entry))) (m .row) (now (changed .entry)) (now (changed .exit)) × (r ≡ countBelow (λ c. isFaulty (m .estimate) (now (table .entry)) (128 * m .row + c)) 128) ⌝ }
 {
     let start = 128 * (m.row as usize);
     let mut count: u8 = 0;
@@ -107,14 +110,14 @@ fn repair_rows(estimate: Estimate, table: &[u8], repaired: &mut [u8], changed: &
 fn refusal_of(table: usize, repaired: usize, changed: usize) -> Admission
     ensures { λ r. ⌜ r ≡ firstRefusal (repairRules table repaired changed) ⌝ }
 {
-    if repaired < 2048 {
-        return refused(7);
+    if repaired < TABLE_LENGTH {
+        return refused(REFUSED_ROOM);
     }
-    if changed < 2048 {
-        return refused(7);
+    if changed < TABLE_LENGTH {
+        return refused(REFUSED_ROOM);
     }
-    if table != 2048 {
-        return refused(8);
+    if table != TABLE_LENGTH {
+        return refused(REFUSED_LENGTH);
     }
     Admission::Admitted
 }
@@ -125,18 +128,18 @@ pub fn repair_table(
     table: &[u8],
     repaired: &mut [u8],
     changed: &mut [u8],
-) -> RepairAnswer
-    ensures { λ r. ⌜ (r ≡ repairOf estimate (now (table .entry)) (now (repaired .entry)) (now (changed .entry))) × (now (repaired .exit) ≡ repairedOf estimate (now (table .entry)) (now (repaired .entry)) (now (changed .entry))) × (now (changed .exit) ≡ changedOf estimate (now (table .entry)) (now (repaired .entry)) (now (changed .entry))) × (Repairs estimate (now (table .entry)) (now (repaired .entry)) (now (changed .entry)) (now (repaired .exit)) (now (changed .exit)) r) ⌝ }
+) -> Repaired
+    ensures { λ r. ⌜ record { answer = r; repaired = now (repaired .exit); changed = now (changed .exit) } ≡ repairOf estimate (now (table .entry)) (now (repaired .entry)) (now (changed .entry)) ⌝ }
 {
     let admission = refusal_of(table.len(), repaired.len(), changed.len());
     match admission {
-        Admission::Refused(f) => RepairAnswer {
+        Admission::Refused(f) => Repaired {
             refusal: f,
             count: 0,
         },
         Admission::Admitted => {
             let count = repair_rows(estimate, table, repaired, changed);
-            RepairAnswer {
+            Repaired {
                 refusal: NO_REFUSAL,
                 count,
             }

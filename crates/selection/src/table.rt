@@ -6,24 +6,30 @@ ghost use Prim.Native.Nat.{_+_, _*_, _≤_, min};
 ghost use lib.ListN.{length};
 ghost use Rattle.laws.specs.Search.{firstFrom};
 ghost use Rattle.laws.specs.Counting.{countBelow};
-ghost use Rattle.selection.specs.Refusals.{firstRefusal};
-ghost use Rattle.selection.specs.Answer.{refusal, admission, firstOf};
+ghost use Rattle.selection.specs.computed.Refusals.{firstRefusal};
+ghost use Rattle.selection.specs.Answer.{refusal};
+ghost use Rattle.selection.specs.computed.Answer.{admission, firstOf};
 ghost use Rattle.selection.specs.Cell as Cell;
-ghost use Rattle.selection.specs.Allowed.{aboveFour, isBad, isBadIn};
+ghost use Rattle.selection.specs.computed.Allowed.{aboveFour, isBad, isBadIn};
 ghost use Rattle.selection.specs.declared.Estimate.the-variants.{EightBits};
-ghost use Rattle.selection.specs.Multiples.{RowOf};
-ghost use Rattle.selection.specs.RepairRows.{ColumnOf};
-ghost use Rattle.selection.specs.Table.{rowBytes, tableRules, Table, Checked};
-ghost use Rattle.selection.specs.Computed.{refusedReport, reportAt, tableReport, reportOf};
+ghost use Rattle.selection.specs.computed.CellTest.{RowOf};
+ghost use Rattle.selection.specs.computed.CheckRows.{ColumnOf};
+ghost use Rattle.selection.specs.computed.Table.{rowBytes, tableRules};
+ghost use Rattle.selection.specs.Table.{Table};
+ghost use Rattle.selection.specs.computed.Outcomes.{refusedReport, reportAt, tableReport, reportOf};
 use crate::Admission;
 use crate::CellVerdict;
 use crate::Estimate;
+use crate::REFUSED_BAD_CELL;
+use crate::REFUSED_BYTE;
+use crate::REFUSED_LENGTH;
 use crate::Refusal;
+use crate::TABLE_LENGTH;
 use crate::Witness;
-use crate::multiples::RowMultiples;
-use crate::multiples::allows;
-use crate::multiples::row_multiples;
-use crate::multiples::test_at;
+use crate::cell::RowMultiples;
+use crate::cell::allows;
+use crate::cell::row_multiples;
+use crate::cell::test_at;
 
 // A bad cell and the witness against its digit.
 pub struct BadCell {
@@ -38,7 +44,7 @@ pub enum Outcome {
     Refused(Refusal),
 }
 
-pub struct Report {
+pub struct TableVerdict {
     pub count: u64,
     pub outcome: Outcome,
 }
@@ -66,7 +72,7 @@ fn none_above(table: &[u8]) -> bool
 {
     let mut none = true;
     let mut k: usize = 0;
-    while k < 2048 {
+    while k < TABLE_LENGTH {
         if 4 < table[k] {
             none = false;
         }
@@ -81,16 +87,16 @@ fn first_above(table: &[u8]) -> usize
     ensures { λ r. ⌜ r ≡ firstFrom (aboveFour (now (table .entry))) 0 2048 ⌝ }
 {
     if none_above(table) {
-        return 2048;
+        return TABLE_LENGTH;
     }
     let mut i = 0;
-    while i < 2048 {
+    while i < TABLE_LENGTH {
         if 4 < table[i] {
             return i;
         }
         i += 1;
     }
-    2048
+    TABLE_LENGTH
 }
 
 // Whether the byte at a column of a row holds a digit that isn't allowed: the test of the cell up to its witness, which the report alone wants.
@@ -165,10 +171,10 @@ fn count_from(estimate: Estimate, table: &[u8], start: usize, count: u64) -> u64
 }
 
 // A refusal, with no count.
-fn refused_report(number: u64, place: u64) -> Report
+fn refused_report(number: u64, place: u64) -> TableVerdict
     ensures { λ r. ⌜ r ≡ refusedReport (refusal number place) ⌝ }
 {
-    Report {
+    TableVerdict {
         count: 0,
         outcome: Outcome::Refused(Refusal { number, place }),
     }
@@ -176,7 +182,7 @@ fn refused_report(number: u64, place: u64) -> Report
 
 // The report of a table with `count` bad cells, the first of them in the row whose multiples are m: its verdict and witness are the test's. The last two
 // verdicts are never given on it.
-fn bad_report(table: &[u8], m: RowMultiples, count: u64) -> Report
+fn bad_report(table: &[u8], m: RowMultiples, count: u64) -> TableVerdict
     requires { ⌜ ColumnOf (now table) m (firstFrom (isBadIn (m .estimate) (now table) (m .row)) 0 128) ⌝ }
     ensures { λ r. ⌜ r ≡ reportAt (m .estimate) count (now (table .entry)) (128 * m .row + firstFrom (isBadIn (m .estimate) (now (table .entry)) (m .row)) 0 128) ⌝ }
 {
@@ -185,7 +191,7 @@ fn bad_report(table: &[u8], m: RowMultiples, count: u64) -> Report
     let k = 128 * row + column;
     let estimate = m.estimate;
     match test_at(estimate, row, column, table[k as usize]) {
-        CellVerdict::Disallowed(witness) => Report {
+        CellVerdict::Disallowed(witness) => TableVerdict {
             count,
             outcome: Outcome::Bad(BadCell {
                 row,
@@ -193,11 +199,11 @@ fn bad_report(table: &[u8], m: RowMultiples, count: u64) -> Report
                 witness,
             }),
         },
-        CellVerdict::Allowed => Report {
+        CellVerdict::Allowed => TableVerdict {
             count: 0,
             outcome: Outcome::Passed,
         },
-        CellVerdict::Refused(refusal) => Report {
+        CellVerdict::Refused(refusal) => TableVerdict {
             count: 0,
             outcome: Outcome::Refused(refusal),
         },
@@ -206,7 +212,7 @@ fn bad_report(table: &[u8], m: RowMultiples, count: u64) -> Report
 
 // The report of 2,048 bytes from 0 to 4, in one pass: a row's multiples are worked out before its columns start, and handed to the count of its bad cells
 // and to the test of the first.
-fn check_rows(estimate: Estimate, table: &[u8]) -> Report
+fn check_rows(estimate: Estimate, table: &[u8]) -> TableVerdict
     requires { ⌜ Table (now table) ⌝ }
     ensures { λ r. ⌜ r ≡ tableReport estimate (now (table .entry)) ⌝ }
 {
@@ -219,22 +225,22 @@ fn check_rows(estimate: Estimate, table: &[u8]) -> Report
         }
         row += 1;
     }
-    Report {
+    TableVerdict {
         count: 0,
         outcome: Outcome::Passed,
     }
 }
 
 // The number of bad cells, and the first of them with its witness.
-pub fn check_table(estimate: Estimate, table: &[u8]) -> Report
-    ensures { λ r. ⌜ (r ≡ reportOf estimate (now (table .entry))) × (Checked estimate (now (table .entry)) r) ⌝ }
+pub fn check_table(estimate: Estimate, table: &[u8]) -> TableVerdict
+    ensures { λ r. ⌜ r ≡ reportOf estimate (now (table .entry)) ⌝ }
 {
-    if table.len() != 2048 {
-        return refused_report(8, 0);
+    if table.len() != TABLE_LENGTH {
+        return refused_report(REFUSED_LENGTH, 0);
     }
     let above = first_above(table);
-    if above < 2048 {
-        return refused_report(9, above as u64);
+    if above < TABLE_LENGTH {
+        return refused_report(REFUSED_BYTE, above as u64);
     }
     check_rows(estimate, table)
 }
@@ -256,7 +262,7 @@ fn admit_table(estimate: Estimate, table: &[u8]) -> Admission
     match outcome {
         Outcome::Passed => Admission::Admitted,
         Outcome::Bad(cell) => Admission::Refused(Refusal {
-            number: 10,
+            number: REFUSED_BAD_CELL,
             place: place_of(cell),
         }),
         Outcome::Refused(f) => Admission::Refused(f),

@@ -45,6 +45,7 @@ abbrev pub unread : FileRun → FileRun → FileRun → FileRun → FileRun → 
 unread a b c d e f g = withUnread (withUnread (withUnread (withUnread (withUnread (withUnread (withUnread 0 a) b) c) d) e) f) g
 
 -- x is a report: the line of names, the files' lines and that of their sum
+-- § 19.6 `vectors` counts the lines that differ and prints all counts.
 pub record Reports (x : List ℕ) : Type 0 where
   pub testfloat : FileRun
   pub glibc : FileRun

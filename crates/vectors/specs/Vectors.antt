@@ -8,10 +8,10 @@ use Prim.Native.Nat.{ℕ, zero, suc, _+_, _*_, _-_, _/_}
 use lib.Dec.{ltb, leb, eqb}
 use lib.ListN.{length, getD, take, drop}
 use Rattle.laws.specs.Counting.{countBelow}
-use Rattle.division.specs.declared.format.Binary64Answer.{Binary64Answer}
-use Rattle.selection.specs.Computed.{madeTable}
-use Rattle.division.specs.Binary64.{binary64Of}
-use Rattle.division.specs.RootCalls.{rootBinary64Of}
+use Rattle.division.specs.declared.format.Binary64.{Binary64}
+use Rattle.selection.specs.computed.Outcomes.{madeTable}
+use Rattle.division.specs.computed.Binary64.{binary64Of}
+use Rattle.division.specs.computed.RootCalls.{rootBinary64Of}
 use Rattle.printing.specs.declared.input.Input.{Input}
 use Rattle.vectors.specs.declared.Vector.{Vector}
 use Rattle.vectors.specs.declared.Counts.{Counts}
@@ -69,11 +69,11 @@ formedUpto s zero = true
 formedUpto s (suc n) = cond (formedUpto s n) (lineFits (isRoot s) n (getD s n 0)) false
 
 -- an answer differs from a case: it is a refusal, or in the pattern, or in the flags
-abbrev pub differsFrom : Vector → Binary64Answer → Bool
+abbrev pub differsFrom : Vector → Binary64 → Bool
 differsFrom v x = cond (eqb (x .refusal .number) 0) (cond (eqb (x .pattern) (v .pattern)) (not (eqb (x .flags) (v .flags))) true) true
 
 -- the unit's answer: a root, or a quotient through the kept table
-abbrev pub answerOf : Bool → ℕ → ℕ → ℕ → Binary64Answer
+abbrev pub answerOf : Bool → ℕ → ℕ → ℕ → Binary64
 answerOf root a b direction = cond root (rootBinary64Of direction a) (binary64Of (madeTable EightBits) direction a b)
 
 -- the unit's answer differs from a case
@@ -81,6 +81,7 @@ abbrev pub differsIn : Vector → Bool
 differsIn v = differsFrom v (answerOf (v .root) (v .a) (v .b) (v .direction))
 
 -- a line differs: it is cut short, or not in the form, or the unit's answer differs from its case
+-- § 19.6 `vectors` counts the lines that differ and prints all counts.
 abbrev pub lineDiffers : List ℕ → Bool
 lineDiffers s = cond (eqb (length s) 56) (cond (formedUpto s 56) (differsIn (vectorOf s)) true) true
 

@@ -6,7 +6,7 @@ ghost use Rattle.io.specs.Counts.{Counts as Counts·io};
 ghost use Rattle.printing.specs.Text.{ascii, Appended};
 ghost use Rattle.vectors.specs.Vectors.{nibbleOf, hexOf, isRoot, vectorOf, isDecimal, isHex, fitsAt, blankAt, lineFits, formedUpto, answerOf, differsIn, lineDiffers, lineAt, countsOf, runOf, Ran};
 ghost use Rattle.vectors.specs.Report.{countsText, totalText, added, Room, WithFile, Reports};
-use division::format::Binary64Answer;
+use division::format::Binary64;
 use libc::STDERR_FILENO;
 use libc::STDOUT_FILENO;
 use printing::input::Input;
@@ -179,7 +179,7 @@ fn parse(line: &[u8]) -> Vector
 }
 
 // The unit's answer: a root, or a quotient through the kept table.
-fn answer_of(root: bool, a: u64, b: u64, direction: u64) -> Binary64Answer
+fn answer_of(root: bool, a: u64, b: u64, direction: u64) -> Binary64
     ensures { λ r. ⌜ r ≡ answerOf root a b direction ⌝ }
 {
     if root {

@@ -2,8 +2,8 @@
 
 use crate::exports::*;
 pub use crate::exports::{
-    AffectedCount as Affected, AffectedMark, Averages, Binary64, Cell, Comparison, Limits, Made as Make, Packed,
-    Ran as Run, Repaired as Repair, Report as Table, Root, Samples, Stepped, Visits, Whole,
+    AffectedCount, AffectedMark, Averages, Binary64, Cell, Comparison, Limits, Made, Packed, Ran, Repaired, Report,
+    Root, Samples, Stepped, Visits, Whole,
 };
 
 /// A call with a lent table or list to read, which it leaves as it was.
@@ -18,7 +18,7 @@ pub fn check_cell(row: u64, column: u64, byte: u8) -> Cell {
     unsafe { quendaric_check_cell(row, column, byte) }
 }
 
-pub fn check_table(table: &[u8]) -> Table {
+pub fn check_table(table: &[u8]) -> Report {
     lend(table, |t, length| unsafe { quendaric_check_table(t, length) })
 }
 
@@ -27,7 +27,7 @@ pub fn check_cell_for(estimate_bits: u64, row: u64, column: u64, byte: u8) -> Ce
     unsafe { quendaric_check_cell_for(estimate_bits, row, column, byte) }
 }
 
-pub fn check_table_for(estimate_bits: u64, table: &[u8]) -> Table {
+pub fn check_table_for(estimate_bits: u64, table: &[u8]) -> Report {
     lend(table, |t, length| unsafe { quendaric_check_table_for(estimate_bits, t, length) })
 }
 
@@ -35,11 +35,11 @@ pub fn row_limits_for(estimate_bits: u64, row: u64) -> Limits {
     unsafe { quendaric_row_limits_for(estimate_bits, row) }
 }
 
-pub fn make_table_for(estimate_bits: u64, buffer: &mut [u8]) -> Make {
+pub fn make_table_for(estimate_bits: u64, buffer: &mut [u8]) -> Made {
     unsafe { quendaric_make_table_for(estimate_bits, buffer.as_mut_ptr(), buffer.len()) }
 }
 
-pub fn repair_table_for(estimate_bits: u64, table: &[u8], repaired: &mut [u8], changed: &mut [u8]) -> Repair {
+pub fn repair_table_for(estimate_bits: u64, table: &[u8], repaired: &mut [u8], changed: &mut [u8]) -> Repaired {
     let (r, r_length) = (repaired.as_mut_ptr(), repaired.len());
     let (c, c_length) = (changed.as_mut_ptr(), changed.len());
     lend(table, |t, length| unsafe { quendaric_repair_table_for(estimate_bits, t, length, r, r_length, c, c_length) })
@@ -49,18 +49,18 @@ pub fn row_limits(row: u64) -> Limits {
     unsafe { quendaric_row_limits(row) }
 }
 
-pub fn make_table(buffer: &mut [u8]) -> Make {
+pub fn make_table(buffer: &mut [u8]) -> Made {
     unsafe { quendaric_make_table(buffer.as_mut_ptr(), buffer.len()) }
 }
 
-pub fn repair_table(table: &[u8], repaired: &mut [u8], changed: &mut [u8]) -> Repair {
+pub fn repair_table(table: &[u8], repaired: &mut [u8], changed: &mut [u8]) -> Repaired {
     let (r, r_length) = (repaired.as_mut_ptr(), repaired.len());
     let (c, c_length) = (changed.as_mut_ptr(), changed.len());
     lend(table, |t, length| unsafe { quendaric_repair_table(t, length, r, r_length, c, c_length) })
 }
 
 /// Through a lent table, or through the kept one.
-pub fn run(table: Option<&[u8]>, dividend: u64, divisor: u64, digits: usize, buffer: &mut [u8], place: usize) -> Run {
+pub fn run(table: Option<&[u8]>, dividend: u64, divisor: u64, digits: usize, buffer: &mut [u8], place: usize) -> Ran {
     let (start, room) = (buffer.as_mut_ptr(), buffer.len());
     match table {
         Some(table) => {
@@ -125,7 +125,7 @@ pub fn affected_samples(
     currents: &[u64],
     sensitivities: &[u64],
     affected: &mut [u8],
-) -> Affected {
+) -> AffectedCount {
     let (start, room) = (affected.as_mut_ptr(), affected.len());
     lend(table, |t, size| {
         lend(currents, |a, many| {

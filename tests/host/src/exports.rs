@@ -1,4 +1,4 @@
-//! The calls of the archive and their answers. tests/prototypes makes this file: do not edit it.
+//! The calls of the archive and their answers. tools/prototypes makes this file: do not edit it.
 
 #[repr(C)]
 #[derive(Clone, Copy, Debug, Default, PartialEq, Eq)]

@@ -1,9 +1,12 @@
+//! 24 million kept quotients and 60,000 through lent tables, in four directions with flags, against the processor and an exact
+//! division in 128 bits.
+//!
 //! Would catch a binary64 quotient or flag that differs from IEEE 754: a wrong rounding, a second rounding of a
 //! subnormal result, a lost sticky bit, a wrong overflow value, a flag too many or too few, a wrong special case.
 //! The draws are from the fixed seed below.
 use host::compare::{drawn, on_all_cores, pair, Tally};
-use host::document::rule;
 use host::draw::{landmarks, Draw};
+use host::specification::rule;
 
 const SEED: u64 = 0x5EED_0064;
 

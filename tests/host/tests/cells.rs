@@ -1,19 +1,22 @@
+//! Every byte in every cell by both estimates, the made tables and limits, against a rule that is first held against lists of
+//! all points.
+//!
 //! Would catch a cell judged wrongly, a witness that is no point, breaks nothing or is not the least, and a made digit
 //! or limit that is not the one nearest zero. The other check is first held against a list of all points, and the points
 //! against all pairs of words. The draws are from the fixed seed below.
 use host::calls::{
-    check_cell, check_cell_for, make_table, make_table_for, row_limits, row_limits_for, Cell, Limits, Make,
+    check_cell, check_cell_for, make_table, make_table_for, row_limits, row_limits_for, Cell, Limits, Made,
 };
-use host::document::{breaks, rule, seven, Rule, Unit, CELLS, EIGHT, SEVEN};
+use host::check_by_search::{self, Check};
 use host::draw::Draw;
-use host::earlier::{self, Check};
+use host::specification::{breaks, rule, seven, Rule, Unit, CELLS, EIGHT, SEVEN};
 
 const SEED: u64 = 0x5EED_0128;
 const DIGITS: [i128; 5] = [-2, -1, 0, 1, 2];
 
 /// Both estimates: the bits, the scale, the rule, and the check as it was before the rows' multiples.
 fn estimates() -> [(u64, Unit, &'static Rule, Check); 2] {
-    [(7, SEVEN, seven(), earlier::SEVEN), (8, EIGHT, rule(), earlier::EIGHT)]
+    [(7, SEVEN, seven(), check_by_search::SEVEN), (8, EIGHT, rule(), check_by_search::EIGHT)]
 }
 
 fn cells() -> impl Iterator<Item = (i128, i128, i128)> {
@@ -133,8 +136,8 @@ fn every_byte_of_every_cell() {
             let what = format!("{bits} bits, cell {row}/{column}, digit {q}");
             let got = check_cell_for(bits, r, c, byte);
             assert_eq!(got, rule.check_cell((128 * row + column) as usize, byte), "{what}");
-            assert_eq!(got, check.check_cell(r, c, byte), "{what}: earlier");
-            assert_eq!(got.allowed == 1, check.allows(r, c, byte), "{what}: earlier");
+            assert_eq!(got, check.check_cell(r, c, byte), "{what}: by search");
+            assert_eq!(got.allowed == 1, check.allows(r, c, byte), "{what}: by search");
             if got.allowed == 0 {
                 disallowed += 1;
                 let (d, p) = (i128::from(got.divisor), i128::from(got.remainder));
@@ -189,12 +192,12 @@ fn worked_examples() {
 }
 
 /// A call that makes a table, on buffers that just fit and that are longer.
-fn makes(call: impl Fn(&mut [u8]) -> Make, made: &[u8]) {
+fn makes(call: impl Fn(&mut [u8]) -> Made, made: &[u8]) {
     for extra in [0usize, 1, 77] {
         let tail: Vec<u8> = (0..extra).map(|i| 0xA0 ^ i as u8).collect();
         let mut buffer = vec![0xEE; CELLS];
         buffer.extend(&tail);
-        assert_eq!(call(&mut buffer), Make::default());
+        assert_eq!(call(&mut buffer), Made::default());
         assert_eq!(buffer[..CELLS], made[..]);
         assert_eq!(buffer[CELLS..], tail[..]);
     }
@@ -217,10 +220,10 @@ fn made_table_and_limits() {
     (0..16).for_each(|row| assert_eq!(row_limits(row), row_limits_for(8, row)));
 }
 
-/// The limits that the specification prints, section 5.3: of a row six by eight bits, then six by seven.
+/// The limits in tables/limits.txt: of a row six by eight bits, then six by seven.
 #[test]
-fn the_limits_of_the_specification() {
-    let page = include_str!("../../../docs/SPECIFICATION.md");
+fn the_limits_in_the_file() {
+    let page = include_str!("../../../tables/limits.txt");
     let mut rows = 0;
     for line in page.lines() {
         let numbers: Vec<u8> = line.split(['|', ' ']).filter_map(|word| word.parse().ok()).collect();

@@ -1,14 +1,17 @@
+//! Check and repair of 100,000 drawn tables by seven bits and by eight, against two other checks; the programs with 7 and 8;
+//! the printed table.
+//!
 //! Would catch a table call that goes by the wrong estimate, or by one estimate in some rows and by the other elsewhere: the
 //! check, the repair and the programs by seven bits and by eight, on 100,000 drawn tables and on those of tables/, against the
 //! specification's rule and against the check as it was before the rows' multiples; a table that passes for seven and is refused
 //! for eight, a cell that allows less by eight; and a page that misreads the printed table. The draws are from the fixed seed
 //! below.
-use host::calls::{self, check_table, check_table_for, repair_table, repair_table_for, Repair, Table};
+use host::calls::{self, check_table, check_table_for, repair_table, repair_table_for, Repaired, Report};
+use host::check_by_search;
 use host::compare::{on_all_cores, Tally};
-use host::document::{rule, run, run_by, seven, Rule, CELLS, EIGHT, SEVEN};
 use host::draw::Draw;
-use host::earlier;
 use host::programs::{printed_with, written_with};
+use host::specification::{rule, run, run_by, seven, Rule, CELLS, EIGHT, SEVEN};
 
 const SEED: u64 = 0x5EED_0256;
 const CANARY: u8 = 0x5A;
@@ -17,25 +20,25 @@ const KEPT_SEVEN: &[u8] = include_bytes!("../../../tables/kept-seven-bits.table"
 const PRINTED: &[u8] = include_bytes!("../../../tables/clarke-zhao-1995.table");
 const PENTIUM: &[u8] = include_bytes!("../../../tables/pentium-1994.table");
 
-/// The answer by seven bits, which is that of the unit, of the rule and of the earlier check.
-fn by_seven(table: &[u8]) -> Table {
+/// The answer by seven bits, which is that of the unit, of the rule and of the check by search.
+fn by_seven(table: &[u8]) -> Report {
     let got = check_table_for(7, table);
     assert_eq!(got, seven().check(table));
-    assert_eq!(got, earlier::SEVEN.check_table(table));
+    assert_eq!(got, check_by_search::SEVEN.check_table(table));
     got
 }
 
 /// The answer by eight bits, which is that of the call without bits too.
-fn by_eight(table: &[u8]) -> Table {
+fn by_eight(table: &[u8]) -> Report {
     let got = check_table_for(8, table);
     assert_eq!(got, check_table(table));
     assert_eq!(got, rule().check(table));
-    assert_eq!(got, earlier::EIGHT.check_table(table));
+    assert_eq!(got, check_by_search::EIGHT.check_table(table));
     got
 }
 
 /// A repair into two buffers that are longer by so many bytes; what it leaves in them.
-fn repaired(call: impl Fn(&mut [u8], &mut [u8]) -> Repair, longer: usize) -> (Repair, Vec<u8>, Vec<u8>) {
+fn repaired(call: impl Fn(&mut [u8], &mut [u8]) -> Repaired, longer: usize) -> (Repaired, Vec<u8>, Vec<u8>) {
     let (mut table, mut marks) = (vec![CANARY; CELLS + longer], vec![!CANARY; CELLS + longer]);
     let answer = call(&mut table, &mut marks);
     (answer, table, marks)
@@ -47,7 +50,7 @@ fn check_repair(bits: u64, rule: &Rule, made: &[u8], table: &[u8], longer: usize
     let want = rule.repaired(table, made);
     let marks: Vec<u8> = (0..CELLS).map(|k| u8::from(want[k] != table[k])).collect();
     let count = marks.iter().map(|&mark| u64::from(mark)).sum();
-    assert_eq!(got.0, Repair { refusal: 0, place: 0, count }, "{bits} bits");
+    assert_eq!(got.0, Repaired { refusal: 0, place: 0, count }, "{bits} bits");
     assert!(got.1[..CELLS] == want && got.1[CELLS..].iter().all(|&b| b == CANARY), "{bits} bits: the table");
     assert!(got.2[..CELLS] == marks && got.2[CELLS..].iter().all(|&b| b == !CANARY), "{bits} bits: the marks");
     if bits == 8 {
@@ -143,7 +146,7 @@ fn other_lengths_and_tables_of_one_byte() {
     }
     for length in [0, 1, 127, 2047, 2049, 4096] {
         let table: Vec<u8> = seven().made().into_iter().cycle().take(length).collect();
-        assert_eq!(by_seven(&table), Table { refusal: 8, ..Default::default() });
+        assert_eq!(by_seven(&table), Report { refusal: 8, ..Default::default() });
     }
 }
 
@@ -184,8 +187,8 @@ fn ten_thousand_tables_for_seven_bits_divide_by_eight() {
             1 => seven().farthest(),
             _ => seven().passing(&mut draw),
         };
-        assert_eq!(by_seven(&table), Table::default());
-        assert_eq!(by_eight(&table), Table::default(), "table {turn}");
+        assert_eq!(by_seven(&table), Report::default());
+        assert_eq!(by_eight(&table), Report::default(), "table {turn}");
         divides(&table, 2, &mut draw);
     }
     divides(KEPT_SEVEN, 20_000, &mut draw);

@@ -1,8 +1,10 @@
+//! Each call with table and buffer at 18 addresses, every byte around them compared.
+//!
 //! Would catch a call that answers otherwise where a table or a buffer lies at an odd address, that writes into a table,
 //! or that writes outside its buffer: each call with its table and its buffer at every offset from 0 to 17 in a larger
 //! space, every byte of which is compared.
-use host::calls::{self, Binary64, Make, Run, Samples, Whole};
-use host::document::{rule, run, CELLS};
+use host::calls::{self, Binary64, Made, Ran, Samples, Whole};
+use host::specification::{rule, run, CELLS};
 
 const CANARY: u8 = 0x5A;
 const OFFSETS: std::ops::Range<usize> = 0..18;
@@ -73,9 +75,9 @@ fn made_table_at_any_address() {
     let made = rule().made();
     for offset in OFFSETS {
         let mut space = Space::new(offset, &[]);
-        assert_eq!(calls::make_table(space.part(offset, CELLS + 3)), Make::default());
+        assert_eq!(calls::make_table(space.part(offset, CELLS + 3)), Made::default());
         assert!(space.0 == Space::new(offset, &made).0, "offset {offset}");
-        assert_eq!(calls::make_table(space.part(offset, CELLS - 1)), Make { refusal: 7, place: 0 });
+        assert_eq!(calls::make_table(space.part(offset, CELLS - 1)), Made { refusal: 7, place: 0 });
         assert!(space.0 == Space::new(offset, &made).0, "refused, offset {offset}");
     }
 }
@@ -91,8 +93,8 @@ fn runs_at_any_address() {
         let trace = run(table.as_ref().unwrap_or(&made), dividend, divisor, DIGITS);
         let (quotient, remainder) = (trace.quotient as u64, trace.remainder as u64);
         let (want, written) = match refusal {
-            0 => (Run { refusal, place, quotient, remainder, digits: DIGITS as u64 }, &trace.digits[..]),
-            _ => (Run { refusal, place, ..Default::default() }, &[][..]),
+            0 => (Ran { refusal, place, quotient, remainder, digits: DIGITS as u64 }, &trace.digits[..]),
+            _ => (Ran { refusal, place, ..Default::default() }, &[][..]),
         };
         for offset in OFFSETS {
             let lend = |lent: Option<&[u8]>| {

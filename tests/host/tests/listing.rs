@@ -1,9 +1,11 @@
+//! All that `listing` prints on drawn, damaged, short and long inputs, against the other check.
+//!
 //! Would catch a listing that leaves out or adds a bad cell, prints a wrong witness or number, or takes input of the
 //! wrong length for a table: the program is run on whole inputs and all that it prints is compared.
 //! The draws are from the fixed seed below.
-use host::document::{rule, CELLS};
 use host::draw::Draw;
 use host::programs::printed;
+use host::specification::{rule, CELLS};
 
 const SEED: u64 = 0x5EED_0010;
 

@@ -1,10 +1,12 @@
+//! The divisions, tables and refusals of ONE-WRONG-CELL.md.
+//!
 //! Would catch a check that lets a wrong cell through: a table with a single digit changed divides some operands wrongly,
 //! and so does the one with the 1994 Pentium's five cells; every call must refuse both. The made table with these cells
 //! divides all rightly, and is refused too. docs/ONE-WRONG-CELL.md tells the story with these numbers. The draws are from
 //! the fixed seed below.
-use host::calls::{self, Binary64, Run, Samples, Whole};
-use host::document::{breaks, rule, run, run_by, seven, Trace, EIGHT, SEVEN};
+use host::calls::{self, Binary64, Ran, Samples, Whole};
 use host::draw::Draw;
+use host::specification::{breaks, rule, run, run_by, seven, Trace, EIGHT, SEVEN};
 
 const SEED: u64 = 0x5EED_0991;
 const DIGITS: usize = 28;
@@ -164,7 +166,7 @@ fn the_division_of_1994_by_seven_bits() {
         assert_eq!(answer, 4195579.0 / 3145727.0);
         assert_eq!(4195835.0 - answer * 3145727.0, 256.0);
         // by eight bits it does not come to the cell, and is right
-        let eight = host::document::run(&table, DIVIDEND_1994, DIVISOR_1994, DIGITS);
+        let eight = host::specification::run(&table, DIVIDEND_1994, DIVISOR_1994, DIGITS);
         assert_eq!((met(&eight), eight.quotient), (vec![], right.quotient));
     }
 }
@@ -185,7 +187,7 @@ fn every_call_refuses_the_tables_and_right_ones_divide_rightly() {
     for (table, place) in [(&one_wrong()[..], 603), (PENTIUM, 215)] {
         let mut buffer = [7u8; DIGITS];
         let ran = calls::run(Some(table), DIVIDEND, DIVISOR, DIGITS, &mut buffer, 0);
-        assert_eq!(ran, Run { refusal: 10, place, ..Default::default() });
+        assert_eq!(ran, Ran { refusal: 10, place, ..Default::default() });
         assert_eq!(buffer, [7; DIGITS]);
         let whole = calls::divide_whole(Some(table), 3175, 1343);
         assert_eq!(whole, Whole { refusal: 10, place, ..Default::default() });

@@ -1,3 +1,5 @@
+//! A million packed divisions, and every byte in every place, against decimal text and the machine's division.
+//!
 //! Would catch a packed quotient or remainder with a wrong digit, half bytes or bytes in a wrong order, the two exchanged, a half byte above
 //! 9 that is let through, a wrong place of it, a zero divisor that is refused before it or not at all, values beside a refusal, and a byte
 //! that is read or written outside the two operands. Bytes and numbers are made from each other through decimal text, and the numbers are

@@ -1,10 +1,12 @@
+//! The picture that `plot` draws is read back, cell by cell, and held against the other check.
+//!
 //! Would catch a plot with a cell left out, drawn twice, in a wrong place or in another digit's colour, one faded or
 //! outlined that is not so or the reverse, a title that names another cell, digit or allowed digits, a wrong count,
 //! lines or axes that do not fit the cells: the picture is read back and held against the other table check. The draws
 //! are from the fixed seed below.
-use host::document::{rule, seven, Rule, Unit, CELLS, EIGHT, SEVEN};
 use host::draw::Draw;
 use host::programs::{printed, printed_with};
+use host::specification::{rule, seven, Rule, Unit, CELLS, EIGHT, SEVEN};
 use host::svg::{colour, elements, lines, rectangle, styles, Element, Rectangle, Spot};
 use std::collections::BTreeMap;
 

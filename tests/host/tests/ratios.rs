@@ -1,3 +1,6 @@
+//! Ten million comparisons, with neighbours and equal ratios, against products in 128 bits; the order of quotients and of
+//! roots.
+//!
 //! Would catch a comparison of two ratios that is not that of the products, above all of neighbours and of equal ratios in other
 //! terms; one that forgets to exchange the two as the remainders become divisors, or that ends too early; and a refusal that is
 //! missing, raised without its condition, out of order or with a number beside it. Would catch a binary64 quotient that is smaller
@@ -5,8 +8,8 @@
 //! below.
 use host::calls::{compare_ratios, divide_binary64, divide_samples, root_binary64, Comparison};
 use host::dividers::SIGN;
-use host::document::rule;
 use host::draw::{landmarks, Draw};
+use host::specification::rule;
 use std::cmp::Ordering;
 
 const SEED: u64 = 0x5EED_1400;

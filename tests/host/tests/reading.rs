@@ -1,7 +1,9 @@
+//! `listing`, `repair` and `plot` where a read fails or gives fewer bytes.
+//!
 //! Would catch a program that takes a read which fails after some bytes for the end of its input, or one that gives fewer
 //! bytes than were asked for: its input is a socket that gives some bytes and then fails, or whose last byte comes late.
-use host::document::rule;
 use host::programs::{fed, written};
+use host::specification::rule;
 
 const READERS: [&str; 3] = ["listing", "repair", "plot"];
 

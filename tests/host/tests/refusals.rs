@@ -1,7 +1,9 @@
+//! Every refusal of every call, alone and with others: number, place, order, zeros, and buffers as they were.
+//!
 //! Would catch a refusal that is missing, raised without its condition, out of order, with a wrong place or with values
 //! that are not zeros, and a call that touches a lent buffer when it refuses or writes past its end.
-use host::calls::{self, Binary64, Cell, Limits, Make, Repair, Root, Run, Samples, Stepped, Table, Whole};
-use host::document::{rule, run, seven, CELLS};
+use host::calls::{self, Binary64, Cell, Limits, Made, Ran, Repaired, Report, Root, Samples, Stepped, Whole};
+use host::specification::{rule, run, seven, CELLS};
 
 const CANARY: u8 = 0xA5;
 
@@ -51,7 +53,7 @@ fn whole_table() {
         let want = match refusal {
             // only 10 has more than number and place: the cells are counted and the first one's witness is given
             10 => rule().check(&table),
-            _ => Table { refusal, place, ..Default::default() },
+            _ => Report { refusal, place, ..Default::default() },
         };
         assert_eq!(got, want);
     }
@@ -92,10 +94,10 @@ fn maker() {
         let mut space = vec![CANARY; length + 64];
         let answer = calls::make_table(&mut space[32..32 + length]);
         if length < CELLS {
-            assert_eq!(answer, Make { refusal: 7, place: 0 });
+            assert_eq!(answer, Made { refusal: 7, place: 0 });
             assert!(space.iter().all(|&b| b == CANARY), "length {length}");
         } else {
-            assert_eq!(answer, Make::default());
+            assert_eq!(answer, Made::default());
             assert!(space[..32].iter().chain(&space[32 + CELLS..]).all(|&b| b == CANARY), "length {length}");
             assert_eq!(space[32..32 + CELLS], rule().made()[..]);
         }
@@ -148,7 +150,7 @@ fn bits_of_the_estimate() {
             let report = if bits == 7 { seven().check(table) } else { rule().check(table) };
             let got = calls::check_table_for(bits, table);
             match first(&[], (report.refusal, report.place)).0 {
-                17 => assert_eq!(got, Table { refusal: 17, ..Default::default() }, "{bits}"),
+                17 => assert_eq!(got, Report { refusal: 17, ..Default::default() }, "{bits}"),
                 _ => assert_eq!(got, report, "{bits}"),
             }
             for (room, marks) in [(0, 0), (CELLS, CELLS - 1), (CELLS - 1, CELLS), (CELLS, CELLS), (CELLS + 9, CELLS)] {
@@ -160,7 +162,7 @@ fn bits_of_the_estimate() {
                 if refusal == 0 {
                     assert_eq!((got.refusal, got.place), (0, 0), "{bits}");
                 } else {
-                    assert_eq!(got, Repair { refusal, place, ..Default::default() }, "{bits}");
+                    assert_eq!(got, Repaired { refusal, place, ..Default::default() }, "{bits}");
                     assert!(space.iter().all(|&b| b == CANARY), "{bits}: a refused repair touched a buffer");
                 }
             }
@@ -168,7 +170,7 @@ fn bits_of_the_estimate() {
         for length in [0, 1, 2047, 2048, 2049] {
             let (refusal, place) = first(&[(7, length < CELLS)], (0, 0));
             let mut space = vec![CANARY; length + 64];
-            assert_eq!(calls::make_table_for(bits, &mut space[32..32 + length]), Make { refusal, place }, "{bits}");
+            assert_eq!(calls::make_table_for(bits, &mut space[32..32 + length]), Made { refusal, place }, "{bits}");
             let untouched = space.iter().all(|&b| b == CANARY);
             assert_eq!(untouched, refusal != 0, "{bits}, length {length}");
         }
@@ -218,13 +220,13 @@ fn runs() {
                     let mut space = vec![CANARY; length + 64];
                     let got = calls::run(table, dividend, divisor, digits, &mut space[32..32 + length], place);
                     if refusal != 0 {
-                        assert_eq!(got, Run { refusal, place: at, ..Default::default() });
+                        assert_eq!(got, Ran { refusal, place: at, ..Default::default() });
                         assert!(space.iter().all(|&b| b == CANARY), "a refused run touched its buffer");
                         continue;
                     }
                     let trace = run(table.unwrap_or(&made), dividend, divisor, digits);
                     let (quotient, remainder) = (trace.quotient as u64, trace.remainder as u64);
-                    assert_eq!(got, Run { refusal: 0, place: 0, quotient, remainder, digits: digits as u64 });
+                    assert_eq!(got, Ran { refusal: 0, place: 0, quotient, remainder, digits: digits as u64 });
                     let mut want = vec![CANARY; length + 64];
                     want[32 + place..32 + place + digits].copy_from_slice(&trace.digits);
                     assert_eq!(space, want);

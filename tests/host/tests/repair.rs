@@ -1,11 +1,13 @@
+//! 6,000 repairs of drawn tables, by call and program, against the other cell rule.
+//!
 //! Would catch a repair that changes a cell which may stay, leaves one which may not, writes a digit that is not the made
 //! one, marks or counts otherwise, or touches a byte behind the 2,048: the call against the specification's rule, on drawn
 //! tables with 0 to 2,048 changed bytes and buffers longer than needed; the program's table and text on such tables. The
 //! draws are from the fixed seed below.
-use host::calls::{check_table, repair_table, Repair};
-use host::document::{rule, CELLS};
+use host::calls::{check_table, repair_table, Repaired};
 use host::draw::Draw;
 use host::programs::written;
+use host::specification::{rule, CELLS};
 
 const SEED: u64 = 0x5EED_0011;
 const CANARY: u8 = 0x5A;
@@ -122,7 +124,7 @@ fn refusals() {
                 let mut repaired = vec![CANARY; 2 * CELLS + 8];
                 let mut changed = vec![!CANARY; 2 * CELLS + 8];
                 let got = repair_table(&table, &mut repaired[..room], &mut changed[..marks]);
-                assert_eq!(got, Repair { refusal, place: 0, count: 0 }, "table {size}, room {room}, marks {marks}");
+                assert_eq!(got, Repaired { refusal, place: 0, count: 0 }, "table {size}, room {room}, marks {marks}");
                 assert!(repaired.iter().all(|&b| b == CANARY) && changed.iter().all(|&b| b == !CANARY));
             }
         }
@@ -145,7 +147,7 @@ fn at_any_address() {
             &mut left[offset..offset + CELLS],
             &mut right[2 * offset + 1..2 * offset + 1 + CELLS],
         );
-        assert_eq!(got, Repair { refusal: 0, place: 0, count });
+        assert_eq!(got, Repaired { refusal: 0, place: 0, count });
         let mut all = vec![CANARY; 4 * CELLS];
         all[offset..offset + CELLS].copy_from_slice(&want);
         let start = CELLS + 64 + 2 * offset + 1;

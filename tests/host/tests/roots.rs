@@ -1,3 +1,5 @@
+//! 12 million binary64 roots against the processor and an exact root in 128 bits; whole roots round squares.
+//!
 //! Would catch a root or a flag that differs from IEEE 754: a digit too few, a remainder that is not below, a lost sticky
 //! bit, an odd exponent taken as even, a wrong rounding, a wrong sign or flag of a zero, of a number below zero, of an
 //! infinity or of a not-a-number; and a whole root or remainder that is off by one. The draws are from the fixed seed below.

@@ -1,8 +1,10 @@
+//! 300,000 kept runs, and 20,000 through 50 other tables, against the step made bit by bit; every byte of the buffer.
+//!
 //! Would catch a run whose digits are not the table's, whose quotient or remainder is not that of the division, which
 //! pads or shortens its digits, or which writes a byte outside the n it was lent. The draws are from the fixed seed below.
 use host::calls;
-use host::document::{rule, run};
 use host::draw::Draw;
+use host::specification::{rule, run};
 
 const SEED: u64 = 0x5EED_0031;
 
@@ -22,7 +24,7 @@ fn check(lent: Option<&[u8]>, model: &[u8], dividend: u64, divisor: u64, digits:
     want[place..place + digits].copy_from_slice(&trace.digits);
     let mut buffer = before;
     let got = calls::run(lent, dividend, divisor, digits, &mut buffer, place);
-    let answer = calls::Run {
+    let answer = calls::Ran {
         refusal: 0,
         place: 0,
         quotient: trace.quotient as u64,

@@ -1,10 +1,12 @@
+//! Up to 1,000 samples against the single call, the processor and the exact divider; joined flags.
+//!
 //! Would catch a concentration that is not the single division's, or not the other dividers'; flags that are added and
 //! not joined, or joined over too many or too few samples; a wrong count; a word behind the last concentration that is
 //! written.
 use host::calls::{self, Samples};
 use host::dividers::{exact, processor};
-use host::document::rule;
 use host::draw::{landmarks, Draw};
+use host::specification::rule;
 
 const CANARY: u64 = 0xA5A5_5A5A_C3C3_3C3C;
 

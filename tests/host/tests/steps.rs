@@ -1,8 +1,10 @@
+//! 100,000 runs of 28 fed-back steps against the run and the step made bit by bit; 1,200,000 steps at the range's edge.
+//!
 //! Would catch a step that is not the run's: another digit, other words, exchanged words, a lost carry; a remainder at the edge
 //! of its range that is refused, or one beyond that is not. The draws are from the fixed seed below.
 use host::calls::{self, Stepped};
-use host::document::{rule, step, EIGHT};
 use host::draw::Draw;
+use host::specification::{rule, step, EIGHT};
 
 const SEED: u64 = 0x5EED_0091;
 

@@ -1,8 +1,10 @@
+//! 9,724 public vectors, on which processor, exact divider and unit have to agree.
+//!
 //! Would catch a public IEEE vector on which the unit, the processor and the exact divider, or the exact root, do not all
 //! give the vector's pattern and flags; and a file of vectors that is missing, cut short or not in its form.
 use host::calls::{divide_binary64, root_binary64, Binary64};
 use host::dividers::{exact, exact_root, processor, processor_root, signals};
-use host::document::rule;
+use host::specification::rule;
 
 /// The files, each with its number of lines.
 const FILES: [(&str, usize); 7] = [

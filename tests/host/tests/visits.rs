@@ -1,11 +1,13 @@
+//! Visits through the kept table and 20 drawn ones, against runs pair by pair; the picture of visits.
+//!
 //! Would catch a cell whose visits are off by one or counted for another cell, pairs or digits left out or counted twice, operands
 //! at another place, numbers of the list that are added to or touched though they are to be kept; a refusal that is missing, raised
 //! without its condition, out of order or with a wrong place; and a picture of visits with a cell left out, drawn twice, in a wrong
 //! place or shade, or with another number. The draws are from the fixed seed below.
 use host::calls::{count_visits, Visits};
-use host::document::{rule, run, CELLS, EIGHT};
 use host::draw::Draw;
 use host::programs::printed_with;
+use host::specification::{rule, run, CELLS, EIGHT};
 use host::svg::{elements, rectangle};
 use std::collections::BTreeSet;
 

@@ -1,8 +1,10 @@
+//! 9 million divisions of whole numbers, of every pair of lengths, against the machine's, and multiplied back.
+//!
 //! Would catch a whole-number quotient or remainder that is off: a normalising shift lost, a digit too few, a wrong end
 //! correction, an edge of the spans taken wrongly. The draws are from the fixed seed below.
 use host::calls::{divide_whole, Whole};
-use host::document::rule;
 use host::draw::Draw;
+use host::specification::rule;
 
 const SEED: u64 = 0x5EED_0060;
 const TOP: u64 = (1 << 60) - 1;

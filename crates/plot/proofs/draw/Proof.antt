@@ -7,7 +7,7 @@ use Rattle.plot.proofs.draw.Tie as tie
 pub draw-spec : {M : Type 1} → statement M
 draw-spec =
     tie.close (tie.spec (λ c κs. search needs) (λ c. search needs) (λ c κs. search needs) (λ c κs. search needs)
-    (λ c κs. let t = c .before .before .before in passed-table _ (t .before .before .check-table .ensures .1) (t .enum-told .given .1))
+    (λ c κs. let t = c .before .before .before in passed-table _ _ (t .before .before .check-table .ensures) (t .enum-told .given .1))
     (λ c. search needs) (λ c κs. search needs) (λ c κs. search needs)
-    (λ c κs. let t = c .before .before .before .before in bad-table _ (t .before .before .check-table .ensures .1) (t .outcome .given .1)) (λ c. search needs) (λ c κs. search needs)
+    (λ c κs. let t = c .before .before .before .before in bad-table _ _ (t .before .before .check-table .ensures) (t .outcome .given .1)) (λ c. search needs) (λ c κs. search needs)
     (λ c. search needs) (λ c. search needs) (λ c. search needs) (λ c. search needs) (λ c. search needs))

@@ -1,7 +1,7 @@
 -- `argument_refusal` meets its contract: 2, then 3, then 7.
 use Rattle.laws.proofs.Basics.{needs, arith, _+_, _≤_, _<_}
 use Rattle.laws.proofs.Tests.{tests}
-use Rattle.recurrence.specs.Run.{runRules}
+use Rattle.recurrence.specs.computed.Run.{runRules}
 use Rattle.recurrence.proofs.argument_refusal.Statement.{statement}
 use Rattle.recurrence.proofs.argument_refusal.Tie as tie
 

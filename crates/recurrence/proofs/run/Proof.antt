@@ -1,8 +1,7 @@
 -- `run` meets its contract: the arguments' refusal, then the table's, else the run through the table.
-use Rattle.laws.proofs.Basics.{refl, sym, ap, _∙_, now, needs}
-use Rattle.selection.proofs.Orders.{admitted-both}
-use Rattle.recurrence.specs.Run.{runValues}
-use Rattle.recurrence.proofs.Refusals.{spans, run-answered}
+use Rattle.laws.proofs.Basics.{refl, sym, _∙_, needs}
+use Rattle.selection.proofs.TableRefusals.{admitted-both, first-lent}
+use Rattle.recurrence.proofs.Refusals.{spans}
 use Rattle.recurrence.proofs.run.Statement.{statement}
 use Rattle.recurrence.proofs.run.Tie as tie
 use Rattle.selection.specs.declared.Estimate.the-variants.{EightBits}
@@ -15,15 +14,14 @@ run-admitted-requires c κs =
 returns : tie.Need-returns
 returns c =
     let k = c .before .before .before .before in
-    run-answered _ _ _ _ _ _ (k .before .argument-refusal .ensures) (k .admit-after .ensures) (c .before .before .admission .given .1) (c .zeros .ensures, refl)
+    rw (first-lent EightBits _ _ (k .admit-after .ensures) (k .before .argument-refusal .ensures) (c .before .before .admission .given .1), c .zeros .ensures) refl
 
 returns-2 : tie.Need-returns-2
 returns-2 c =
     let ran = c .before .before .before in
     let told = ran .before .before in
     let k = told .before .before in
-    run-answered _ _ _ _ (now (k .before .before .before .before .args .buffer)) _ (k .before .argument-refusal .ensures) (k .admit-after .ensures) (told .enum-told .given .1)
-    (c .values .ensures ∙ ap runValues (ran .run-admitted .ensures .1), ran .run-admitted .ensures .0)
+    rw (first-lent EightBits _ _ (k .admit-after .ensures) (k .before .argument-refusal .ensures) (told .enum-told .given .1), c .values .ensures, ran .run-admitted .ensures .1, ran .run-admitted .ensures .0) refl
 
 pub run-spec : {M : Type 1} → statement M
 run-spec =

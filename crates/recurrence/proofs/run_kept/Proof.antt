@@ -1,9 +1,9 @@
 -- `run_kept` meets its contract: the kept table passes, so only the arguments can be refused.
-use Rattle.laws.proofs.Basics.{refl, sym, ap, _∙_, now, needs}
-use Rattle.selection.specs.Computed.{madeTable}
+use Rattle.laws.proofs.Basics.{refl, sym, _∙_, needs}
+use Rattle.selection.specs.computed.Outcomes.{madeTable}
 use Rattle.selection.proofs.MadeTables.{kept-passes}
-use Rattle.recurrence.specs.Run.{runValues}
-use Rattle.recurrence.proofs.Refusals.{spans, kept-last, run-answered}
+use Rattle.selection.proofs.TableRefusals.{first-kept}
+use Rattle.recurrence.proofs.Refusals.{spans}
 use Rattle.recurrence.proofs.Rows.{row-of-kept}
 use Rattle.recurrence.proofs.run_kept.Statement.{statement}
 use Rattle.recurrence.proofs.run_kept.Tie as tie
@@ -17,7 +17,7 @@ run-part-requires c κs =
 returns : tie.Need-returns
 returns c =
     let k = c .before .before .before .before in
-    run-answered (madeTable EightBits) _ _ _ _ _ (k .argument-refusal .ensures) (kept-last _) (c .before .before .admission .given .1) (c .zeros .ensures, refl)
+    rw (first-kept EightBits _ (k .argument-refusal .ensures) (c .before .before .admission .given .1), c .zeros .ensures) refl
 
 returns-2 : tie.Need-returns-2
 returns-2 c =
@@ -25,7 +25,7 @@ returns-2 c =
     let row = ran .before .before .before in
     let k = row .before .before .before in
     let r = ran .run-part .ensures (madeTable EightBits) (kept-passes EightBits) (row .kept-row .ensures) in
-    run-answered (madeTable EightBits) _ _ _ (now (k .before .before .args .buffer)) _ (k .argument-refusal .ensures) (kept-last _) (row .before .enum-told .given .1) (c .values .ensures ∙ ap runValues (r .1), r .0)
+    rw (first-kept EightBits _ (k .argument-refusal .ensures) (row .before .enum-told .given .1), c .values .ensures, r .1, r .0) refl
 
 pub run-kept-spec : {M : Type 1} → statement M
 run-kept-spec =

@@ -1,6 +1,6 @@
 use Rattle.laws.proofs.Basics.{ap, _∙_, List, ℕ, needs, arith}
 use Rattle.recurrence.specs.Recurrence.{digits, resultOf}
-use Rattle.recurrence.specs.Run.{written}
+use Rattle.recurrence.specs.computed.Run.{written}
 use Rattle.laws.proofs.Lists.{part-length, put-back}
 use Rattle.recurrence.proofs.run_part.Statement.{statement}
 use Rattle.recurrence.proofs.run_part.Tie as tie

@@ -1,6 +1,7 @@
 use Rattle.laws.proofs.Basics.{needs, _≡_, sym, _∙_, arith, ℕ, _-_, _<_, List, length}
 use Rattle.selection.specs.Cell.{row}
-use Rattle.selection.specs.Table.{Passes, rowBytes}
+use Rattle.selection.specs.Table.{Passes}
+use Rattle.selection.specs.computed.Table.{rowBytes}
 use Rattle.laws.proofs.Lists.{fill-none}
 use Rattle.recurrence.specs.Recurrence.{after}
 use Rattle.recurrence.proofs.Digits.{divisor-after}

@@ -9,8 +9,9 @@ use Rattle.repair.proofs.repair.Tie as tie
 abbrev start : tie.After-repair-table → tie.Start
 start r = r .before .before .before .before
 
-called : (r : tie.After-repair-table) → Called (start r .args .estimate) (start r .args .bytes .now) (start r .args .table .now) (replicate 2048 0) (r .repair-table .result)
-called r = record { table-room = omega arith; marks-room = length-replicate {A = ℕ} 2048 0; answer = r .repair-table .ensures .0 }
+called : (r : tie.After-repair-table)
+    → Called (start r .args .estimate) (start r .args .bytes .now) (start r .args .table .now) (replicate 2048 0) (record { answer = r .repair-table .result; repaired = r .repair-table .last .1 .1 .0; changed = r .repair-table .last .1 .1 .1 .0 })
+called r = record { table-room = omega arith; marks-room = length-replicate {A = ℕ} 2048 0; outcome = r .repair-table .ensures }
 
 returns : tie.Need-returns
 returns c =
@@ -24,12 +25,12 @@ returns-2 c =
     let e = c .before .before .before .before in
     let r = e .before .before .before in
     let table = r .repair-table .last .1 .1 .0 in
-    let whole = sizes _ (called r) (e .if1 .left) (r .repair-table .ensures .1) in
+    let whole = sizes _ (called r) (e .if1 .left) in
     let text = c .append-changes .ensures .0 in
-    let writes = writes-table _ (called r) (e .if1 .left) (r .repair-table .ensures .1) (appended-take text) in
+    let writes = writes-table _ (called r) (e .if1 .left) (appended-take text) in
     (rw (take-all 2048 table (omega arith)) writes, (counts table (omega arith), counts (c .append-changes .last .0) (omega (arith, appended-size text (omega arith)))))
 
 pub repair-spec : {M : Type 1} → statement M
 repair-spec =
     tie.close (tie.spec (λ c. search needs) (λ c κs. search needs) (λ c κs. search needs) returns
-    (λ c κs. let e = c .before .before .before in let r = e .before .before .before in omega (arith, sizes _ (called r) (e .if1 .left) (r .repair-table .ensures .1))) returns-2)
+    (λ c κs. let e = c .before .before .before in let r = e .before .before .before in omega (arith, sizes _ (called r) (e .if1 .left))) returns-2)

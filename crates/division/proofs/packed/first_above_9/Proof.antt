@@ -2,7 +2,7 @@
 use Rattle.laws.proofs.Basics.{_≤_, _-_, _≡_, refl, sym, _∙_, arith, needs}
 use Rattle.laws.specs.Search.{firstFrom}
 use Rattle.laws.proofs.Search.{first-here, first-on, first-end}
-use Rattle.division.specs.Packed.{operandByte, isAbove9, firstAbove9}
+use Rattle.division.specs.computed.Packed.{operandByte, isAbove9, firstAbove9}
 use Rattle.division.proofs.packed.first_above_9.Statement.{statement}
 use Rattle.division.proofs.packed.first_above_9.Tie as tie
 

@@ -1,7 +1,7 @@
 -- `comparison_of` meets its contract: the whole parts or the remainders tell, or the next two ratios compare alike, over a smaller sum of their divisors.
 use native.Mathlib.Nat.{pos-of-ne-zero}
 use Rattle.laws.proofs.Basics.{_≡_, refl, sym, _∙_, _+_, _*_, arith, needs}
-use Rattle.division.specs.Ratios.{Ratios, Round, comparisonOf}
+use Rattle.division.specs.computed.Ratios.{Ratios, Round, comparisonOf}
 use Rattle.division.proofs.Ratios.{code-round, round-again, round-falls}
 use Rattle.division.proofs.ratio.comparison_of.Statement.{statement}
 use Rattle.division.proofs.ratio.comparison_of.Tie as tie

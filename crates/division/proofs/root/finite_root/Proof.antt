@@ -8,16 +8,16 @@ rounded-result-requires : tie.Need-rounded-result-requires
 rounded-result-requires c κs =
     let w = c .before .before in
     let s = w .before .before .before .before .before in
-    rounded-ready _ _ (s .before .pre .0) (s .significand .ensures .0) _ _ (w .before .before .root-digits .ensures) (w .with-sticky .ensures)
+    rounded-ready (s .before .args .p) _ (s .before .pre .0) (s .significand .ensures .0) _ _ (w .before .before .root-digits .ensures) (w .with-sticky .ensures)
 
 returns : tie.Need-returns
 returns c =
     let w = c .before .before .before in
     let s = w .before .before .before .before .before in
-    finite-root-is _ _ (s .before .pre .0) (s .significand .ensures .0) _ _ (w .before .before .root-digits .ensures) (w .with-sticky .ensures) _ (c .before .before .mode-of .ensures) (c .rounded-result .ensures)
+    finite-root-is (s .before .args .p) _ (s .before .pre .0) (s .significand .ensures .0) _ _ (w .before .before .root-digits .ensures) (w .with-sticky .ensures) _ (c .before .before .mode-of .ensures) (c .rounded-result .ensures)
 
 pub finite-root-spec : {M : Type 1} → statement M
 finite-root-spec =
     tie.close (tie.spec (λ c κs. search needs) (λ c. search needs)
-    (λ c κs. let s = c .before .before in (word-span _ _ (s .before .pre .0) (s .significand .ensures .0), omega arith, omega arith))
+    (λ c κs. let s = c .before .before in (word-span (s .before .args .p) _ (s .before .pre .0) (s .significand .ensures .0), omega arith, omega arith))
     (λ c κs. search needs) (λ c κs. search needs) (λ c. search needs) rounded-result-requires returns)

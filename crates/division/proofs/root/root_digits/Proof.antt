@@ -1,6 +1,6 @@
 -- `root_digits` meets its contract: a digit a step.
 use Rattle.laws.proofs.Basics.{_≡_, refl, suc, _-_, _*_, _^_, _≤_, arith, needs}
-use Rattle.division.specs.RootSteps.{DigitsTaken}
+use Rattle.division.specs.computed.RootSteps.{DigitsTaken}
 use Rattle.division.proofs.RootDigits.{none-taken}
 use Rattle.division.proofs.root.root_digits.Statement.{statement}
 use Rattle.division.proofs.root.root_digits.Tie as tie

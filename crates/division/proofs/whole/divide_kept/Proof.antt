@@ -2,7 +2,7 @@
 use Rattle.laws.proofs.Basics.{arith, needs}
 use Rattle.selection.proofs.MadeTables.{kept-passes}
 use Rattle.recurrence.proofs.Rows.{row-of-kept}
-use Rattle.division.proofs.Calls.{shifted-is}
+use Rattle.division.proofs.DivisionCalls.{shifted-is}
 use Rattle.division.proofs.whole.divide_kept.Statement.{statement}
 use Rattle.division.proofs.whole.divide_kept.Tie as tie
 use Rattle.selection.specs.declared.Estimate.the-variants.{EightBits}

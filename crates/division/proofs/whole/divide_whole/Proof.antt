@@ -1,7 +1,7 @@
 -- `divide_whole` meets its contract: the arguments' refusal, then the table's, else the quotient through the table.
 use Rattle.laws.proofs.Basics.{sym, _∙_, needs}
-use Rattle.selection.proofs.Orders.{admitted-both, first-lent}
-use Rattle.division.proofs.Calls.{whole-spans}
+use Rattle.selection.proofs.TableRefusals.{admitted-both, first-lent}
+use Rattle.division.proofs.DivisionCalls.{whole-spans}
 use Rattle.division.proofs.whole.divide_whole.Statement.{statement}
 use Rattle.division.proofs.whole.divide_whole.Tie as tie
 use Rattle.selection.specs.declared.Estimate.the-variants.{EightBits}

@@ -1,7 +1,7 @@
 -- `divide_whole_kept` meets its contract: the kept table passes, so only the arguments can be refused.
 use Rattle.laws.proofs.Basics.{sym, _∙_, needs}
-use Rattle.selection.proofs.Orders.{first-kept}
-use Rattle.division.proofs.Calls.{whole-spans}
+use Rattle.selection.proofs.TableRefusals.{first-kept}
+use Rattle.division.proofs.DivisionCalls.{whole-spans}
 use Rattle.division.proofs.whole.divide_whole_kept.Statement.{statement}
 use Rattle.division.proofs.whole.divide_whole_kept.Tie as tie
 use Rattle.selection.specs.declared.Estimate.the-variants.{EightBits}

@@ -1,6 +1,6 @@
 -- `shifted` meets its contract: quotient and remainder are those of the run.
 use borrow.Author.Needs.{needs}
-use Rattle.division.specs.WholeSteps.{shiftedThrough}
+use Rattle.division.specs.computed.WholeSteps.{shiftedThrough}
 use Rattle.division.proofs.whole.shifted.Statement.{statement}
 use Rattle.division.proofs.whole.shifted.Tie as tie
 

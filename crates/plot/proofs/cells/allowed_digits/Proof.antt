@@ -1,6 +1,6 @@
 -- `plot::cells::allowed_digits` meets its contract: each entry is what `allowed` says.
 use borrow.Author.Needs.{needs}
-use Rattle.laws.proofs.Tests.{up-to-four}
+use Rattle.selection.proofs.DigitBytes.{up-to-four}
 use Rattle.plot.proofs.cells.allowed_digits.Statement.{statement}
 use Rattle.plot.proofs.cells.allowed_digits.Tie as tie
 

@@ -1,7 +1,6 @@
 -- `affected_run` meets its contract: the first refusal, or else the mark.
-use Rattle.laws.proofs.Basics.{refl, sym, ap, _∙_, needs}
-use Rattle.recurrence.specs.Recheck.{markValues}
-use Rattle.recurrence.proofs.RecheckRun.{affected-run-accepts, affected-run-answer}
+use Rattle.laws.proofs.Basics.{sym, _∙_, needs}
+use Rattle.recurrence.proofs.RecheckRun.{affected-run-accepts}
 use Rattle.recurrence.proofs.recheck.affected_run.Statement.{statement}
 use Rattle.recurrence.proofs.recheck.affected_run.Tie as tie
 
@@ -11,5 +10,5 @@ run-mark-requires c κs = let k = affected-run-accepts _ _ _ _ (sym (c .before .
 pub affected-run-spec : {M : Type 1} → statement M
 affected-run-spec =
     tie.close (tie.spec (λ c κs. search needs) (λ c. search needs) (λ c. search needs) run-mark-requires (λ c. search needs)
-    (λ c. affected-run-answer _ _ _ _ _ (sym (c .before .before .before .refusal-of .ensures) ∙ c .before .admission .given .1) refl)
-    (λ c. affected-run-answer _ _ _ _ _ (sym (c .before .before .before .refusal-of .ensures) ∙ c .before .enum-told .given .1) (ap markValues (c .run-mark .ensures))))
+    (λ c. rw (sym (c .before .before .before .refusal-of .ensures) ∙ c .before .admission .given .1))
+    (λ c. rw (sym (c .before .before .before .refusal-of .ensures) ∙ c .before .enum-told .given .1, c .run-mark .ensures)))

@@ -2,8 +2,8 @@
 use Rattle.laws.proofs.Basics.{needs, _≡_, arith, ℕ, _≤_, _<_, _-_, List}
 use Rattle.selection.specs.Cell.{row}
 use Rattle.selection.specs.declared.Estimate.{Estimate}
-use Rattle.selection.specs.Table.{rowBytes}
-use Rattle.recurrence.specs.FastRun.{maskOf}
+use Rattle.selection.specs.computed.Table.{rowBytes}
+use Rattle.recurrence.specs.computed.FastRun.{maskOf}
 use Rattle.recurrence.proofs.RecheckRow.{Followed, row-size, followed-start, followed-above, followed-strayed, followed-more, followed-all, column-below}
 use Rattle.recurrence.proofs.Loop.{stands-divisor}
 use Rattle.recurrence.proofs.recheck.recheck_row.Statement.{statement}

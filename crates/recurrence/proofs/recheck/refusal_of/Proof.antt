@@ -1,7 +1,7 @@
 -- `refusal_of` meets its contract: 2, then 3, then 8.
 use Rattle.laws.proofs.Basics.{needs}
 use Rattle.laws.proofs.Tests.{tests}
-use Rattle.recurrence.specs.Recheck.{affectedRunRules}
+use Rattle.recurrence.specs.computed.Recheck.{affectedRunRules}
 use Rattle.recurrence.proofs.recheck.refusal_of.Statement.{statement}
 use Rattle.recurrence.proofs.recheck.refusal_of.Tie as tie
 

@@ -1,7 +1,7 @@
 -- `step::refusal_of` meets its contract: 3, then 14.
 use Rattle.laws.proofs.Basics.{needs, sym, _∙_, arith, _+_, _*_, _/_, _%_, _^_, _≤_, _<_}
-use Rattle.recurrence.specs.Step.{stepRules}
-use Rattle.recurrence.specs.FastRun.{distanceOf}
+use Rattle.recurrence.specs.computed.Step.{stepRules}
+use Rattle.recurrence.specs.computed.FastRun.{distanceOf}
 use Rattle.laws.proofs.Tests.{tests}
 use Rattle.recurrence.proofs.StepRange.{outside, inside, by-range, by-neither}
 use Rattle.recurrence.proofs.step.refusal_of.Statement.{statement}

@@ -1,10 +1,10 @@
 -- `step::step` meets its contract: the arguments' refusal, then the table's, else the run's step.
 use Rattle.laws.proofs.Basics.{needs, sym, ap, _∙_}
-use Rattle.selection.proofs.Orders.{admitted-both}
-use Rattle.recurrence.specs.FastRun.{stateOf}
+use Rattle.selection.proofs.TableRefusals.{admitted-both, first-lent}
+use Rattle.recurrence.specs.computed.FastRun.{stateOf}
 use Rattle.recurrence.specs.declared.state.RunState.{RunState}
-use Rattle.recurrence.specs.Step.{stepValues}
-use Rattle.recurrence.proofs.StepRange.{step-span, step-answered}
+use Rattle.recurrence.specs.computed.Step.{stepValues}
+use Rattle.recurrence.proofs.StepRange.{step-span}
 use Rattle.recurrence.proofs.step.step.Statement.{statement}
 use Rattle.recurrence.proofs.step.step.Tie as tie
 use Rattle.selection.specs.declared.Estimate.the-variants.{EightBits}
@@ -17,12 +17,12 @@ admitted-requires c κs =
 returns : tie.Need-returns
 returns c =
     let k = c .before .before .before .before in
-    step-answered _ _ _ _ (k .before .refusal-of .ensures) (k .admit-after .ensures) (c .before .before .admission .given .1) (c .zeros .ensures)
+    rw (first-lent EightBits _ _ (k .admit-after .ensures) (k .before .refusal-of .ensures) (c .before .before .admission .given .1)) (c .zeros .ensures)
 
 returns-2 : tie.Need-returns-2
 returns-2 c =
     let k = c .before .before .before .before in
-    step-answered _ _ _ _ (k .before .refusal-of .ensures) (k .admit-after .ensures) (c .before .before .enum-told .given .1)
+    rw (first-lent EightBits _ _ (k .admit-after .ensures) (k .before .refusal-of .ensures) (c .before .before .enum-told .given .1))
     (c .values .ensures ∙ ap (λ (p : RunState). stepValues (stateOf p)) (c .before .admitted .ensures))
 
 pub step-spec : {M : Type 1} → statement M

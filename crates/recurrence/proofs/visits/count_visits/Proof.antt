@@ -1,7 +1,7 @@
 -- `count_visits` meets its contract: the arguments' refusal, then the table's, else the visits.
 use Rattle.laws.proofs.Basics.{refl, sym, _∙_, needs}
-use Rattle.selection.proofs.Orders.{admitted-both}
-use Rattle.recurrence.proofs.VisitCounts.{visits-spans, visits-told}
+use Rattle.selection.proofs.TableRefusals.{admitted-both, first-lent}
+use Rattle.recurrence.proofs.VisitCounts.{visits-spans}
 use Rattle.recurrence.proofs.visits.count_visits.Statement.{statement}
 use Rattle.recurrence.proofs.visits.count_visits.Tie as tie
 use Rattle.selection.specs.declared.Estimate.the-variants.{EightBits}
@@ -14,13 +14,13 @@ visit-all-requires c κs =
 returns : tie.Need-returns
 returns c =
     let k = c .before .before .before in
-    visits-told _ _ _ _ (k .before .refusal-of .ensures) (k .admit-after .ensures) (c .before .admission .given .1) refl refl
+    rw (first-lent EightBits _ _ (k .admit-after .ensures) (k .before .refusal-of .ensures) (c .before .admission .given .1)) refl
 
 returns-2 : tie.Need-returns-2
 returns-2 c =
     let told = c .before .before .before .before in
     let k = told .before .before in
-    visits-told _ _ _ _ (k .before .refusal-of .ensures) (k .admit-after .ensures) (told .enum-told .given .1) refl (c .before .before .visit-all .ensures)
+    rw (first-lent EightBits _ _ (k .admit-after .ensures) (k .before .refusal-of .ensures) (told .enum-told .given .1), c .before .before .visit-all .ensures) refl
 
 pub count-visits-spec : {M : Type 1} → statement M
 count-visits-spec =

@@ -1,7 +1,7 @@
 -- `refusal_of` meets its contract: 2, then 16, then 7.
 use Rattle.laws.proofs.Basics.{needs}
 use Rattle.laws.proofs.Tests.{tests}
-use Rattle.recurrence.specs.Visits.{visitsRules}
+use Rattle.recurrence.specs.computed.Visits.{visitsRules}
 use Rattle.recurrence.proofs.visits.refusal_of.Statement.{statement}
 use Rattle.recurrence.proofs.visits.refusal_of.Tie as tie
 

@@ -1,6 +1,6 @@
 use Rattle.laws.proofs.Basics.{needs, arith, _+_, _*_, _-_}
-use Rattle.recurrence.specs.Visits.{runVisits}
-use Rattle.recurrence.specs.VisitSteps.{visitsByDivisors}
+use Rattle.recurrence.specs.computed.Visits.{runVisits}
+use Rattle.recurrence.specs.computed.VisitSteps.{visitsByDivisors}
 use Rattle.recurrence.proofs.Visiting.{Turned, turned-none, turned-more, turned-all, turned-room, run-most, placed-span}
 use Rattle.recurrence.proofs.visits.visit_divisors.Statement.{statement}
 use Rattle.recurrence.proofs.visits.visit_divisors.Tie as tie

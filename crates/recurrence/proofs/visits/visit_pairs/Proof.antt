@@ -1,5 +1,5 @@
 use Rattle.laws.proofs.Basics.{needs, arith, _+_, _*_, _-_}
-use Rattle.recurrence.specs.VisitSteps.{visitsByDivisors, visitsByPairs}
+use Rattle.recurrence.specs.computed.VisitSteps.{visitsByDivisors, visitsByPairs}
 use Rattle.recurrence.proofs.Visiting.{Turned, turned-none, turned-more, turned-all, turned-room, divisors-most, placed-span}
 use Rattle.recurrence.proofs.visits.visit_pairs.Statement.{statement}
 use Rattle.recurrence.proofs.visits.visit_pairs.Tie as tie

@@ -1,8 +1,8 @@
 use Rattle.laws.proofs.Basics.{needs, _≡_, arith, ℕ, _+_, _<_, _-_, List}
 use Rattle.selection.specs.Cell.{row}
-use Rattle.selection.specs.Table.{rowBytes}
+use Rattle.selection.specs.computed.Table.{rowBytes}
 use Rattle.recurrence.specs.Recurrence.{after}
-use Rattle.recurrence.specs.Visits.{runVisits}
+use Rattle.recurrence.specs.computed.Visits.{runVisits}
 use Rattle.recurrence.proofs.Digits.{divisor-after}
 use Rattle.recurrence.proofs.Loop.{stands-divisor}
 use Rattle.recurrence.proofs.Rows.{step-ready}

@@ -1,6 +1,6 @@
 use Rattle.laws.proofs.Basics.{needs}
-use Rattle.selection.specs.Answer.{cellNumbers, cellZeros}
-use Rattle.selection.specs.Computed.{cellOf}
+use Rattle.selection.specs.computed.Answer.{cellNumbers, cellZeros}
+use Rattle.selection.specs.computed.Outcomes.{cellOf}
 use Rattle.selection.proofs.ForBits.{by-refusal, by-estimate}
 use Rattle.selection.proofs.bits.check_cell_for.Statement.{statement}
 use Rattle.selection.proofs.bits.check_cell_for.Tie as tie

@@ -1,6 +1,7 @@
 use Rattle.laws.proofs.Basics.{now, needs}
-use Rattle.selection.specs.Answer.{reportNumbers, reportZeros}
-use Rattle.selection.specs.Computed.{reportOf}
+use Rattle.selection.specs.computed.Answer.{reportNumbers}
+use Rattle.selection.specs.Answer.{reportZeros}
+use Rattle.selection.specs.computed.Outcomes.{reportOf}
 use Rattle.selection.proofs.ForBits.{by-refusal, by-estimate}
 use Rattle.selection.proofs.bits.check_table_for.Statement.{statement}
 use Rattle.selection.proofs.bits.check_table_for.Tie as tie

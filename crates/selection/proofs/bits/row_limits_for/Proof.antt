@@ -1,6 +1,6 @@
 use Rattle.laws.proofs.Basics.{needs}
-use Rattle.selection.specs.Maker.{limitsZeros}
-use Rattle.selection.specs.Computed.{rowLimitsOf}
+use Rattle.selection.specs.computed.Maker.{limitsZeros}
+use Rattle.selection.specs.computed.Outcomes.{rowLimitsOf}
 use Rattle.selection.proofs.ForBits.{by-refusal, by-estimate}
 use Rattle.selection.proofs.bits.row_limits_for.Statement.{statement}
 use Rattle.selection.proofs.bits.row_limits_for.Tie as tie
@@ -16,7 +16,7 @@ returns-2 c =
     let k = c .before .before in
     let m = k .before .before in
     let a = m .before .args in
-    by-estimate (a .bits) limitsZeros (λ E. rowLimitsOf E (a .row)) (m .admit-bits .ensures) (k .enum-told .given .1) (c .before .estimate-of .ensures) (c .row-limits .ensures .0)
+    by-estimate (a .bits) limitsZeros (λ E. rowLimitsOf E (a .row)) (m .admit-bits .ensures) (k .enum-told .given .1) (c .before .estimate-of .ensures) (c .row-limits .ensures)
 
 pub row-limits-for-spec : {M : Type 1} → statement M
 row-limits-for-spec =

@@ -1,13 +1,13 @@
 -- `selection::kept::kept_table` meets its contract: antt computes the rule over the constant.
 use mathlib.Core.Path.{refl}
-use Rattle.selection.specs.Allowed.{allowsOf}
-use Rattle.selection.specs.Computed.{madeOf}
+use Rattle.selection.specs.computed.Allowed.{allowsOf}
+use Rattle.selection.specs.computed.Outcomes.{madeOf}
 use Rattle.selection.proofs.KeptLaws.{right, made-table}
-use Rattle.selection.proofs.MadeTables.{made-answer}
+use Rattle.selection.proofs.MadeTables.{made-bytes}
 use Rattle.selection.specs.declared.Estimate.the-variants.{EightBits}
 use Rattle.selection.proofs.kept.kept_table.Statement.{statement}
 use Rattle.selection.proofs.kept.kept_table.Tie as tie
 
 pub kept-table-spec : {M : Type 1} → statement M
 unfolding right madeOf allowsOf
-kept-table-spec = tie.close (tie.spec (λ c. made-answer EightBits (made-table EightBits refl tt)))
+kept-table-spec = tie.close (tie.spec (λ c. made-bytes EightBits (made-table EightBits refl tt)))

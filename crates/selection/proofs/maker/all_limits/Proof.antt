@@ -1,5 +1,5 @@
 use Rattle.laws.proofs.Basics.{ℕ, _≤_, _<_, _-_, _≡_, refl, List, [], arith, length, getD, length-set}
-use Rattle.selection.specs.Maker.{Limits}
+use Rattle.selection.specs.Maker.{AreLimits}
 use Rattle.laws.proofs.Lists.{set-more}
 use Rattle.selection.specs.declared.Estimate.{Estimate}
 use Rattle.selection.proofs.maker.all_limits.Statement.{statement}
@@ -9,7 +9,7 @@ use Rattle.selection.proofs.maker.all_limits.Tie as tie
 record Before (E : Estimate) (all : List (List ℕ)) (row : ℕ) : Type 0 where
   within : row ≤ 16
   size : length all ≡ 16
-  limits : (j : ℕ) → j < row → Limits E j (getD all j [])
+  limits : (j : ℕ) → j < row → AreLimits E j (getD all j [])
 
 abbrev Inv-loop : tie.InvT-loop
 Inv-loop estimate all₀ row₀ all row = Before estimate all row
@@ -20,7 +20,7 @@ abbrev μ-loop : tie.MeasureT-loop
 loop-again : tie.Need-loop-again Inv-loop μ-loop
 loop-again c =
     let l = c .before .before .loop in
-    record { within = omega arith; size = simp length-set (l .inv .size); limits = set-more (Limits _) (l .all) (l .row) _ _ (omega arith) (l .inv .limits) (c .limits-of .ensures .1) }
+    record { within = omega arith; size = simp length-set (l .inv .size); limits = set-more (AreLimits _) (l .all) (l .row) _ _ (omega arith) (l .inv .limits) (c .limits-of .ensures .1) }
 
 pub all-limits-spec : {M : Type 1} → statement M
 all-limits-spec =

@@ -1,5 +1,5 @@
 use Rattle.laws.proofs.Basics.{arith, needs}
-use Rattle.selection.specs.Computed.{limitsOf}
+use Rattle.selection.specs.computed.Outcomes.{limitsOf}
 use Rattle.selection.proofs.Rows.{columns}
 use Rattle.selection.proofs.Making.{limits-answer}
 use Rattle.selection.proofs.maker.limits_of.Statement.{statement}

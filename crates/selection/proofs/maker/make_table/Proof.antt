@@ -1,15 +1,16 @@
-use Rattle.laws.proofs.Basics.{ℕ, _≤_, _<_, _-_, _/_, _%_, _≡_, refl, sym, [], arith, length, getD, length-set, needs}
+use Rattle.laws.proofs.Basics.{ℕ, _≤_, _<_, _-_, _/_, _%_, _≡_, refl, sym, [], arith, length, getD, length-set, now, needs}
+use Rattle.laws.proofs.Tests.{tests}
 use Rattle.laws.specs.Lists.{filled}
 use Rattle.laws.proofs.Lists.{fill-none, fill-more}
-use Rattle.selection.specs.Computed.{madeAt}
-use Rattle.selection.specs.Maker.{Limits}
+use Rattle.selection.specs.computed.Outcomes.{madeAt}
+use Rattle.selection.specs.Maker.{AreLimits}
 use Rattle.selection.specs.declared.Estimate.{Estimate}
-use Rattle.selection.proofs.MadeTables.{made-at, make-done, make-refused}
+use Rattle.selection.proofs.MadeTables.{made-at, make-done}
 use Rattle.selection.proofs.maker.make_table.Statement.{statement}
 use Rattle.selection.proofs.maker.make_table.Tie as tie
 
 abbrev Inv-loop : tie.InvT-loop
-Inv-loop buffer₀ all k₀ buffer k = (k ≤ 2048) × (length buffer ≡ length buffer₀) × ((E : Estimate) → ((j : ℕ) → j < 16 → Limits E j (getD all j [])) → buffer ≡ filled (madeAt E) k buffer₀)
+Inv-loop buffer₀ all k₀ buffer k = (k ≤ 2048) × (length buffer ≡ length buffer₀) × ((E : Estimate) → ((j : ℕ) → j < 16 → AreLimits E j (getD all j [])) → buffer ≡ filled (madeAt E) k buffer₀)
 
 abbrev μ-loop : tie.MeasureT-loop
 μ-loop buffer₀ all k₀ buffer k = 2048 - k
@@ -21,10 +22,10 @@ loop-again c =
 
 pub make-table-spec : {M : Type 1} → statement M
 make-table-spec =
-    tie.close (tie.spec Inv-loop μ-loop (λ c. make-refused _ _ (c .if1 .taken)) (λ c κs. search needs)
+    tie.close (tie.spec Inv-loop μ-loop (λ c. search tests) (λ c κs. search needs)
     (λ c. (omega arith, refl, λ E all. sym (fill-none (madeAt E) _))) (λ c. omega arith) (λ c. omega arith) (λ c. omega arith)
     (λ c κs. search needs)
     (λ c. omega (arith, c .before .before .before .loop .inv .1))
     (λ c. omega arith) (λ c. omega arith) loop-again
     (λ c. c .before .loop .inv .1)
-    (λ c. let e : c .before .loop .k ≡ 2048 = omega arith in make-done _ _ (omega arith) (rw e at (c .before .loop .inv .2 _ (c .before .before .all-limits .ensures)))))
+    (λ c. let e : c .before .loop .k ≡ 2048 = omega arith in sym (make-done _ (now (c .before .before .before .before .before .args .buffer)) (omega arith) (rw e at (c .before .loop .inv .2 _ (c .before .before .all-limits .ensures))))))

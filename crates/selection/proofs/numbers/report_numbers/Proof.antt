@@ -1,5 +1,5 @@
 use Rattle.laws.proofs.Basics.{sym, ap, _∙_, needs}
-use Rattle.selection.specs.Answer.{outcomeNumbers}
+use Rattle.selection.specs.computed.Answer.{outcomeNumbers}
 use Rattle.selection.proofs.numbers.report_numbers.Statement.{statement}
 use Rattle.selection.proofs.numbers.report_numbers.Tie as tie
 

@@ -6,4 +6,4 @@ use Rattle.selection.proofs.numbers.table_numbers.Tie as tie
 pub table-numbers-spec : {M : Type 1} → statement M
 table-numbers-spec =
     tie.close (tie.spec (λ c κs. search needs)
-    (λ c κs. record { cell = λ b e. bad-cell _ (c .check-table .ensures .1) e }) (λ c. cc))
+    (λ c κs. record { cell = λ b e. bad-cell _ _ (c .check-table .ensures) e }) (λ c. cc))

@@ -2,15 +2,15 @@
 use Rattle.laws.proofs.Basics.{_+_, _*_, _-_, _≤_, _≡_, arith, needs, sym}
 use Rattle.laws.specs.Counting.{countBelow}
 use Rattle.laws.proofs.Counting.{count-start, count-most}
-use Rattle.selection.specs.Allowed.{isReplaced}
-use Rattle.selection.specs.Computed.{changeMark}
+use Rattle.selection.specs.computed.Allowed.{isFaulty}
+use Rattle.selection.specs.computed.Outcomes.{changeMark}
 use Rattle.selection.proofs.RepairRows.{RowFilled, row-begins, row-more, row-ends, count-mark, mark-is}
 use Rattle.selection.proofs.repair.mark_row.Statement.{statement}
 use Rattle.selection.proofs.repair.mark_row.Tie as tie
 
 abbrev Inv-loop : tie.InvT-loop
 Inv-loop table m changed₀ start count₀ c₀ changed count c =
-    RowFilled (changeMark (m .estimate) table) (m .row) changed₀ changed c × (count ≡ countBelow (λ c. isReplaced (m .estimate) table (128 * m .row + c)) c)
+    RowFilled (changeMark (m .estimate) table) (m .row) changed₀ changed c × (count ≡ countBelow (λ c. isFaulty (m .estimate) table (128 * m .row + c)) c)
 
 abbrev μ-loop : tie.MeasureT-loop
 μ-loop table m changed₀ start count₀ c₀ changed count c = 128 - c

@@ -3,10 +3,10 @@ use Rattle.laws.proofs.Basics.{_+_, _*_, _-_, _≤_, ℕ, _≡_, sym, ap₂, _�
 use Rattle.laws.proofs.Lists.{fill-none}
 use Rattle.laws.specs.Counting.{countBelow}
 use Rattle.laws.proofs.Counting.{count-start, count-most}
-use Rattle.selection.specs.Allowed.{isReplaced}
-use Rattle.selection.specs.Computed.{repairedByte, changeMark}
+use Rattle.selection.specs.computed.Allowed.{isFaulty}
+use Rattle.selection.specs.computed.Outcomes.{repairedByte, changeMark}
 use Rattle.selection.specs.declared.Estimate.{Estimate}
-use Rattle.selection.specs.RepairRows.{RepairedTo}
+use Rattle.selection.specs.computed.RepairRows.{RepairedTo}
 use Rattle.selection.proofs.Counts.{row-counted}
 use Rattle.selection.proofs.RepairRows.{rows-by, rows-more, rows-size, row-at}
 use Rattle.selection.proofs.repair.repair_rows.Statement.{statement}
@@ -34,7 +34,7 @@ byte-row-requires c κs =
 add-count : tie.Need-add-count Inv-loop μ-loop
 add-count c =
     let l = marks c .before .before .before .before in
-    omega (arith, l .loop .inv .1 .count, count-most (isReplaced (l .before .before .before .before .args .estimate) (l .before .before .before .before .args .table .now)) (128 * l .loop .row))
+    omega (arith, l .loop .inv .1 .count, count-most (isFaulty (l .before .before .before .before .args .estimate) (l .before .before .before .before .args .table .now)) (128 * l .loop .row))
 
 loop-again : tie.Need-loop-again Inv-loop μ-loop
 loop-again c =
@@ -45,12 +45,12 @@ loop-again c =
     let row = m .before .before .row-multiples .ensures .2 in
     let E = l .before .before .before .before .args .estimate in
     let t = l .before .before .before .before .args .table .now in
-    let n = m .mark-row .ensures .1 ∙ ap₂ (λ (z : Estimate) (r : ℕ). countBelow (λ c. isReplaced z t (128 * r + c)) 128) same row in (
+    let n = m .mark-row .ensures .1 ∙ ap₂ (λ (z : Estimate) (r : ℕ). countBelow (λ c. isFaulty z t (128 * r + c)) 128) same row in (
       omega arith,
       record {
         bytes = rows-more _ _ (l .loop .row) (i .bytes) (rows-by (λ z. repairedByte z t) _ same (c .before .before .byte-row .ensures)) row;
         marks = rows-more _ _ (l .loop .row) (i .marks) (rows-by (λ z. changeMark z t) _ same (m .mark-row .ensures .0)) row;
-        count = row-counted (isReplaced E t) (l .loop .row) (i .count) n;
+        count = row-counted (isFaulty E t) (l .loop .row) (i .count) n;
       },
     )
 

@@ -1,7 +1,7 @@
 use Rattle.laws.proofs.Basics.{now, _+_, _*_, _≡_, sym, arith, needs}
 use Rattle.laws.specs.Search.{firstFrom}
-use Rattle.selection.specs.Allowed.{isBadIn}
-use Rattle.selection.specs.Computed.{badReport, reportAt}
+use Rattle.selection.specs.computed.Allowed.{isBadIn}
+use Rattle.selection.specs.computed.Outcomes.{badReport, reportAt}
 use Rattle.selection.proofs.Reports.{report-in}
 use Rattle.selection.proofs.table.bad_report.Statement.{statement}
 use Rattle.selection.proofs.table.bad_report.Tie as tie

@@ -4,7 +4,7 @@ use Rattle.laws.specs.Counting.{countBelow}
 use native.Mathlib.Nat.{zero-add}
 use Rattle.laws.proofs.Search.{first-part}
 use Rattle.laws.proofs.Counting.{count-start, none-counted, some-counted}
-use Rattle.selection.specs.Allowed.{isBad, isBadIn}
+use Rattle.selection.specs.computed.Allowed.{isBad, isBadIn}
 use Rattle.selection.proofs.Counts.{row-counted, row-first}
 use Rattle.selection.proofs.Reports.{report-first, report-none}
 use Rattle.selection.proofs.table.check_rows.Statement.{statement}

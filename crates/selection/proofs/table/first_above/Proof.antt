@@ -2,7 +2,7 @@ use Rattle.laws.proofs.Basics.{_≤_, _-_, _≡_, sym, _∙_, arith, lt-ltb, le
 use Rattle.laws.proofs.Tests.{tests}
 use Rattle.laws.specs.Search.{firstFrom}
 use Rattle.laws.proofs.Search.{first-here, first-on, first-end}
-use Rattle.selection.specs.Allowed.{aboveFour}
+use Rattle.selection.specs.computed.Allowed.{aboveFour}
 use Rattle.selection.proofs.table.first_above.Statement.{statement}
 use Rattle.selection.proofs.table.first_above.Tie as tie
 

@@ -2,7 +2,7 @@
 use Rattle.laws.proofs.Basics.{_≡_, ap, _∙_, ℕ, arith, getD, needs}
 use Rattle.selection.specs.Cell.{row, column}
 use Rattle.recurrence.specs.Recurrence.{cellAt, stepBy, nextOf}
-use Rattle.recurrence.specs.FastRun.{withColumn, stateOf}
+use Rattle.recurrence.specs.computed.FastRun.{withColumn, stateOf}
 use Rattle.recurrence.proofs.Rows.{row-at}
 use Rattle.recurrence.proofs.state.RunState.next.Statement.{statement}
 use Rattle.recurrence.proofs.state.RunState.next.Tie as tie

@@ -1,7 +1,7 @@
 -- `step_by` meets its contract: the next column is that of the next words.
 use Rattle.laws.proofs.Basics.{_≡_, _*_, _/_, _%_, _^_, getD, needs}
 use Rattle.recurrence.specs.CarrySave.{multiple}
-use Rattle.recurrence.specs.FastRun.{stateOf, topBitsOf}
+use Rattle.recurrence.specs.computed.FastRun.{stateOf, topBitsOf}
 use Rattle.recurrence.proofs.NextColumn.{multiple-at, top-bits-at, step-code}
 use Rattle.recurrence.proofs.state.RunState.step_by.Statement.{statement}
 use Rattle.recurrence.proofs.state.RunState.step_by.Tie as tie

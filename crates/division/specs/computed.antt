@@ -1,0 +1,15 @@
+pub mod Binary64
+pub mod Binary64Steps
+pub mod Format
+pub mod Packed
+pub mod Ratios
+pub mod Recheck
+pub mod RecheckWhole
+pub mod RootCalls
+pub mod RootSteps
+pub mod Rounding
+pub mod Samples
+pub mod Significands
+pub mod Whole
+pub mod WholeDigits
+pub mod WholeSteps
