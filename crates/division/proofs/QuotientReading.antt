@@ -8,6 +8,7 @@ span : (a b x p : ℕ) → ((2 ^ 53 * (b * p) ≤ 2 * (a * (x * 2 ^ 52))) ↔ (b
 span a b x p = omega arith
 
 -- e is E + 1022, for E the largest whole number with 2^E ≤ a/b, or -1022 if that is larger
+-- § 9.6 E is the greatest whole number with 2^E ≤ abs(a/b), at least −1022.
 pub quotient-exponent : (a b e : ℕ) → IsExponent (quotientScale b) (quotientPlace a) e ↔ ((0 < e → b * 2 ^ e ≤ a * 2 ^ 1022) × (a * 2 ^ 1022 < b * 2 ^ suc e))
 quotient-exponent a b e = (
   λ x. (λ p. span a b (2 ^ 1022) (2 ^ e) .0 .0 (x .reached p), rw (pow-suc 2 e) (span a b (2 ^ 1022) (2 ^ e) .1 .0 (x .beyond))),

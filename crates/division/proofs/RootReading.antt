@@ -22,5 +22,6 @@ root-exponent a e = (
 exact : (a K x y : ℕ) → (2 * K * (2 * K) * (x * x) ≡ 4 * (a * y)) ↔ (K * x * (K * x) ≡ a * y)
 exact a K x y = (λ h. omega arith, λ h. omega arith)
 
+-- § 12.2 The binary64 root is rounded once, and special operands have their answers.
 pub root-exact : (a e K : ℕ) → (rootScale e (2 * K) ≡ rootPlace a) ↔ (K * 2 ^ e * (K * 2 ^ e) ≡ a * 2 ^ 1074)
 root-exact a e K = rw (squared e) (exact a K (2 ^ e) (2 ^ 1074))

@@ -45,6 +45,7 @@ upto-spells (suc most) n h =
     (λ t. spelled-more 0 (code "0" + n % 10) (decimalUpto most (n / 10)) ∙ rw (upto-spells most (n / 10) (omega (arith, pow-suc 10 most))) (omega arith))
 
 -- no digit is left out
+-- § 19.1 Numbers are printed in decimal.
 pub decimal-spells : (n : ℕ) → n < 2 ^ 64 → spelledAfter 0 (decimalOf n) ≡ n
 unfolding decimalOf
 decimal-spells n h = upto-spells 20 n (omega arith)

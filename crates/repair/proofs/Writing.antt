@@ -24,6 +24,7 @@ pub cells-more : (t u : List ℕ) (k : ℕ) → cellsUpto t u k ++ cellText k (g
 unfolding cellsUpto
 cells-more t u k = rw add-one
 
+-- § 19.4 A repair is printed whole.
 pub line-example : LineExample
 unfolding decimalOf decimalUpto
 line-example = record { changed = refl; same = refl }

@@ -59,6 +59,7 @@ pub record ExactColumn (E : Estimate) (c : ℕ) (P : ℤ) : Type 0 where
   pub low : (negℤ (pos (2 ^ 63))) ≤ℤ P
   pub high : (P +ℤ pos 1) ≤ℤ (pos (2 ^ 63))
 
+-- § 2.5 P is t·2^57 + e modulo 2^64.
 pub in-column-exact : (E : Estimate) (c : ℕ) (P : ℤ) → InColumn E c P ↔ ExactColumn E c P
 in-column-exact E c P = (to, from)
   where
