@@ -1,18 +1,11 @@
 -- Bench cases 1 to 12: one collection, one result.
-use Rattle.laws.proofs.Basics.{refl, sym, subst, List, ℕ, lit≤, lit<}
-use Rattle.selection.specs.Word.{signed}
-use Rattle.selection.specs.Cell.{digit, estimate}
-use Rattle.selection.specs.Maker.{MadeTable}
-use Rattle.laws.specs.Lists.{listFrom}
-use Rattle.selection.specs.computed.Allowed.{allowsOf}
-use Rattle.selection.specs.computed.Outcomes.{madeTable, madeOf}
-use Rattle.selection.proofs.CellCases.{case-1, case-2, case-3, case-4, case-5, case-5-seven, case-6, case-7, case-7-seven}
-use Rattle.selection.proofs.MadeTables.{made-bytes, kept-passes}
-use Rattle.recurrence.specs.Recurrence.{after, nextOf, value, endRemainder, resultOf}
-use Rattle.division.specs.computed.Rounding.{finiteRounded}
-use Rattle.demands.specs.computed.BenchCases.{Case8, Case9, BenchCases}
-use Rattle.division.proofs.AdmittedAnswers.{whole-answer, binary64-answer}
+use Rattle.laws.{proofs.Basics.{refl, sym, subst, List, ℕ, lit≤, lit<}, specs.Lists.{listFrom}}
+use Rattle.selection.specs.{Word.{signed}, Cell.{digit, estimate}, Maker.{MadeTable}, computed.Allowed.{allowsOf}, computed.Outcomes.{madeTable, madeOf}}
+use Rattle.selection.proofs.{CellCases.{case-1, case-2, case-3, case-4, case-5, case-5-seven, case-6, case-7, case-7-seven}, MadeTables.{made-bytes, kept-passes}}
 use Rattle.selection.specs.declared.Estimate.the-variants.{EightBits}
+use Rattle.recurrence.specs.Recurrence.{after, nextOf, value, endRemainder, resultOf}
+use Rattle.division.{specs.computed.Rounding.{finiteRounded}, proofs.AdmittedAnswers.{whole-answer, binary64-answer}}
+use Rattle.demands.specs.computed.BenchCases.{Case8, Case9, BenchCases}
 
 case-8 : Case8 (madeTable EightBits)
 unfolding madeTable listFrom madeOf allowsOf after nextOf value endRemainder resultOf digit estimate signed

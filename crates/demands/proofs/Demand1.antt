@@ -1,72 +1,42 @@
 -- Demand 1: the answers of all calls are those of their lists of rules.
-use Rattle.laws.proofs.Basics.{_≡_, refl, sym, ap, subst, _∙_, List, _++_, ⊎-elim, ℕ, _+_, _*_, arith, ltb, ltb→lt, length}
-use Rattle.laws.proofs.Tests.{upto-at}
-use Rattle.selection.specs.Answer.{refusal, reportZeros}
-use Rattle.selection.specs.computed.Answer.{answerBy, admissionOf, outcomeNumbers, cellZeros, reportNumbers}
-use Rattle.selection.specs.computed.Bits.{bitsRules, estimateOf, checkTableFor}
-use Rattle.selection.specs.computed.Maker.{limitsZeros, makeRefused}
-use Rattle.selection.specs.computed.Repair.{repairRefused}
-use Rattle.selection.proofs.RefusalNames.{refusalOf, Wrongs, firstRefusal, rank, RefusedBy, tableRules, clear, first-is, refused-by, refuses, passed-last}
-use Rattle.selection.specs.declared.Admission.{Admission}
-use Rattle.selection.specs.computed.Table.{ReportMeaning}
-use Rattle.selection.specs.computed.Outcomes.{reportOf}
-use Rattle.selection.specs.declared.table.Outcome.{Outcome}
+use Rattle.laws.proofs.{Basics.{_≡_, refl, sym, ap, subst, _∙_, List, _++_, ⊎-elim, ℕ, _+_, _*_, arith, ltb, ltb→lt, length}, Tests.{upto-at}}
+use Rattle.selection.specs.{Answer.{refusal, reportZeros}, computed.Answer.{answerBy, admissionOf, outcomeNumbers, cellZeros, reportNumbers}, computed.Bits.{bitsRules, estimateOf, checkTableFor}}
+use Rattle.selection.specs.computed.{Maker.{limitsZeros, makeRefused}, Repair.{repairRefused}}
+use Rattle.selection.{proofs.RefusalNames.{refusalOf, rank, tableRules, first-is, refused-by, refuses, passed-last}, specs.declared.Admission.{Admission}}
+use Rattle.selection.specs.{declared.Admission.the-variants.{Refused}, computed.Table.{ReportMeaning}, computed.Outcomes.{reportOf}, declared.table.Outcome.{Outcome}}
+use Rattle.selection.proofs.{Verdicts.{cell-refuses}, Rules.{by-number}, ForBits.{bits-first, bits-besides, bits-refused-by, bits-refuses, bits-number}, MadeTables.{kept-passes, limits-told}}
+use Rattle.selection.proofs.{BiasedPoints.{cell-rules}, UniqueMade.{limits-rules, make-rules}, RepairAnswers.{repair-rules}, Reports.{report-checked, table-rules, admission-rules}}
+use Rattle.selection.specs.declared.{Estimate.{Estimate}, Estimate.the-variants.{EightBits}}
 use Rattle.selection.specs.declared.table.Outcome.the-variants as O
-use Rattle.selection.proofs.Verdicts.{cell-refuses}
-use Rattle.selection.proofs.Rules.{by-number}
-use Rattle.selection.proofs.ForBits.{bits-first, bits-besides, bits-refused-by, bits-refuses, bits-number}
-use Rattle.selection.proofs.MadeTables.{kept-passes, limits-told}
-use Rattle.selection.proofs.BiasedPoints.{cell-rules}
-use Rattle.selection.proofs.UniqueMade.{limits-rules, make-rules}
-use Rattle.selection.proofs.RepairAnswers.{repair-rules}
-use Rattle.selection.proofs.Reports.{report-checked, table-rules, admission-rules}
-use Rattle.recurrence.specs.computed.Run.{runRules}
-use Rattle.recurrence.proofs.Refusals.{run-rules, run-lent}
-use Rattle.recurrence.proofs.StepRange.{step-lent}
-use Rattle.recurrence.proofs.VisitCounts.{visits-lent}
-use Rattle.recurrence.specs.computed.Recheck.{affectedRunRules, markZeros}
-use Rattle.recurrence.proofs.RecheckRun.{affected-run-rules, run-rechecks-right}
-use Rattle.division.specs.computed.Whole.{wholeRules}
-use Rattle.division.specs.computed.Format.{directionRules}
+use Rattle.recurrence.{specs.computed.Run.{runRules}, proofs.Refusals.{run-rules, run-lent}, proofs.StepRange.{step-lent}, proofs.VisitCounts.{visits-lent}}
+use Rattle.recurrence.{specs.computed.Recheck.{affectedRunRules, markZeros}, proofs.RecheckRun.{affected-run-rules, run-rechecks-right}}
+use Rattle.division.{specs.computed.Whole.{wholeRules}, specs.computed.Format.{directionRules}, proofs.DivisionCalls.{whole-rules, whole-lent, binary64-rules, binary64-lent}}
+use Rattle.division.{proofs.SampleRuns.{samples-lent}, specs.computed.Recheck.{affectedRefused}, proofs.Rechecking.{recheck-rules, rechecks-right}}
+use Rattle.division.proofs.{RecheckingWhole.{recheck-whole-rules, whole-rechecks-right}, PackedCalls.{packed-refuses}, RatioCalls.{ratios-refuse}, RootCalls.{root-rules}}
 use Rattle.demands.specs.computed.Demand1.{Carries, CheckRefuses, Demand1}
-use Rattle.division.proofs.DivisionCalls.{whole-rules, whole-lent, binary64-rules, binary64-lent}
-use Rattle.division.proofs.SampleRuns.{samples-lent}
-use Rattle.division.specs.computed.Recheck.{affectedRefused}
-use Rattle.division.proofs.Rechecking.{recheck-rules, rechecks-right}
-use Rattle.division.proofs.RecheckingWhole.{recheck-whole-rules, whole-rechecks-right}
-use Rattle.division.proofs.PackedCalls.{packed-refuses}
-use Rattle.division.proofs.RatioCalls.{ratios-refuse}
-use Rattle.division.proofs.RootCalls.{root-rules}
 use Rattle.exposure.proofs.Averages.{averages-right}
-use Rattle.selection.specs.declared.Estimate.{Estimate}
-use Rattle.selection.specs.declared.Estimate.the-variants.{EightBits}
 
 -- the check, from its report
 module _ (E : Estimate) (t : List ℕ) where
-  told : {v : Admission} → v ≡ firstRefusal (tableRules E t) → RefusedBy (Wrongs (tableRules E t)) (refusalOf v)
-  told e = rw e (refused-by (table-rules E t))
+  besides : (m n p : ℕ) (o : Outcome) → admissionOf o ≡ Refused (refusal n p) → (n ≡ 10 → ⊥) → outcomeNumbers m o ≡ reportZeros (refusal n p)
+  besides m n p O.Passed e l = cc
+  besides m n p (O.Bad b) e l = absurd (l (sym (ap (λ (v : Admission). refusalOf v .number) e)))
+  besides m n p (O.Refused f) e l = cc
 
-  check-refuses : (m : ℕ) (o : Outcome) → ReportMeaning E t m o → admissionOf o ≡ firstRefusal (tableRules E t) → CheckRefuses (tableRules E t) E t (outcomeNumbers m o)
-  check-refuses m O.Passed w e =
-      let none = clear (table-rules E t) (sym e) in
-      record { by = told e; besides = λ n p l x. absurd (none n p (x .holds)); carries = λ p x. absurd (none 10 p (x .holds)) }
-  check-refuses m (O.Bad b) w e = record {
-    by = told e;
-    besides = λ n p l x. absurd (l (sym (ap (λ (v : Admission). refusalOf v .number) (e ∙ first-is (table-rules E t) n p x))));
-    carries = λ p x.
-        let z : 128 * b .row + b .column ≡ p = ap (λ (v : Admission). refusalOf v .place) (e ∙ first-is (table-rules E t) 10 p x) in
-        record { count = w .1; cell = z; witness = rw z at (w .2 .witness) };
-  }
-  check-refuses m (O.Refused f) w e = record {
-    by = told e;
-    besides = λ n p l x. ap (λ (v : Admission). reportZeros (refusalOf v)) (e ∙ first-is (table-rules E t) n p x);
-    carries = λ p x.
-        let z : f .number ≡ 10 = ap (λ (v : Admission). refusalOf v .number) (e ∙ first-is (table-rules E t) 10 p x) in
-        absurd (⊎-elim (λ u. omega (arith, u .0)) (⊎-elim (λ u. omega (arith, u .0)) (λ u. u)) (w .0 .holds));
-  }
+  carries : (m p : ℕ) (o : Outcome) → ReportMeaning E t m o → admissionOf o ≡ Refused (refusal 10 p) → Carries E t p (outcomeNumbers m o)
+  carries m p O.Passed w e = let z : _≡_ {A = ℕ} 0 1 = cc in absurd (omega arith)
+  carries m p (O.Bad b) w e = let z : 128 * b .row + b .column ≡ p = ap (λ (v : Admission). refusalOf v .place) e in record { count = w .1; cell = z; witness = rw z at (w .2 .witness) }
+  carries m p (O.Refused f) w e = let z : f .number ≡ 10 = cc in absurd (⊎-elim (λ u. omega (arith, u .0)) (⊎-elim (λ u. omega (arith, u .0)) (λ u. u)) (w .0 .holds))
 
   checked : CheckRefuses (tableRules E t) E t (reportNumbers (reportOf E t))
-  checked = let a = reportOf E t in check-refuses (a .count) (a .outcome) (report-checked E t .means) (admission-rules E t)
+  checked =
+      let a = reportOf E t in
+      let same = elim (a .outcome) as (λ o. outcomeNumbers (a .count) o .refusal ≡ refusalOf (admissionOf o)) [ O.Passed ↦ refl | O.Bad b ↦ refl | O.Refused f ↦ refl ] in
+      record {
+        by = rw (same ∙ ap refusalOf (admission-rules E t)) (refused-by (table-rules E t));
+        besides = λ n p l x. besides (a .count) n p (a .outcome) (admission-rules E t ∙ first-is (table-rules E t) n p x) l;
+        carries = λ p x. carries (a .count) p (a .outcome) (report-checked E t .means) (admission-rules E t ∙ first-is (table-rules E t) 10 p x);
+      }
 
 -- and for a number of bits
 checked-for : (bits : ℕ) (t : List ℕ) → CheckRefuses (bitsRules bits ++ tableRules (estimateOf bits) t) (estimateOf bits) t (checkTableFor bits t)

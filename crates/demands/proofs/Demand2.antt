@@ -1,19 +1,10 @@
 -- Demand 2.
-use Rattle.laws.proofs.Basics.{refl, sym, List, [], _∷_, ℕ, arith, length, lit≤}
+use Rattle.laws.{proofs.Basics.{refl, sym, List, [], _∷_, ℕ, arith, length, lit≤}, specs.Lists.{listFrom}, proofs.Division.{quotient}}
 use native.Mathlib.Nat.{div-add-mod', mod-lt}
-use Rattle.laws.specs.Lists.{listFrom}
-use Rattle.laws.proofs.Division.{quotient}
-use Rattle.selection.specs.Table.{Passes}
-use Rattle.selection.proofs.TableRefusals.{passed-last}
-use Rattle.selection.proofs.MadeTables.{kept-passes}
-use Rattle.division.specs.computed.Samples.{samplesRules, joined}
-use Rattle.division.specs.computed.Rounding.{finiteRounded}
+use Rattle.selection.{specs.Table.{Passes}, proofs.TableRefusals.{passed-last}, proofs.MadeTables.{kept-passes}, specs.declared.Estimate.the-variants.{EightBits}}
+use Rattle.division.{specs.computed.Samples.{samplesRules, joined}, specs.computed.Rounding.{finiteRounded}, proofs.SampleRuns.{samples-clear, samples-right, samples-are, compensated-one}}
+use Rattle.division.proofs.{AdmittedAnswers.{whole-answer, binary64-answer}, IeeeLaws.{ieee}, IeeeOne.{ieee-one}}
 use Rattle.demands.specs.computed.Demand2.{RightThrough, Demand2}
-use Rattle.division.proofs.SampleRuns.{samples-clear, samples-right, samples-are, compensated-one}
-use Rattle.division.proofs.AdmittedAnswers.{whole-answer, binary64-answer}
-use Rattle.division.proofs.IeeeLaws.{ieee}
-use Rattle.division.proofs.IeeeOne.{ieee-one}
-use Rattle.selection.specs.declared.Estimate.the-variants.{EightBits}
 
 right : (t : List ℕ) → Passes EightBits t → RightThrough t
 unfolding joined listFrom finiteRounded

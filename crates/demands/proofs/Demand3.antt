@@ -1,24 +1,13 @@
 -- Demand 3, whole.
 use Rattle.laws.proofs.Basics.{refl, sym, ap, _∙_}
-use Rattle.selection.proofs.RefusalNames.{admits, passed-last}
-use Rattle.selection.specs.computed.Outcomes.{cellOf, reportOf, madeTable}
-use Rattle.selection.specs.declared.numbers.Report.{Report}
-use Rattle.selection.proofs.UniqueReport.{checked-one}
-use Rattle.selection.proofs.Reports.{report-checked, report-passed, admitted-passes, table-rules, admission-rules}
-use Rattle.selection.proofs.MadeTables.{kept-passes}
-use Rattle.selection.proofs.BiasedPoints.{cell-checked}
-use Rattle.selection.proofs.RefusedExactly.{refused-exactly, cell-told}
+use Rattle.selection.{proofs.RefusalNames.{admits, passed-last}, specs.computed.Outcomes.{cellOf, reportOf, madeTable}, specs.declared.numbers.Report.{Report}, proofs.UniqueReport.{checked-one}}
+use Rattle.selection.proofs.{Reports.{report-checked, report-passed, admitted-passes, table-rules, admission-rules}, MadeTables.{kept-passes}, BiasedPoints.{cell-checked}}
+use Rattle.selection.{proofs.RefusedExactly.{refused-exactly, cell-told}, proofs.TableRefusals.{same-through}, specs.declared.Estimate.the-variants.{EightBits}}
 use Rattle.recurrence.proofs.RunDemand.{run-claim, runs-right, results-same, run-same}
-use Rattle.selection.proofs.TableRefusals.{same-through}
-use Rattle.division.specs.computed.Whole.{wholeRules, wholeZeros, wholeValues}
-use Rattle.division.specs.computed.Format.{directionRules}
+use Rattle.division.{specs.computed.Whole.{wholeRules, wholeZeros, wholeValues}, specs.computed.Format.{directionRules}, proofs.WholeThrough.{whole-divides}, proofs.Binary64Through.{binary64-through}}
+use Rattle.division.proofs.{DivisionCalls.{whole-spans}, SampleRuns.{samples-same}}
 use Rattle.demands.specs.computed.Demand3.{Demand3}
 use Rattle.demands.proofs.Demand1.{demand-1}
-use Rattle.division.proofs.WholeThrough.{whole-divides}
-use Rattle.division.proofs.Binary64Through.{binary64-through}
-use Rattle.division.proofs.DivisionCalls.{whole-spans}
-use Rattle.division.proofs.SampleRuns.{samples-same}
-use Rattle.selection.specs.declared.Estimate.the-variants.{EightBits}
 
 -- § 21.3 Demand 3 holds.
 pub demand-3 : Demand3

@@ -1,28 +1,12 @@
 -- What the unit promises, whole.
-use Rattle.selection.proofs.RepairDemand.{repair-demand}
-use Rattle.selection.proofs.Burned.{burned-tables}
-use Rattle.selection.proofs.MadeTables.{made-table-is}
-use Rattle.recurrence.proofs.RunDemand.{pair-demand, pair-example}
-use Rattle.recurrence.proofs.StepDemand.{step-demand, step-example}
-use Rattle.recurrence.proofs.VisitCounts.{visits-demand, visits-example}
+use Rattle.selection.proofs.{RepairDemand.{repair-demand}, Burned.{burned-tables}, MadeTables.{made-table-is}}
+use Rattle.recurrence.proofs.{RunDemand.{pair-demand, pair-example}, StepDemand.{step-demand, step-example}, VisitCounts.{visits-demand, visits-example}}
 use Rattle.division.proofs.WholeDigits.{whole-digits}
-use Rattle.ieee.proofs.Ieee754.{ieee-754}
-use Rattle.ieee.proofs.RootOrder.{root-ordered}
+use Rattle.ieee.proofs.{Ieee754.{ieee-754}, RootOrder.{root-ordered}}
 use Rattle.demands.specs.computed.Demands.{Demands}
-use Rattle.demands.proofs.Demand1.{demand-1}
-use Rattle.demands.proofs.Demand2.{demand-2}
-use Rattle.demands.proofs.Demand3.{demand-3}
-use Rattle.demands.proofs.RootDemand.{root-demand}
-use Rattle.demands.proofs.PackedDemand.{packed-demand}
-use Rattle.demands.proofs.RatioDemand.{ratio-demand}
-use Rattle.demands.proofs.RecheckDemand.{recheck-demand}
-use Rattle.demands.proofs.Reversal.{reversal-demand}
-use Rattle.demands.proofs.AveragesDemand.{averages-demand, averages-example}
-use Rattle.demands.proofs.BenchCases.{bench-cases}
-use Rattle.demands.proofs.RootExamples.{root-examples}
-use Rattle.demands.proofs.FlagExamples.{flag-examples}
-use Rattle.demands.proofs.FlagDemand.{flag-demand}
-use Rattle.demands.proofs.Determined.{determined}
+use Rattle.demands.proofs.{Demand1.{demand-1}, Demand2.{demand-2}, Demand3.{demand-3}, RootDemand.{root-demand}, PackedDemand.{packed-demand}, RatioDemand.{ratio-demand}}
+use Rattle.demands.proofs.{RecheckDemand.{recheck-demand}, Reversal.{reversal-demand}, AveragesDemand.{averages-demand, averages-example}, BenchCases.{bench-cases}}
+use Rattle.demands.proofs.{RootExamples.{root-examples}, FlagExamples.{flag-examples}, FlagDemand.{flag-demand}, Determined.{determined}}
 
 ruleset calls = (determined, demand-1, demand-2, demand-3, root-demand, flag-demand, packed-demand, ratio-demand, averages-demand, reversal-demand, recheck-demand)
 

@@ -1,55 +1,27 @@
 -- Flags for all operands, by the logic's own account of what a pattern stands for.
-use Rattle.laws.proofs.Basics.{_≡_, refl, sym, ap, _∙_, Bool, true, false, cond, _⊎_, inl, inr, ⊎-elim, ℕ, _*_, _^_, _≤_, _<_, arith, T, eqb, ltb, ltb-true, ltb-false}
-use native.Mathlib.Nat.{not-le-of-lt, mul-pos, mul-le-mul-right, mul-lt-mul-of-pos-right}
-use lib.Pow.{pow-pos}
-use lib.Ieee.{Float, nan, inf, fin}
-use lib.Ieee.Scale.{finite}
-use lib.Ieee.Positive.{num, den, den-pos}
-use Rattle.laws.proofs.Division.{le-or-lt}
-use Rattle.laws.proofs.Comparisons.{not-below}
-use Rattle.laws.proofs.Tests.{is-true}
-use Rattle.division.specs.Format.{negative, magnitude, classOf, signalling, FiniteNonzero, IsFinite}
-use Rattle.division.specs.Ieee.{Ieee, quotientScale, quotientPlace}
-use Rattle.division.specs.Roots.{IeeeRoot, RootPlain}
-use Rattle.division.specs.declared.format.Binary64Result.{Binary64Result}
-use Rattle.division.specs.declared.format.Class.{Class}
-use Rattle.division.specs.declared.format.Class.the-variants.{Zero, Subnormal, Normal, Infinite, Nan}
-use Rattle.division.proofs.IeeeLaws.{ieee-through}
-use Rattle.division.proofs.QuotientReading.{quotient-tiny}
-use Rattle.ieee.specs.LanguageQuotient.{valueOf}
-use Rattle.ieee.specs.Directions.{signIn}
-use Rattle.ieee.proofs.LanguageReading.{Reads, read}
-use Rattle.ieee.proofs.LanguageQuotient.{counted}
-use Rattle.ieee.proofs.Operands.{class-of, seen, seen-some}
+use Rattle.laws.proofs.{Basics.{_≡_, refl, sym, ap, _∙_, Bool, true, false, cond, _⊎_, inl, inr, ⊎-elim, ℕ, _*_, _^_, _≤_, _<_, arith, T, eqb, ltb, ltb-true, ltb-false}, Division.{le-or-lt}}
+use Rattle.laws.proofs.{Comparisons.{not-below}, Tests.{is-true}}
+use native.Mathlib.Nat.{not-le-of-lt, mul-pos, mul-le-mul-right, le-of-mul-le-mul-right, mul-lt-mul-of-pos-right, lt-of-mul-lt-mul-right}
+use lib.{Pow.{pow-pos}, Ieee.{inf}, Ieee.Scale.{finite}, Ieee.Positive.{num, den, den-pos}}
+use Rattle.division.specs.{Format.{negative, magnitude, classOf, signalling, FiniteNonzero, IsFinite}, Ieee.{Ieee, quotientScale, quotientPlace}, Roots.{IeeeRoot, RootPlain}}
+use Rattle.division.specs.declared.format.{Binary64Result.{Binary64Result}, Class.{Class}, Class.the-variants.{Zero, Subnormal, Normal, Infinite, Nan}}
+use Rattle.division.proofs.{IeeeLaws.{ieee-through}, QuotientReading.{quotient-tiny}}
+use Rattle.ieee.{specs.LanguageQuotient.{valueOf}, specs.Directions.{signIn}, proofs.LanguageReading.{Reads, read}, proofs.LanguageQuotient.{counted}, proofs.Operands.{class-of, seen, seen-some}}
 use Rattle.ieee.proofs.Signalling.{signalling-is, is-class, no-signal}
 use Rattle.demands.specs.computed.FlagDemand.{QuotientFlags, RootFlags, FlagDemand}
 use Rattle.demands.proofs.RootDemand.{root-demand}
 
 -- ---- classes, from what the logic reads
 
--- the kinds of values
-abbrev kind : Float → ℕ
-kind nan = 0
-kind (inf s) = 1
-kind (fin s m e) = 2
-
-abbrev infinite-sign : Float → Bool
-infinite-sign nan = false
-infinite-sign (inf s) = s
-infinite-sign (fin s m e) = false
-
 infinite-class : (p : ℕ) (s : Bool) → valueOf p ≡ inf s → (classOf p ≡ Infinite) × (negative p ≡ s)
 infinite-class p s e = go (classOf p) refl (read p)
   where
-    no : {n : ℕ} → kind (valueOf p) ≡ n → n ≡ 1
-    no k = sym k ∙ ap kind e
-
     go : (k : Class) → classOf p ≡ k → Reads p k (valueOf p) → (classOf p ≡ Infinite) × (negative p ≡ s)
-    go Zero c r = absurd (omega (arith, no (ap kind (r .is))))
-    go Subnormal c r = absurd (omega (arith, no (ap kind (r .0 .is))))
-    go Normal c r = absurd (omega (arith, no (ap kind (r .0 .is))))
-    go Infinite c r = (c, ap infinite-sign (sym r ∙ e))
-    go Nan c r = absurd (omega (arith, no (ap kind r)))
+    go Zero c r = (cc, cc)
+    go Subnormal c r = (cc, cc)
+    go Normal c r = (cc, cc)
+    go Infinite c r = (c, cc)
+    go Nan c r = (cc, cc)
 
 zero-class : (p : ℕ) → T (finite (valueOf p)) → num (valueOf p) ≡ 0 → classOf p ≡ Zero
 zero-class p h z = ⊎-elim (λ k. k .0) (λ k. absurd (omega (arith, counted p (k .0)))) (class-of p (seen p h .below))
@@ -70,20 +42,10 @@ measured p h = let n = seen-some p h .0 .number in rw (n .is) (n .value)
 
 -- A and B are the magnitudes x / d and z / f in units of 1 / y
 below : (A B x d z f c y : ℕ) → 0 < d → 0 < f → x * y ≡ A * d → z * y ≡ B * f → A * c < B → x * f * c < z * d
-below A B x d z f c y hd hf p q l =
-    let wide = mul-lt-mul-of-pos-right l (mul-pos hd hf) in
-    ⊎-elim
-    (λ (g : z * d ≤ x * f * c). absurd (omega (arith, wide, mul-le-mul-right y g, ap (λ (k : ℕ). k * (f * c)) p, ap (λ (k : ℕ). k * d) q)))
-    (λ (g : x * f * c < z * d). g)
-    (le-or-lt (z * d) (x * f * c))
+below A B x d z f c y hd hf p q l = lt-of-mul-lt-mul-right y (omega (arith, mul-lt-mul-of-pos-right l (mul-pos hd hf), ap (λ (k : ℕ). k * (f * c)) p, ap (λ (k : ℕ). k * d) q))
 
 at-least : (A B x d z f c y : ℕ) → 0 < y → x * y ≡ A * d → z * y ≡ B * f → B ≤ A * c → z * d ≤ x * f * c
-at-least A B x d z f c y hy p q l =
-    let wide = mul-le-mul-right (d * f) l in
-    ⊎-elim
-    (λ (g : z * d ≤ x * f * c). g)
-    (λ (g : x * f * c < z * d). absurd (omega (arith, wide, mul-lt-mul-of-pos-right g hy, ap (λ (k : ℕ). k * (f * c)) p, ap (λ (k : ℕ). k * d) q)))
-    (le-or-lt (z * d) (x * f * c))
+at-least A B x d z f c y hy p q l = le-of-mul-le-mul-right (omega (arith, mul-le-mul-right (d * f) l, ap (λ (k : ℕ). k * (f * c)) p, ap (λ (k : ℕ). k * d) q)) hy
 
 -- ---- quotients
 

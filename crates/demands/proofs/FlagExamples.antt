@@ -1,12 +1,8 @@
 -- The worked flags: through every table that passes an answer is the computed quotient.
 use Rattle.laws.proofs.Basics.{_≡_, List, ℕ, lit≤}
-use Rattle.selection.specs.Table.{Passes}
-use Rattle.division.specs.computed.Rounding.{finiteRounded, quotientOf}
-use Rattle.division.specs.computed.Format.{binary64Values}
-use Rattle.division.specs.computed.Binary64.{binary64Of}
-use Rattle.division.proofs.AdmittedAnswers.{binary64-answer}
+use Rattle.selection.specs.{Table.{Passes}, declared.Estimate.the-variants.{EightBits}}
+use Rattle.division.{specs.computed.Rounding.{finiteRounded, quotientOf}, specs.computed.Format.{binary64Values}, specs.computed.Binary64.{binary64Of}, proofs.AdmittedAnswers.{binary64-answer}}
 use Rattle.demands.specs.computed.FlagExamples.{FlagExamples}
-use Rattle.selection.specs.declared.Estimate.the-variants.{EightBits}
 
 abbrev Computed : List ℕ → ℕ → ℕ → ℕ → Type 0
 Computed t a b direction = binary64Of t direction a b ≡ binary64Values (quotientOf direction a b)

@@ -1,51 +1,33 @@
 -- The check, the maker and the repair, as C is told.
-use Rattle.laws.proofs.Basics.{_≡_, refl, ap, _∙_, ⊎-elim, List, [], ℕ, _/_, _%_, _<_, arith, length}
-use Rattle.laws.proofs.Lists.{list-value, fill-at, fill-kept}
-use Rattle.selection.specs.computed.Answer.{outcomeNumbers, reportNumbers, cellNumbers}
-use Rattle.selection.specs.computed.Table.{ReportMeaning}
-use Rattle.selection.specs.Table.{Passes}
-use Rattle.selection.specs.Maker.{Made}
-use Rattle.selection.specs.computed.Outcomes.{reportOf, cellOf, rowLimitsOf, makeOf, madeAt, madeTable, repairOf}
-use Rattle.selection.specs.computed.Maker.{MakeOutcome}
-use Rattle.selection.specs.computed.Repair.{RepairOutcome}
-use Rattle.selection.specs.declared.table.Outcome.{Outcome}
-use Rattle.selection.specs.declared.table.Outcome.the-variants as O
-use Rattle.selection.specs.declared.numbers.Cell.{Cell}
-use Rattle.selection.specs.declared.numbers.Report.{Report}
-use Rattle.selection.specs.declared.maker.Limits.{Limits}
-use Rattle.selection.proofs.RefusalNames.{refusalOf, answerBy, clear-admits, refused-at, refused-by}
-use Rattle.selection.proofs.Reports.{report-checked, report-passed, table-rules}
-use Rattle.selection.proofs.RefusedExactly.{refused-exactly}
-use Rattle.selection.proofs.MadeTables.{made-table-is, make-done, limits-told}
-use Rattle.selection.proofs.UniqueMade.{limits-rules, make-rules}
-use Rattle.selection.proofs.BiasedPoints.{cell-rules}
-use Rattle.selection.proofs.RepairDemand.{repair-demand}
-use Rattle.selection.proofs.RepairAnswers.{repair-rules}
-use Rattle.demands.proofs.Demand1.{demand-1}
-use Rattle.demands.proofs.Demand3.{demand-3}
-use Rattle.demands.specs.Calls.{ChecksTable, ChecksCell, TellsLimits, MakesTable, RepairsTable}
-use Rattle.demands.proofs.Refused.{of-table}
+use Rattle.laws.proofs.{Basics.{_≡_, refl, ap, _∙_, ⊎-elim, List, [], ℕ, _/_, _%_, _<_, arith, length}, Lists.{list-value, fill-at, fill-kept}}
+use Rattle.selection.specs.{computed.Answer.{reportNumbers, cellNumbers}, Maker.{Made}, computed.Outcomes.{reportOf, cellOf, rowLimitsOf, makeOf, madeAt, madeTable, repairOf}}
+use Rattle.selection.specs.{computed.Maker.{MakeOutcome}, computed.Repair.{RepairOutcome}, Answer.{refusal, reportZeros}, declared.Refusal.{Refusal}, declared.numbers.Cell.{Cell}}
+use Rattle.selection.{specs.declared.numbers.Report.{Report}, specs.declared.maker.Limits.{Limits}, proofs.RefusalNames.{refusalOf, answerBy, clear-admits, refused-at, refused-by}}
+use Rattle.selection.proofs.{Reports.{report-checked, report-passed, table-rules}, RefusedExactly.{refused-exactly}, MadeTables.{made-table-is, make-done, limits-told}}
+use Rattle.selection.proofs.{UniqueMade.{limits-rules, make-rules}, BiasedPoints.{cell-rules}, RepairDemand.{repair-demand}, RepairAnswers.{repair-rules}}
 use Rattle.selection.specs.declared.Estimate.{Estimate}
+use Rattle.demands.proofs.{Demand1.{demand-1}, Demand3.{demand-3}, ByCases.{of-table, table-cases}}
+use Rattle.demands.specs.Calls.{OfTable, ChecksTable, ChecksCell, TellsLimits, MakesTable, RepairsTable}
 
 -- in a divider with the estimate E
 module _ (E : Estimate) where
-  -- a report whose number is 0 is that of a table that passes
-  zero-passes : (t : List ℕ) (m : ℕ) (o : Outcome) → ReportMeaning E t m o → outcomeNumbers m o .refusal .number ≡ 0 → Passes E t
-  zero-passes t m O.Passed w e = w .0
-  zero-passes t m (O.Bad b) w e = absurd (omega arith)
-  zero-passes t m (O.Refused f) w e = absurd (⊎-elim (λ u. omega (arith, u .0)) (⊎-elim (λ u. omega (arith, u .0)) (λ u. u)) (w .0 .holds))
+  -- what the check refuses of a table
+  told : (t : List ℕ) → OfTable E t (λ n p. (reportNumbers (reportOf E t) .refusal ≡ refusal n p) × (n < 10 → reportNumbers (reportOf E t) ≡ reportZeros (refusal n p)))
+  told t = of-table E t [] refl (λ n p h f.
+      let d = demand-1 .check-table E t in
+      let i = refused-by (table-rules E t) .exactly n p h .0 (ap refusalOf f) in
+      (d .by .exactly n p h .1 i, λ l. d .besides n p (λ e. omega (arith, l, e)) i))
 
   pub checks-table : {t : List ℕ} {x : Report} → x ≡ reportNumbers (reportOf E t) → ChecksTable E t x
-  checks-table {t} e =
-      let a = reportOf E t in
-      let d = demand-1 .check-table E t in
-      rw e
-      (record {
-        passed = (zero-passes t (a .count) (a .outcome) (report-checked E t .means), λ p. ap (λ (x : Report). x .refusal .number) (report-passed E p));
-        nothing = report-passed E;
-        refuses = of-table E t [] refl (λ n p h f. let i = refused-by (table-rules E t) .exactly n p h .0 (ap refusalOf f) in (d .by .exactly n p h .1 i, λ l. d .besides n p (λ e. omega (arith, l, e)) i));
-        bad = λ h. refused-exactly E h (report-checked E t);
-      })
+  checks-table {t} e = rw e (record {
+    passed = (
+      (λ z. table-cases E t (λ n p f. absurd (omega (arith, z, ap (λ (r : Refusal). r .number) (f _ (told t) .0), f (λ m q. 0 < m) (omega arith)))) (λ ok. ok)),
+      (λ ok. ap (λ (x : Report). x .refusal .number) (report-passed E ok)),
+    );
+    nothing = report-passed E;
+    refuses = told t;
+    bad = λ h. refused-exactly E h (report-checked E t);
+  })
 
   pub checks-cell : {r c b : ℕ} {x : Cell} → x ≡ cellNumbers (cellOf E r c b) → ChecksCell E r c b x
   checks-cell {r} {c} {b} e = rw e (record {

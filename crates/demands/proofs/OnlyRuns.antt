@@ -1,26 +1,13 @@
 -- One answer fits: the run, the step.
-use Rattle.laws.proofs.Basics.{_≡_, refl, sym, subst, ap, _∙_, inl, inr, ⊎-elim, List, ℕ, zero, suc, _+_, _-_, _^_, _<_, _≤_, arith, length, getD, T, ℤ, _*ℤ_, pos}
-use Rattle.laws.proofs.Division.{le-or-lt, quotient}
-use lib.Seq.{ext-getD}
-use lib.Signed.{_<ℤ_, _≤ℤ_, ltZ, ltZ-yes, ltZ-no}
+use Rattle.laws.proofs.{Basics.{_≡_, refl, sym, subst, ap, _∙_, inl, inr, ⊎-elim, List, ℕ, zero, suc, _+_, _-_, _<_, _≤_, arith, length, getD, T, ℤ, _*ℤ_, pos}, Division.{le-or-lt, quotient}}
 use Rattle.laws.proofs.Tests.{either}
-use native.Mathlib.Nat.{pos-of-ne-zero}
-use Rattle.selection.specs.Word.{signed, Within}
-use Rattle.selection.specs.computed.Outcomes.{madeTable}
-use Rattle.selection.proofs.MadeTables.{made-table-is, kept-passes}
-use Rattle.selection.proofs.UniqueMade.{made-one}
-use Rattle.recurrence.specs.computed.Run.{runRules, runOf}
-use Rattle.recurrence.specs.computed.Step.{stepRules, stepOf}
-use Rattle.recurrence.specs.declared.Ran.{Ran}
-use Rattle.recurrence.proofs.Refusals.{run-rules}
-use Rattle.recurrence.proofs.StepRange.{step-rules}
+use lib.{Seq.{ext-getD}, Signed.{_<ℤ_, _≤ℤ_, ltZ, ltZ-yes, ltZ-no}}
+use Rattle.selection.{specs.Word.{signed, Within}, specs.computed.Outcomes.{madeTable}, proofs.MadeTables.{made-table-is, kept-passes}, proofs.UniqueMade.{made-one}}
+use Rattle.selection.specs.declared.{Estimate.{Estimate}, Estimate.the-variants.{EightBits}}
+use Rattle.recurrence.{specs.computed.Run.{runRules}, specs.computed.Step.{stepRules}, specs.declared.Ran.{Ran}, proofs.Refusals.{run-rules}, proofs.StepRange.{step-rules}}
 use Rattle.recurrence.proofs.StepDemand.{step-demand}
-use Rattle.demands.specs.Calls.{told, Steps, RunTakes, RunOnly, DividedRun, Runs, RunsKept, stepOnly, StepsOnce}
-use Rattle.demands.specs.Determined.{Determined}
-use Rattle.demands.proofs.ByCases.{cases, table-cases}
-use Rattle.demands.proofs.OfRuns.{runs}
-use Rattle.selection.specs.declared.Estimate.{Estimate}
-use Rattle.selection.specs.declared.Estimate.the-variants.{EightBits}
+use Rattle.demands.specs.{Calls.{Steps, RunTakes, DividedRun, Runs, RunsKept, StepsOnce}, Determined.{Determined}}
+use Rattle.demands.proofs.{ByCases.{two-rules, three-rules, table-cases, none-refused, sole, sole-by, sole-pair}, OfRuns.{runs}}
 
 -- ---- steps
 
@@ -43,10 +30,6 @@ ran-one : {t : List ℕ} {N D n : ℕ} {b : List ℕ} {place : ℕ} {out other :
 ran-one {t} {N} {D} {n} {b} {place} {out} {other} x y u v =
     let p = quotient (sym (u .divides)) (u .below) in
     let q = quotient (sym (v .divides)) (v .below) in
-    let a : x .refusal ≡ y .refusal = u .nothing ∙ sym (v .nothing) in
-    let c : x .digits ≡ y .digits = u .count ∙ sym (v .count) in
-    let d : x .quotient ≡ y .quotient = sym (p .0) ∙ q .0 in
-    let r : x .remainder ≡ y .remainder = sym (p .1) ∙ q .1 in
     let within : (j : ℕ) → place ≤ j → j < place + n → getD out j 0 ≡ getD other j 0 = λ j h l.
     let i = j - place in
     let e : j ≡ place + i = omega arith in
@@ -54,53 +37,27 @@ ran-one {t} {N} {D} {n} {b} {place} {out} {other} x y u v =
     let each : (j : ℕ) → getD out j 0 ≡ getD other j 0 = λ j. ⊎-elim
     (λ (h : place + n ≤ j). u .behind j h ∙ sym (v .behind j h))
     (λ (l : j < place + n). ⊎-elim (λ (h : place ≤ j). within j h l) (λ (h : j < place). u .before j h ∙ sym (v .before j h)) (le-or-lt place j))
-    (le-or-lt (place + n) j) in
-    ((λ i. record { refusal = a i; quotient = d i; remainder = r i; digits = c i }), ext-getD 0 out other (u .size ∙ sym (v .size)) (λ j h. each j))
+    (le-or-lt (place + n) j) in (
+      (λ i. record { refusal = (u .nothing ∙ sym (v .nothing)) i; quotient = (sym (p .0) ∙ q .0) i; remainder = (sym (p .1) ∙ q .1) i; digits = (u .count ∙ sym (v .count)) i }),
+      ext-getD 0 out other (u .size ∙ sym (v .size)) (λ j h. each j),
+    )
 
 pub run-only : (t : List ℕ) (N D n : ℕ) (b : List ℕ) (place : ℕ) → Determined (λ (z : Ran × List ℕ). Runs t N D n b place (z .1) (z .0))
 unfolding runRules
-run-only t N D n b place = cases (runRules N D n (length b) place) (run-rules N D n (length b) place .sound) (
-  (λ p w. record { answer = (record { refusal = told 2 0; quotient = 0; remainder = 0; digits = 0 }, b); only = λ z k. let e = k .refuses .digits (w .1) in λ i. (e .0 i, e .1 i) }),
-  (λ count. let some : 1 ≤ n = pos-of-ne-zero (count .0) in (
-    (λ p w. record {
-      answer = (record { refusal = told 3 0; quotient = 0; remainder = 0; digits = 0 }, b);
-      only = λ z k. let e = k .refuses .operands some (count .1) (⊎-elim (λ x. ⊎-elim inl (λ y. inr (inl (omega (arith, y)))) x) (λ y. inr (inr (omega (arith, y)))) (w .1)) in λ i. (e .0 i, e .1 i);
-    }),
-    (λ spans. (
-      (λ p w. record {
-        answer = (record { refusal = told 7 0; quotient = 0; remainder = 0; digits = 0 }, b);
-        only = λ z k. let e = k .refuses .room some (count .1) (omega (arith, spans .1)) (spans .0 .0) (omega (arith, spans .0 .1)) (w .1) in λ i. (e .0 i, e .1 i);
-      }),
-      (λ room.
-          let r : RunTakes N D n b place = record { some = some; most = count .1; dividend = omega (arith, spans .1); least = spans .0 .0; divisor = omega (arith, spans .0 .1); room = room } in
-          table-cases EightBits t
-          (λ m p f. record {
-            answer = (record { refusal = told m p; quotient = 0; remainder = 0; digits = 0 }, b);
-            only = λ z k. let e = f (RunOnly b (z .1) (z .0)) (k .table r) in λ i. (e .0 i, e .1 i);
-          })
-          (λ ok. record {
-            answer = let x = runOf t N D n b place in (x .answer, x .buffer);
-            only = λ z k. let e = ran-one (z .0) (runOf t N D n b place .answer) (k .ran r ok) (runs {t = t} {N = N} {D = D} {n = n} {b = b} {place = place} refl .ran r ok) in λ i. (e .0 i, e .1 i);
-          })),
-    )),
-  )),
-)
+run-only t N D n b place = three-rules (run-rules N D n (length b) place)
+    (λ p w. sole-pair (λ z k. k .refuses .digits (w .1)))
+    (λ count p w. sole-pair (λ z k. k .refuses .operands (omega arith) (count .1) (⊎-elim (λ x. ⊎-elim inl (λ y. inr (inl (omega (arith, y)))) x) (λ y. inr (inr (omega (arith, y)))) (w .1))))
+    (λ count spans p w. sole-pair (λ z k. k .refuses .room (omega arith) (count .1) (omega arith) (spans .0 .0) (omega arith) (w .1)))
+    (λ count spans room. let r : RunTakes N D n b place = omega arith in table-cases EightBits t
+    (λ m p f. sole-pair (λ z k. f _ (k .table r)))
+    (λ ok. sole-pair (λ z k. ran-one (z .0) _ (k .ran r ok) (runs {t = t} {N = N} {D = D} {n = n} {b = b} {place = place} refl .ran r ok))))
 
 pub run-kept-only : (N D n : ℕ) (b : List ℕ) (place : ℕ) → Determined (λ (z : Ran × List ℕ). RunsKept N D n b place (z .1) (z .0))
-run-kept-only N D n b place =
-    let o = run-only (madeTable EightBits) N D n b place in
-    record {
-      answer = o .answer;
-      only = λ z k. o .only z (record {
-        refuses = k .refuses;
-        table = λ r. record {
-          size = λ h. absurd (h (made-table-is EightBits .size));
-          byte = λ p _ l h _. absurd (omega (arith, kept-passes EightBits .table .digits p));
-          cell = λ p _ l h _. absurd (h .against .broken (kept-passes EightBits .allowed p l (h .divisor) (h .remainder) (h .against .point)));
-        };
-        ran = λ r _. subst (λ (t : List ℕ). DividedRun t N D n b place (z .1) (z .0)) (made-one EightBits (k .made) (made-table-is EightBits)) (k .ran r);
-      });
-    }
+run-kept-only N D n b place = sole-by (run-only (madeTable EightBits) N D n b place) (λ z k. record {
+  refuses = k .refuses;
+  table = λ r. none-refused EightBits (kept-passes EightBits);
+  ran = λ r _. subst (λ (t : List ℕ). DividedRun t N D n b place (z .1) (z .0)) (made-one EightBits (k .made) (made-table-is EightBits)) (k .ran r);
+})
 
 -- ---- one step
 
@@ -109,21 +66,14 @@ not-ltZ a b n = ⊎-elim (λ e. absurd (n (ltZ-yes (subst T (sym e) tt)))) (λ e
 
 pub step-only : (s k D : ℕ) (t : List ℕ) → Determined (StepsOnce s k D t)
 unfolding stepRules
-step-only s k D t = cases (stepRules s k D) (step-rules s k D .sound) (
-  (λ p w. record { answer = stepOnly 3 0; only = λ x c. c .divisor (⊎-elim inl (λ y. inr (omega (arith, y))) (w .1)) }),
-  (λ spans. let most : D < 2 ^ 61 = omega (arith, spans .1) in (
-    (λ p w. record { answer = stepOnly 14 0; only = λ x c. c .outside (spans .0) most (w .1) }),
-    (λ h. let r : Within 8 D (pos 3 *ℤ signed (s + k)) = record { low = not-ltZ _ _ (h .0); high = not-ltZ _ _ (h .1) } in table-cases EightBits t
-        (λ n p f. record { answer = stepOnly n p; only = λ x c. f (λ m q. x ≡ stepOnly m q) (c .table (spans .0) most r) })
-        (λ ok. let d = step-demand .step s k D t ok (spans .0) most r in record {
-          answer = stepOf s k D t;
-          only = λ x c.
-              let e = c .step (spans .0) most r ok in
-              let a : x .refusal ≡ stepOf s k D t .refusal = e .done ∙ sym (d .done) in
-              let q : x .digit ≡ stepOf s k D t .digit = e .selected ∙ sym (d .selected) in
-              let u : x .sum ≡ stepOf s k D t .sum = e .sum ∙ sym (d .sum) in
-              let v : x .carry ≡ stepOf s k D t .carry = e .carry ∙ sym (d .carry) in
-              λ i. record { refusal = a i; digit = q i; sum = u i; carry = v i };
-        })),
-  )),
-)
+step-only s k D t = two-rules (step-rules s k D)
+    (λ p w. sole (λ x c. c .divisor (⊎-elim inl (λ y. inr (omega (arith, y))) (w .1))))
+    (λ spans p w. sole (λ x c. c .outside (spans .0) (omega arith) (w .1)))
+    (λ spans h. let r : Within 8 D (pos 3 *ℤ signed (s + k)) = record { low = not-ltZ _ _ (h .0); high = not-ltZ _ _ (h .1) } in table-cases EightBits t
+    (λ n p f. sole (λ x c. f _ (c .table (spans .0) (omega arith) r)))
+    (λ ok. sole (λ x c.
+    let d = step-demand .step s k D t ok (spans .0) (omega arith) r in
+    let e = c .step (spans .0) (omega arith) r ok in
+    λ i. record { refusal = (e .done ∙ sym (d .done)) i; digit = (e .selected ∙ sym (d .selected)) i; sum = (e .sum ∙ sym (d .sum)) i; carry = (e .carry ∙ sym (d .carry)) i })))
+
+pub ruleset only-runs = (run-only, run-kept-only, step-only)

@@ -1,19 +1,11 @@
 -- Packed decimal numbers are divided rightly.
-use Rattle.laws.proofs.Basics.{refl, sym, ap, ap₂, _∙_, List, ℕ, _^_, _<_, arith, lit<}
+use Rattle.laws.{proofs.Basics.{refl, sym, ap, ap₂, _∙_, List, ℕ, _^_, _<_, arith, lit<}, specs.Lists.{listFrom}, specs.Search.{firstFrom}}
 use native.Mathlib.Nat.{le-mul-of-pos-right}
-use Rattle.laws.specs.Lists.{listFrom}
-use Rattle.selection.proofs.RefusalNames.{refusal}
-use Rattle.selection.specs.computed.Outcomes.{madeTable}
-use Rattle.division.specs.computed.Whole.{wholeOf}
+use Rattle.selection.{proofs.RefusalNames.{refusal}, specs.computed.Outcomes.{madeTable}, specs.declared.Estimate.the-variants.{EightBits}}
+use Rattle.division.specs.{computed.Whole.{wholeOf}, Packed.{numberTo, packedNumber, IsPacked}, computed.Packed.{packedBytes, packedValues, packedOf}}
+use Rattle.division.proofs.{PackedBytes.{number-below, bytes-back, bytes-packed, number-back}, PackedCalls.{packed-done}}
 use Rattle.demands.proofs.Demand2.{demand-2}
-use Rattle.demands.specs.computed.Demand2.{Divides}
-use Rattle.division.specs.Packed.{numberTo, packedNumber, IsPacked}
-use Rattle.division.specs.computed.Packed.{packedBytes, packedValues, packedOf}
-use Rattle.demands.specs.computed.PackedDemand.{OnePacked, DividesPacked, PackedExamples, PackedDemand}
-use Rattle.division.proofs.PackedBytes.{number-below, bytes-back, bytes-packed, number-back}
-use Rattle.division.proofs.PackedCalls.{packed-done}
-use Rattle.laws.specs.Search.{firstFrom}
-use Rattle.selection.specs.declared.Estimate.the-variants.{EightBits}
+use Rattle.demands.specs.computed.{Demand2.{Divides}, PackedDemand.{OnePacked, DividesPacked, PackedExamples, PackedDemand}}
 
 below : (bs : List ℕ) → IsPacked bs → packedNumber bs < 10 ^ 16
 below bs p = number-below bs (p .decimal) 8 (omega arith)

@@ -1,14 +1,10 @@
 -- Ratios are compared rightly.
-use Rattle.laws.proofs.Basics.{_≡_, refl, sym, subst, ap, ℕ, _*_, _%_, _<_, arith, ltb, ltb→lt, nltb→le}
+use Rattle.laws.proofs.{Basics.{_≡_, refl, sym, subst, ap, ℕ, _*_, _%_, _<_, arith, ltb, ltb→lt, nltb→le}, Comparisons.{not-below}, Tests.{by-cond}}
 use native.Mathlib.Nat.{mul-le-mul-right, le-of-mul-le-mul-right, mod-lt}
-use Rattle.laws.proofs.Comparisons.{not-below}
-use Rattle.laws.proofs.Tests.{by-cond}
-use Rattle.division.specs.computed.Ratios.{Ratios, comparisonOf, comparedOf, comparisonNumbers}
-use Rattle.demands.specs.computed.RatioDemand.{ComparesRatios, reversedComparison, RatioDemand}
-use Rattle.division.specs.declared.ratio.RatioOrder.{RatioOrder}
-use Rattle.division.specs.declared.ratio.RatioOrder.the-variants.{Less, Equal, Greater, Refused}
-use Rattle.division.proofs.Ratios.{comparison-less, comparison-equal, comparison-greater, round-of, found-in-87}
+use Rattle.division.specs.{computed.Ratios.{Ratios, comparisonOf, comparedOf, comparisonNumbers}, declared.ratio.RatioOrder.{RatioOrder}}
+use Rattle.division.{specs.declared.ratio.RatioOrder.the-variants.{Less, Equal, Greater, Refused}, proofs.Ratios.{comparison-less, comparison-equal, comparison-greater, round-of, found-in-87}}
 use Rattle.division.proofs.RatioCalls.{ratios-clear}
+use Rattle.demands.specs.computed.RatioDemand.{ComparesRatios, reversedComparison, RatioDemand}
 
 -- what holds of each answer where it is given holds of the answer
 by-order : (P : RatioOrder → Type 0) (m n : ℕ) → (m < n → P Less) → (m ≡ n → P Equal) → (n < m → P Greater) → P (comparisonOf m n)

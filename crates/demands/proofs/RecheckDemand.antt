@@ -1,54 +1,26 @@
 -- Which records a wrong table affected, and that all others are right.
-use Rattle.laws.proofs.Basics.{_≡_, refl, sym, ap, _∙_, subst, List, [], _∷_, ⊎-elim, ℕ, _+_, _*_, _≤_, _<_, arith, length, getD}
-use lib.Count.{leadingZeros}
-use Rattle.laws.specs.Lists.{listFrom}
-use Rattle.laws.specs.Counting.{countBelow}
-use Rattle.laws.specs.Sums.{sumBelow}
+use Rattle.laws.{proofs.Basics.{_≡_, refl, sym, ap, _∙_, subst, List, ⊎-elim, ℕ, _+_, _*_, _≤_, _<_, arith, length, getD}, specs.Lists.{listFrom}, specs.Counting.{countBelow}, specs.Sums.{sumBelow}}
 use Rattle.laws.proofs.Counting.{tally-as}
-use Rattle.selection.specs.computed.Allowed.{allowsOf}
-use Rattle.selection.specs.Cell.{row, column}
-use Rattle.selection.specs.computed.Outcomes.{madeTable, madeOf}
-use Rattle.selection.proofs.MadeTables.{kept-passes}
-use Rattle.recurrence.specs.Recurrence.{Operands, after, nextOf, resultOf}
-use Rattle.recurrence.specs.computed.Recheck.{AffectedRunAccepts, straysBelow, affectedRunRules, affectedRunOf}
-use Rattle.recurrence.proofs.Digits.{divisor-after}
-use Rattle.recurrence.proofs.RightRuns.{wrong-decides, run-mark-right, run-mark-claim, mark-is}
-use Rattle.recurrence.proofs.RecheckRun.{affected-run-admits, run-rechecks-right, run-rechecks-one}
-use Rattle.recurrence.proofs.RunDemand.{result-divides}
-use Rattle.division.specs.computed.Binary64Steps.{ratioThrough, binary64Through}
-use Rattle.division.specs.computed.Binary64.{binary64Of}
-use Rattle.division.specs.computed.Format.{binary64Values}
-use Rattle.division.specs.computed.WholeSteps.{shiftedRun}
-use Rattle.division.specs.computed.Recheck.{RecheckAccepts, RecordClaim, isAffected, affectedOf, affectedFor}
-use Rattle.division.specs.computed.RecheckWhole.{RecheckWholeAccepts, recheckWholeOf}
-use Rattle.division.specs.declared.format.Binary64.{Binary64}
-use Rattle.division.proofs.AdmittedAnswers.{binary64-answer}
-use Rattle.division.proofs.Classes.{nonzero-quotient}
-use Rattle.division.proofs.Binary64Through.{binary64-through}
-use Rattle.division.proofs.Rechecking.{affected-decides, record-claim, operand-right, recheck-admits, rechecks-right, rechecks-one}
-use Rattle.division.proofs.RecheckingWhole.{whole-decides, whole-claim, recheck-whole-admits, whole-rechecks-right, whole-rechecks-one}
-use Rattle.division.proofs.RecheckExamples.{recheck-examples}
-use Rattle.ieee.specs.Directions.{Pinned}
-use Rattle.ieee.proofs.Ieee754.{ieee-754}
-use Rattle.demands.specs.computed.RecheckDemand.{RecheckRunTold, RecheckTold, RecheckCallExample, EstimatesTold, RecheckDemand}
-use Rattle.selection.specs.declared.Estimate.{Estimate}
+use lib.Count.{leadingZeros}
+use Rattle.selection.{specs.computed.Allowed.{allowsOf}, specs.Cell.{row, column}, specs.computed.Outcomes.{madeTable, madeOf}, proofs.MadeTables.{kept-passes}, specs.declared.Estimate.{Estimate}}
 use Rattle.selection.specs.declared.Estimate.the-variants.{EightBits}
+use Rattle.recurrence.{specs.Recurrence.{Operands, after, nextOf, resultOf}, specs.computed.Recheck.{AffectedRunAccepts, straysBelow, affectedRunRules, affectedRunOf}, proofs.Digits.{divisor-after}}
+use Rattle.recurrence.proofs.{RightRuns.{wrong-decides, run-mark-right, run-mark-claim, mark-is}, RecheckRun.{affected-run-admits, run-rechecks-right, run-rechecks-one}, RunDemand.{result-divides}}
+use Rattle.division.specs.computed.{Binary64Steps.{ratioThrough, binary64Through}, Binary64.{binary64Of}, Format.{binary64Values}, WholeSteps.{shiftedRun}}
+use Rattle.division.specs.{computed.Recheck.{RecheckAccepts, RecordClaim, isAffected, affectedOf}, computed.RecheckWhole.{RecheckWholeAccepts, recheckWholeOf}, declared.format.Binary64.{Binary64}}
+use Rattle.division.proofs.{AdmittedAnswers.{binary64-answer}, Classes.{nonzero-quotient}, Binary64Through.{binary64-through}}
+use Rattle.division.proofs.Rechecking.{affected-decides, record-claim, operand-right, recheck-admits, rechecks-right, rechecks-one}
+use Rattle.division.proofs.{RecheckingWhole.{whole-decides, whole-claim, recheck-whole-admits, whole-rechecks-right, whole-rechecks-one}, RecheckExamples.{recheck-examples}}
+use Rattle.ieee.{specs.Directions.{Pinned}, proofs.Ieee754.{ieee-754}}
+use Rattle.demands.specs.computed.RecheckDemand.{RecheckRunTold, RecheckTold, RecheckCallExample, EstimatesTold, RecheckDemand}
 
 call-example : RecheckCallExample
 unfolding madeTable listFrom madeOf allowsOf after nextOf straysBelow isAffected countBelow sumBelow leadingZeros
 call-example = record { samples = refl; whole = refl; whole-unaffected = refl }
 
-by-seven : affectedFor 7 (madeTable EightBits) (0x3FF0_B000_0000_0000 ∷ []) (0x3FF1_0800_0000_0000 ∷ []) (9 ∷ []) .affected ≡ 1 ∷ []
-unfolding madeTable listFrom madeOf allowsOf after nextOf straysBelow isAffected
-by-seven = refl
-
-by-eight : affectedFor 8 (madeTable EightBits) (0x3FF0_B000_0000_0000 ∷ []) (0x3FF1_0800_0000_0000 ∷ []) (9 ∷ []) .affected ≡ 0 ∷ []
-unfolding madeTable listFrom madeOf allowsOf after nextOf straysBelow isAffected
-by-eight = refl
-
 estimates : EstimatesTold
-unfolding madeTable listFrom madeOf allowsOf after nextOf straysBelow affectedRunRules
-estimates = record { by-seven = by-seven; by-eight = by-eight; run-by-seven = refl; run-by-eight = refl }
+unfolding madeTable listFrom madeOf allowsOf after nextOf straysBelow isAffected affectedRunRules
+estimates = record { by-seven = refl; by-eight = refl; run-by-seven = refl; run-by-eight = refl }
 
 -- in a divider with the estimate E
 module _ (E : Estimate) where

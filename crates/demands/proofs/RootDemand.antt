@@ -1,10 +1,7 @@
 -- Roots are right.
 use Rattle.laws.proofs.Basics.{refl}
 use Rattle.demands.specs.computed.RootDemand.{RootDemand}
-use Rattle.division.proofs.AdmittedAnswers.{root-answer}
-use Rattle.division.proofs.RootCalls.{root-clear}
-use Rattle.division.proofs.Roots.{whole-root, whole-root-one}
-use Rattle.division.proofs.IeeeRoots.{ieee-root, ieee-root-one, root-plain}
+use Rattle.division.proofs.{AdmittedAnswers.{root-answer}, RootCalls.{root-clear}, Roots.{whole-root, whole-root-one}, IeeeRoots.{ieee-root, ieee-root-one, root-plain}}
 
 -- § 12 All of it holds of both calls.
 pub root-demand : RootDemand

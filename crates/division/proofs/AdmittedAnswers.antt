@@ -1,18 +1,9 @@
 -- What the calls answer where nothing is refused: through every table that passes, the same.
 use Rattle.laws.proofs.Basics.{_≡_, ap, List, ℕ, _/_, _%_, _^_, _≤_, _<_}
-use Rattle.selection.specs.Answer.{refusal}
-use Rattle.selection.specs.Table.{Passes}
-use Rattle.selection.proofs.TableRefusals.{passed-last}
-use Rattle.division.specs.computed.Whole.{wholeRules, wholeValues, wholeOf}
-use Rattle.division.specs.computed.Rounding.{quotientOf}
-use Rattle.division.specs.computed.Format.{directionRules, binary64Values}
-use Rattle.division.specs.computed.Binary64.{binary64Of}
-use Rattle.division.specs.computed.RootSteps.{rootOf}
+use Rattle.selection.{specs.Answer.{refusal}, specs.Table.{Passes}, proofs.TableRefusals.{passed-last}, specs.declared.Estimate.the-variants.{EightBits}}
+use Rattle.division.specs.computed.{Whole.{wholeRules, wholeValues, wholeOf}, Rounding.{quotientOf}, Format.{directionRules, binary64Values}, Binary64.{binary64Of}, RootSteps.{rootOf}}
 use Rattle.division.specs.computed.RootCalls.{rootBinary64Of}
-use Rattle.division.proofs.DivisionCalls.{whole-clear, direction-clear}
-use Rattle.division.proofs.WholeThrough.{whole-divides}
-use Rattle.division.proofs.Binary64Through.{binary64-through}
-use Rattle.selection.specs.declared.Estimate.the-variants.{EightBits}
+use Rattle.division.proofs.{DivisionCalls.{whole-clear, direction-clear}, WholeThrough.{whole-divides}, Binary64Through.{binary64-through}}
 
 module _ (t : List ℕ) (p : Passes EightBits t) where
   pub whole-answer : (a b : ℕ) → a < 2 ^ 60 → 0 < b → b < 2 ^ 60 → wholeOf t a b ≡ record { refusal = refusal 0 0; quotient = a / b; remainder = a % b }

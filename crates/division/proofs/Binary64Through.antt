@@ -1,31 +1,25 @@
 -- Binary64 through a table that passes: the run's digits give the definition's quotient.
-use Rattle.laws.proofs.Basics.{_≡_, refl, sym, ⊎-elim, List, ℕ, _+_, _-_, _*_, _/_, _^_, _≤_, _<_, arith, min, lit<, ne-eqb, le-leb, lt-leb}
+use Rattle.laws.proofs.{Basics.{_≡_, refl, sym, ⊎-elim, List, ℕ, _+_, _-_, _*_, _/_, _^_, _≤_, _<_, arith, min, lit<, ne-eqb, le-leb, lt-leb}, Division.{le-or-lt}, Powers.{lifted}}
+use Rattle.laws.specs.Shifts.{shiftTo}
 use native.Mathlib.Nat.{mul-assoc, eq-zero-or-pos, le-div-iff-mul-le, div-lt-iff-lt-mul}
 use lib.Pow.{pow-add}
-use Rattle.laws.proofs.Division.{le-or-lt}
-use Rattle.laws.proofs.Powers.{lifted}
-use Rattle.laws.specs.Shifts.{shiftTo}
-use Rattle.selection.specs.Table.{Passes}
-use Rattle.recurrence.specs.Recurrence.{resultOf}
-use Rattle.recurrence.proofs.RunDemand.{result-divides}
+use Rattle.selection.specs.{Table.{Passes}, declared.Estimate.{Estimate}}
+use Rattle.recurrence.{specs.Recurrence.{resultOf}, proofs.RunDemand.{result-divides}}
 use Rattle.division.proofs.Binary64Names.{magnitude, field, fraction, signOf, byClass, orRounded, quotientOf, significandOf, FiniteNonzero, Binary64Result, ByClass, Decided, Undecided, sticky, ratioThrough, alignedOf, roundedQuotient, binary64Through}
-use Rattle.division.proofs.Sticky.{sticky-cross, cut-high, cut-low}
-use Rattle.division.proofs.Quotient.{ScaledTo, AlignedTo, aligned-is}
-use Rattle.division.proofs.Classes.{nonzero-operand, quotient-nonzero}
-use Rattle.selection.specs.declared.Estimate.{Estimate}
+use Rattle.division.proofs.{Sticky.{cut-high, cut-low}, Quotient.{ScaledTo, AlignedTo, aligned-is}, Classes.{nonzero-operand, quotient-nonzero}}
 
 pub significand-right : (p : ℕ) → FiniteNonzero p → ScaledTo (magnitude p) (significandOf p)
 significand-right p h = let u = nonzero-operand p h in ⊎-elim
     (λ (z : field p ≡ 0).
     let d = fraction p in
     let k : 0 < d = omega (arith, rw z at (u .0)) in
-    let s = shiftTo 52 d in
-    let f = lifted 52 d (lit< tt) k (omega arith) in
-    let e : s + (52 - s) ≡ 52 = omega (arith, f .1) in
-    rw z (record { bits = record { low = f .2; high = f .3; small = omega arith }; same = rw (mul-assoc, ← pow-add 2 s (52 - s), e) }))
+    let s = shiftTo 60 d in
+    let f = lifted 60 d (lit< tt) k (omega arith) in
+    let e : s + (60 - s) ≡ 60 = omega (arith, f .1) in
+    rw z (record { bits = record { low = f .2; high = f .3; small = omega arith }; same = rw (mul-assoc, ← pow-add 2 s (60 - s), e) }))
     (λ (g : 0 < field p).
     let e : field p + 51 ≡ (field p - 1) + 52 = omega arith in
-    rw (ne-eqb (field p) 0 (omega arith)) (record { bits = record { low = omega arith; high = omega arith; small = omega arith }; same = rw (e, pow-add 2 (field p - 1) 52, mul-assoc) }))
+    rw (ne-eqb (field p) 0 (omega arith)) (record { bits = record { low = omega arith; high = omega arith; small = omega arith }; same = rw (e, pow-add 2 (field p - 1) 52) (omega arith) }))
     (eq-zero-or-pos (field p))
 
 pub aligned-right : (w up down : ℕ) → 2 ^ 54 ≤ w → w < 2 ^ 56 → up ≤ 3118 → down ≤ 2097 → AlignedTo w up down (alignedOf w up down)
@@ -48,16 +42,14 @@ rounded-same Undecided f = f refl
 -- in a divider with the estimate E
 module _ (E : Estimate) where
   -- the run of 28 digits gives the quotient with 54 bits after the point
-  pub ratio-right : (t : List ℕ) (a b : ℕ) → Passes E t → 2 ^ 52 ≤ a → a < 2 ^ 53 → 2 ^ 52 ≤ b → b < 2 ^ 53
-      → (ratioThrough E t a b ≡ sticky (a * 2 ^ 54) b) × (resultOf E t (a * 256) (b * 256) 28 .quotient < 2 ^ 55) × (2 ^ 54 ≤ ratioThrough E t a b) × (ratioThrough E t a b < 2 ^ 56)
+  pub ratio-right : (t : List ℕ) (a b : ℕ) → Passes E t → 2 ^ 60 ≤ a → a < 2 ^ 61 → 2 ^ 60 ≤ b → b < 2 ^ 61
+      → (ratioThrough E t a b ≡ sticky (a * 2 ^ 54) b) × (resultOf E t a b 28 .quotient < 2 ^ 55) × (2 ^ 54 ≤ ratioThrough E t a b) × (ratioThrough E t a b < 2 ^ 56)
   unfolding ratioThrough
   ratio-right t a b p la ha lb hb =
-      let e = result-divides E t (a * 256) (b * 256) 28 p (record { dividend = omega arith; least = omega arith; most = omega arith }) (omega arith) in
-      let M = a * 256 * 4 ^ 27 in
-      let D = b * 256 in
-      let low = le-div-iff-mul-le {k = D} {x = 2 ^ 53} {y = M} (omega arith) .1 (omega arith) in
-      let high = div-lt-iff-lt-mul {k = D} {x = M} {y = 2 ^ 55} (omega arith) .1 (omega arith) in
-      rw e (sticky-cross M D (a * 2 ^ 54) b (omega arith) (omega arith) (omega arith), high, omega arith, omega arith)
+      let e = result-divides E t a b 28 p (record { dividend = ha; least = lb; most = hb }) (omega arith) in
+      let low = le-div-iff-mul-le {k = b} {x = 2 ^ 53} {y = a * 2 ^ 54} (omega arith) .1 (omega arith) in
+      let high = div-lt-iff-lt-mul {k = b} {x = a * 2 ^ 54} {y = 2 ^ 55} (omega arith) .1 (omega arith) in
+      rw e (refl, high, omega arith, omega arith)
 
   -- § 9.10 The digits of the quotient come through the table.
   pub binary64-through : (t : List ℕ) (direction a b : ℕ) → Passes E t → binary64Through E t direction a b ≡ quotientOf direction a b

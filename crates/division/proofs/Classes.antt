@@ -1,11 +1,10 @@
 -- The classes of operands: which make the finite case, and what patterns of them have.
-use Rattle.laws.proofs.Basics.{_≡_, refl, sym, ap, ap₂, _∙_, ⊎-elim, ℕ, _+_, _-_, _^_, _≤_, _<_, arith, le-ltb, ne-eqb, _⊎_, inl, inr}
+use Rattle.laws.proofs.{Basics.{_≡_, refl, sym, ap, ap₂, _∙_, ⊎-elim, ℕ, _+_, _-_, _^_, _≤_, _<_, arith, le-ltb, ne-eqb, _⊎_, inl, inr}, Division.{le-or-lt}}
 use mathlib.Core.Bool.{or-true}
 use native.Mathlib.Nat.{mul-pos, eq-zero-or-pos}
 use lib.Pow.{pow-pos}
 use Rattle.division.proofs.Binary64Names.{classOf, field, fraction, signOf, FiniteNonzero, IsFinite, caseOf, nanFlags, decided, byClass, magnitude, Class, Zero, Subnormal, Normal, Infinite, Nan, Binary64Result, Decided, Undecided, Case, NotANumber, Invalid, ToInfinity, ByZero, ToZero, Finite}
 use Rattle.division.specs.computed.Rounding.{isNan}
-use Rattle.laws.proofs.Division.{le-or-lt}
 
 -- a finite number other than zero is in no other class
 pub nonzero-class : (p : ℕ) → FiniteNonzero p → (classOf p ≡ Zero → ⊥) × (classOf p ≡ Infinite → ⊥) × (classOf p ≡ Nan → ⊥)

@@ -4,12 +4,9 @@ use native.Mathlib.Nat.{lt-of-lt-of-le, mul-le-mul-left}
 use lib.Pow.{pow-mono}
 use Rattle.division.specs.computed.Binary64.{binary64Of}
 use Rattle.division.proofs.Binary64Names.{magnitude, field, classOf, signOf, finiteQuotient, caseOf, nanFlags, decided, orRounded, quotientOf, RoundedQuotient, Ieee, Binary64Result, Case}
-use Rattle.selection.specs.Table.{Passes}
-use Rattle.division.proofs.AdmittedAnswers.{binary64-answer}
-use Rattle.division.proofs.Classes.{nonzero-operand, nan-case, invalid-case, by-zero-case, infinite-case, zero-case, quotient-case}
-use Rattle.division.proofs.RoundedOne.{magnitude-under}
-use Rattle.division.proofs.Quotient.{rounded-quotient}
-use Rattle.selection.specs.declared.Estimate.the-variants.{EightBits}
+use Rattle.division.proofs.{AdmittedAnswers.{binary64-answer}, Classes.{nonzero-operand, nan-case, invalid-case, by-zero-case, infinite-case, zero-case, quotient-case}}
+use Rattle.division.proofs.{RoundedOne.{magnitude-under}, Quotient.{rounded-quotient}}
+use Rattle.selection.specs.{Table.{Passes}, declared.Estimate.the-variants.{EightBits}}
 
 -- finite magnitudes are below 2^1024
 pub magnitude-below : (p : ℕ) → field p < 2047 → magnitude p < 2 ^ 2098

@@ -1,8 +1,6 @@
 -- Of two answers that `Ieee` accepts for the same operands, one is the other: nothing of a quotient is left to chance.
 use Rattle.laws.proofs.Basics.{_≡_, sym, _∙_, ℕ}
-use Rattle.division.proofs.Binary64Names.{magnitude, signOf, quotientScale, quotientPlace, Ieee, Binary64Result}
-use Rattle.division.proofs.Classes.{nonzero-operand, by-cases}
-use Rattle.division.proofs.Quotient.{quotient-increasing}
+use Rattle.division.proofs.{Binary64Names.{magnitude, signOf, quotientScale, quotientPlace, Ieee, Binary64Result}, Classes.{nonzero-operand, by-cases}, Quotient.{quotient-increasing}}
 use Rattle.division.proofs.RoundedOne.{rounded-one}
 
 -- one answer for each pair of operands

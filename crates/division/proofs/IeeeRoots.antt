@@ -1,15 +1,9 @@
 -- The binary64 root means what the specification says, for every pattern, and nothing else means it; a root is never subnormal, never overflows and never ties.
-use Rattle.laws.proofs.Basics.{_≡_, refl, sym, ap, subst, _∙_, Bool, true, false, inl, inr, ⊎-elim, ℕ, min, _+_, _-_, _*_, _/_, _%_, _^_, _≤_, _<_, arith, eqb, lt-ltb, ne-eqb}
-use Rattle.laws.proofs.Tests.{cond-in}
+use Rattle.laws.proofs.{Basics.{_≡_, refl, sym, ap, subst, _∙_, Bool, true, false, inl, inr, ⊎-elim, ℕ, min, _+_, _-_, _*_, _/_, _%_, _^_, _≤_, _<_, arith, eqb, lt-ltb, ne-eqb}, Tests.{cond-in}}
 use native.Mathlib.Nat.{le-trans, le-of-eq, eq-of-mul-eq-mul-right, mul-le-mul-right, mul-lt-mul-of-pos-right}
 use Rattle.division.proofs.Binary64Names.{negative, field, magnitude, classOf, FiniteNonzero, modeOf, IsExponent, greatest, roundedTo, roundedResult, orRounded, significandOf, rootScale, rootPlace, RoundedRoot, IeeeRoot, RootPlain, Class, Zero, Subnormal, Normal, Infinite, Nan, Mode, Binary64Result, finiteRoot, rootOfClass, rootOf}
-use Rattle.division.proofs.RoundedResults.{rounded-near, result-fits}
-use Rattle.division.proofs.Scales.{exponent-one, greatest-meets}
-use Rattle.division.proofs.RoundedOne.{rounded-one}
-use Rattle.division.proofs.Classes.{nonzero-operand, by-kind}
-use Rattle.division.proofs.IeeeLaws.{magnitude-below}
-use Rattle.division.proofs.Quotient.{ScaledTo}
-use Rattle.division.proofs.Binary64Through.{significand-right}
+use Rattle.division.proofs.{RoundedResults.{rounded-near, result-fits}, Scales.{exponent-one, greatest-meets}, RoundedOne.{rounded-one}, Classes.{nonzero-operand, by-kind}}
+use Rattle.division.proofs.{IeeeLaws.{magnitude-below}, Quotient.{ScaledTo}, Binary64Through.{significand-right}}
 use Rattle.division.proofs.Roots.{squares, four-pos, root-increasing, rounded-root, exponentOf, radicandOf, place-is, radicand-span, exponent-span, half-span, root-is}
 
 -- the answer of a class
@@ -57,9 +51,9 @@ normal-result mode e k tail l h a b =
       rw (ne-eqb e 0 (omega arith)) (cond-in (λ (z : ℕ). z ≤ 1) (eqb tail 0) (omega arith) (omega arith)),
     )
 
--- an odd number's square is no multiple of 2^54
-odd-square : (j m c : ℕ) → 0 < c → (2 * j + 1) * (2 * j + 1) * c ≡ 2 ^ 54 * m * c → ⊥
-odd-square j m c p e = omega (arith, eq-of-mul-eq-mul-right c p ((2 * j + 1) * (2 * j + 1)) (2 ^ 54 * m) e)
+-- an odd number's square is no multiple of 2^46
+odd-square : (j m c : ℕ) → 0 < c → (2 * j + 1) * (2 * j + 1) * c ≡ 2 ^ 46 * m * c → ⊥
+odd-square j m c p e = omega (arith, eq-of-mul-eq-mul-right c p ((2 * j + 1) * (2 * j + 1)) (2 ^ 46 * m) e)
 
 module _ (p : ℕ) (h : FiniteNonzero p) where
   scaled : ScaledTo (magnitude p) (significandOf p)
@@ -70,8 +64,8 @@ module _ (p : ℕ) (h : FiniteNonzero p) where
   root-exponent =
       let x = significandOf p in
       let s = radicand-span (magnitude p) x scaled in
-      let n : 2 ^ 53 * 2 ^ 53 ≤ 2 ^ 54 * radicandOf x = omega (arith, s .0) in
-      let m : 2 ^ 54 * radicandOf x < 2 ^ 54 * 2 ^ 54 = omega (arith, s .1) in
+      let n : 2 ^ 53 * 2 ^ 53 ≤ 2 ^ 46 * radicandOf x = omega (arith, s .0) in
+      let m : 2 ^ 46 * radicandOf x < 2 ^ 54 * 2 ^ 54 = omega (arith, s .1) in
       rw (place-is (magnitude p) x scaled) (record { reached = λ p. mul-le-mul-right (4 ^ exponentOf x) n; beyond = mul-lt-mul-of-pos-right m (four-pos (exponentOf x)) })
 
   -- § 12.2 A root of a number above zero is normal, and inexact is its only flag.
@@ -79,7 +73,7 @@ module _ (p : ℕ) (h : FiniteNonzero p) where
   root-plain direction {x} r =
       let a = magnitude p in
       let y = significandOf p in
-      let n = 2 ^ 54 * radicandOf y in
+      let n = 2 ^ 46 * radicandOf y in
       let g = greatest-meets (λ s. s * s) squares n 54 0 (omega arith) (omega (arith, radicand-span a y scaled .1)) in
       let s = greatest 54 (λ s. s * s) n 0 in
       let sum : s * s + (n - s * s) ≡ n = omega (arith, g .0) in

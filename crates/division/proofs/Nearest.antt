@@ -1,10 +1,8 @@
 -- What rounding means. An exact magnitude x is given by an increasing scale f and a number m: half a unit taken j times lies at f j, and x at m.
 -- A quotient n / u has f j = j * u and m = 2 * n; a root has squares. Rounding is stated and shown once, for every scale.
-use Rattle.laws.proofs.Basics.{_≡_, sym, ap, inl, inr, ⊎-elim, ℕ, min, _+_, _-_, _*_, _/_, _%_, _≤_, _<_, arith, lt-ltb, le-ltb, eq-eqb, ne-eqb}
+use Rattle.laws.proofs.{Basics.{_≡_, sym, ap, inl, inr, ⊎-elim, ℕ, min, _+_, _-_, _*_, _/_, _%_, _≤_, _<_, arith, lt-ltb, le-ltb, eq-eqb, ne-eqb}, Comparisons.{not-below}, Division.{le-or-lt}}
 use native.Mathlib.Nat.{le-of-lt, eq-zero-or-pos, eq-or-lt-of-le, le-refl, le-of-eq}
-use Rattle.laws.proofs.Comparisons.{not-below}
 use Rattle.division.proofs.Binary64Names.{AwayFromZero, ToNearest, Rounds, roundedTo, tailAt, Mode, Nearest, Toward, Away}
-use Rattle.laws.proofs.Division.{le-or-lt}
 
 module _ (f : ℕ → ℕ) (up : (i j : ℕ) → i < j → f i < f j) where
   -- order on the scale

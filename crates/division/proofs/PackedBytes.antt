@@ -1,10 +1,9 @@
 -- Packed decimal: bytes to a number and back.
-use Rattle.laws.proofs.Basics.{_≡_, refl, sym, ap, _∙_, ⊎-elim, List, ℕ, zero, suc, _+_, _-_, _*_, _/_, _%_, _^_, _≤_, _<_, add-one, arith, length, getD, set, length-set, replicate}
+use Rattle.laws.proofs.Basics.{_≡_, refl, sym, ap, _∙_, ⊎-elim, List, ℕ, zero, suc, _+_, _-_, _*_, _/_, _%_, _^_, _≤_, _<_, arith, length, getD, set, length-set, replicate}
+use Rattle.laws.proofs.Lists.{list-length, list-value}
 use native.Mathlib.Nat.{eq-or-lt-of-le, le-of-suc-le-suc, pow-suc, pow-succ', div-div-eq-div-mul}
 use lib.Seq.{ext-getD, getD-set-same, getD-set-other}
-use Rattle.laws.proofs.Lists.{list-length, list-value}
-use Rattle.division.specs.Packed.{twoDigits, numberTo, packedNumber, Decimal, IsPacked}
-use Rattle.division.specs.computed.Packed.{digitsByte, byteAt, packedBytes}
+use Rattle.division.specs.{Packed.{twoDigits, numberTo, packedNumber, Decimal, IsPacked}, computed.Packed.{digitsByte, byteAt, packedBytes}}
 
 -- a number without its last two digits
 cut-last : (x m : ℕ) → x / 100 ^ m / 100 ≡ x / 100 ^ suc m
@@ -12,32 +11,23 @@ cut-last x m = div-div-eq-div-mul x (100 ^ m) 100 ∙ ap (λ (d : ℕ). x / d) (
 
 -- ---- the number of bytes
 
-module _ (bs : List ℕ) where
-  pub number-none : numberTo bs 0 ≡ 0
+module _ (bs : List ℕ) (d : Decimal bs) where
+  pub number-below : (n : ℕ) → n ≤ 8 → numberTo bs n < 100 ^ n
   unfolding numberTo
-  number-none = refl
+  number-below zero h = omega arith
+  number-below (suc n) h = rw (pow-suc 100 n) (omega (arith, number-below n (omega arith), d .high n h, d .low n h))
 
-  pub number-more : (n : ℕ) → numberTo bs (n + 1) ≡ numberTo bs n * 100 + twoDigits (getD bs n 0)
+  -- each pair of its digits is a byte's
+  pair-at : (n k : ℕ) → n ≤ 8 → k < n → numberTo bs n / 100 ^ (n - 1 - k) % 100 ≡ twoDigits (getD bs k 0)
   unfolding numberTo
-  number-more n = rw (add-one n) refl
-
-  module _ (d : Decimal bs) where
-    pub number-below : (n : ℕ) → n ≤ 8 → numberTo bs n < 100 ^ n
-    unfolding numberTo
-    number-below zero h = omega arith
-    number-below (suc n) h = rw (pow-suc 100 n) (omega (arith, number-below n (omega arith), d .high n h, d .low n h))
-
-    -- each pair of its digits is a byte's
-    pair-at : (n k : ℕ) → n ≤ 8 → k < n → numberTo bs n / 100 ^ (n - 1 - k) % 100 ≡ twoDigits (getD bs k 0)
-    unfolding numberTo
-    pair-at zero k h l = absurd (omega arith)
-    pair-at (suc n) k h l = ⊎-elim
-        (λ (e : k ≡ n). let z : suc n - 1 - k ≡ 0 = omega arith in rw (z, e) (omega (arith, d .high n h, d .low n h)))
-        (λ (g : k < n).
-        let z : suc n - 1 - k ≡ suc (n - 1 - k) = omega arith in
-        let v : (numberTo bs n * 100 + twoDigits (getD bs n 0)) / 100 ≡ numberTo bs n = omega (arith, d .high n h, d .low n h) in
-        rw (z, pow-succ', ← div-div-eq-div-mul (numberTo bs n * 100 + twoDigits (getD bs n 0)) 100 (100 ^ (n - 1 - k)), v) (pair-at n k (omega arith) g))
-        (eq-or-lt-of-le (le-of-suc-le-suc l))
+  pair-at zero k h l = absurd (omega arith)
+  pair-at (suc n) k h l = ⊎-elim
+      (λ (e : k ≡ n). let z : suc n - 1 - k ≡ 0 = omega arith in rw (z, e) (omega (arith, d .high n h, d .low n h)))
+      (λ (g : k < n).
+      let z : suc n - 1 - k ≡ suc (n - 1 - k) = omega arith in
+      let v : (numberTo bs n * 100 + twoDigits (getD bs n 0)) / 100 ≡ numberTo bs n = omega (arith, d .high n h, d .low n h) in
+      rw (z, pow-succ', ← div-div-eq-div-mul (numberTo bs n * 100 + twoDigits (getD bs n 0)) 100 (100 ^ (n - 1 - k)), v) (pair-at n k (omega arith) g))
+      (eq-or-lt-of-le (le-of-suc-le-suc l))
 
 -- ---- there and back
 
@@ -63,14 +53,14 @@ module _ (x : ℕ) where
   -- the first n bytes of a number are the number without its later digits
   module _ (h : x < 10 ^ 16) where
     first-bytes : (n : ℕ) → n ≤ 8 → numberTo (packedBytes x) n ≡ x / 100 ^ (8 - n)
-    first-bytes zero l = number-none (packedBytes x) ∙ omega arith
+    unfolding numberTo
+    first-bytes zero l = omega arith
     first-bytes (suc n) l =
-        let e : suc n ≡ n + 1 = omega arith in
         let i : 8 - n ≡ suc (7 - n) = omega arith in
         let j : 8 - suc n ≡ 7 - n = omega arith in
         let v : numberTo (packedBytes x) n ≡ x / 100 ^ (7 - n) / 100 = first-bytes n (omega arith) ∙ ap (λ (m : ℕ). x / 100 ^ m) i ∙ sym (cut-last x (7 - n)) in
         let w : twoDigits (getD (packedBytes x) n 0) ≡ x / 100 ^ (7 - n) % 100 = rw (bytes-at x n l) (omega arith) in
-        ap (numberTo (packedBytes x)) e ∙ number-more (packedBytes x) n ∙ rw (j, v, w) (omega arith)
+        rw (j, v, w) (omega arith)
 
     -- § 13.3 Bytes come back from their number, and each number has one set of bytes.
     pub number-back : packedNumber (packedBytes x) ≡ x

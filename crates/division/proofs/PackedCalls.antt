@@ -1,15 +1,9 @@
 -- The refusals of packed division: as the code gives them, and in demand 1's words.
-use Rattle.laws.proofs.Basics.{_≡_, refl, ap, List, _⊎_, ⊎-elim, ℕ, _+_, _-_, _/_, _%_, _≤_, _<_, arith, getD, lt-ltb, le-ltb}
-use Rattle.laws.proofs.Division.{le-or-lt}
-use Rattle.laws.proofs.Tests.{Decides}
+use Rattle.laws.proofs.{Basics.{_≡_, refl, ap, List, ⊎-elim, ℕ, _+_, _-_, _/_, _%_, _≤_, _<_, arith, getD, lt-ltb, le-ltb}, Division.{le-or-lt}, Tests.{Decides}}
 use Rattle.selection.proofs.RefusalNames.{refusal, answerBy, below, eitherOf, Wrongs, rank, Refuses, holds-decides, found, not-found, WellFormed, refuses, clear-admits, refused-at}
-use Rattle.selection.specs.declared.Admission.{Admission}
-use Rattle.selection.specs.computed.Outcomes.{madeTable}
-use Rattle.division.specs.computed.Whole.{wholeOf}
-use Rattle.division.specs.declared.packed.Packed.{Packed}
-use Rattle.division.specs.Packed.{packedNumber, Decimal}
+use Rattle.selection.specs.{declared.Admission.{Admission}, computed.Outcomes.{madeTable}, declared.Estimate.the-variants.{EightBits}}
+use Rattle.division.specs.{computed.Whole.{wholeOf}, declared.packed.Packed.{Packed}, Packed.{packedNumber, Decimal}}
 use Rattle.division.specs.computed.Packed.{operandByte, Above9, isAbove9, firstAbove9, packedRules, packedZeros, packedValues, packedOf}
-use Rattle.selection.specs.declared.Estimate.the-variants.{EightBits}
 
 decimal-none : {bs : List ℕ} → Decimal bs → (i : ℕ) → i < 8 → Above9 (getD bs i 0) → ⊥
 decimal-none d i h = ⊎-elim (λ x. omega (arith, d .high i h)) (λ x. omega (arith, d .low i h))

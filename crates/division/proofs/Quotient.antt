@@ -3,14 +3,12 @@ use Rattle.laws.proofs.Basics.{_≡_, refl, ap, _∙_, Bool, ℕ, min, _+_, _-_
 use native.Mathlib.Nat.{div-add-mod', mod-lt, mul-lt-mul-of-pos-right, mul-le-mul-right, mul-pos, zero-mul, pow-suc}
 use lib.Pow.{pow-add, pow-pos}
 use Rattle.division.proofs.Binary64Names.{modeOf, roundedResult, finiteQuotient, Normalized, quotientScale, quotientPlace, RoundedQuotient, Scaled, sticky, Aligned}
-use Rattle.division.proofs.Sticky.{sticky-cross, sticky-sticky}
-use Rattle.division.proofs.Scales.{Increasing}
-use Rattle.division.proofs.Rounded.{finite-rounded, finite-is}
+use Rattle.division.proofs.{Sticky.{sticky-cross, sticky-sticky}, Scales.{Increasing}, Rounded.{finite-rounded, finite-is}}
 
--- x is normalized, and sig * 2^exp is m * 2^52
+-- x is normalized, and sig * 2^exp is m * 2^60
 pub record ScaledTo (m : ℕ) (x : Scaled) : Type 0 where
   pub bits : Normalized x
-  pub same : x .sig * 2 ^ x .exp ≡ m * 2 ^ 52
+  pub same : x .sig * 2 ^ x .exp ≡ m * 2 ^ 60
 
 -- at the exponent e, w * 2^(up - down) is cut down by e + down - up bits
 pub record AlignedTo (w up down : ℕ) (x : Aligned) : Type 0 where
@@ -38,13 +36,10 @@ pub rounded-quotient : (direction : ℕ) (s : Bool) (a b : ℕ) → a < 2 ^ 2098
 rounded-quotient direction s a b l p =
     finite-rounded (quotientScale b) (quotient-increasing b p) (quotientPlace a) direction s (reach a b (2 ^ 2098) (2 ^ 1074) (2 ^ 3119) l (pow-pos 1074) refl p)
 
--- a quotient's whole part, as a place on the scale of its divisor
-whole-part : (n u : ℕ) → 0 < u → (n / u * u ≤ n) × (n < (n / u + 1) * u) × (n % u ≡ n - n / u * u)
-whole-part n u p = let d = div-add-mod' n u in (omega arith, omega (arith, mod-lt n p), omega arith)
-
--- a sticky bit below a whole part
-above : (e h r v : ℕ) → v ≡ 2 * h + min 1 r → 2 ^ 54 * min 1 e ≤ v → v < 2 ^ 55 → (2 ^ 53 * min 1 e ≤ h) × (h < 2 ^ 54)
-above e h r v q low high = omega arith
+-- a sticky quotient's whole part, as a place on the scale of its divisor
+whole-part : (n u e v : ℕ) → 0 < u → v ≡ sticky n u → 2 ^ 54 * min 1 e ≤ v → v < 2 ^ 55
+    → (n / u * u ≤ n) × (n < (n / u + 1) * u) × (2 ^ 53 * min 1 e ≤ n / u) × (n / u < 2 ^ 54) × (v ≡ 2 * (n / u) + min 1 (n - n / u * u))
+whole-part n u e v p q low high = omega (arith, div-add-mod' n u, mod-lt n p)
 
 -- any e and v in range, v the sticky quotient at half units of 2^(e - 1074), give the definition's answer
 pub quotient-is : (direction : ℕ) (s : Bool) (a b e v : ℕ) → 0 < b → e ≤ 3119 → v ≡ sticky (quotientPlace a) (b * 2 ^ e) → 2 ^ 54 * min 1 e ≤ v → v < 2 ^ 55
@@ -52,12 +47,11 @@ pub quotient-is : (direction : ℕ) (s : Bool) (a b e v : ℕ) → 0 < b → e �
 quotient-is direction s a b e v p l q low high =
     let n = quotientPlace a in
     let u = b * 2 ^ e in
-    let w = whole-part n u (mul-pos p (pow-pos e)) in
-    let h = above e (n / u) (n % u) v q low high in
-    finite-is (quotientScale b) (quotient-increasing b p) n direction s e (n / u) v l (w .0) (w .1) (h .0) (h .1) (q ∙ ap (λ (r : ℕ). 2 * (n / u) + min 1 r) (w .2))
+    let w = whole-part n u e v (mul-pos p (pow-pos e)) q low high in
+    finite-is (quotientScale b) (quotient-increasing b p) n direction s e (n / u) v l (w .0) (w .1) (w .2) (w .3) (w .4)
 
 -- equal ratios, through scaled significands: x and y stand for the powers of their exponents, h for 2 ^ 1021
-cross : (a b m n x y h p t : ℕ) → m * x ≡ a * 2 ^ 52 → n * y ≡ b * 2 ^ 52 → p * y ≡ x * (h * t) → m * 2 ^ 54 * (b * p) ≡ 2 * (a * (h * 2 ^ 53)) * (n * t)
+cross : (a b m n x y h p t : ℕ) → m * x ≡ a * 2 ^ 60 → n * y ≡ b * 2 ^ 60 → p * y ≡ x * (h * t) → m * 2 ^ 54 * (b * p) ≡ 2 * (a * (h * 2 ^ 53)) * (n * t)
 cross a b m n x y h p t ea eb ep =
     omega (arith, ap (λ (z : ℕ). z * (h * n * t)) ea, ap (λ (z : ℕ). z * (m * p)) eb, ap (λ (z : ℕ). z * (m * n)) ep)
 

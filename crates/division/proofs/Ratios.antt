@@ -1,15 +1,10 @@
 -- How two ratios compare, found through the remainders.
-use Rattle.laws.proofs.Basics.{_≡_, refl, sym, ap, subst, _∙_, _⊎_, inl, inr, ⊎-elim, ℕ, zero, suc, _+_, _*_, _/_, _%_, _^_, _≤_, _<_, arith, ltb, lt-ltb, le-ltb, lit<}
+use Rattle.laws.proofs.{Basics.{_≡_, refl, sym, ap, subst, _∙_, _⊎_, inl, inr, ⊎-elim, ℕ, zero, suc, _+_, _*_, _/_, _%_, _^_, _≤_, _<_, arith, ltb, lt-ltb, le-ltb, lit<}, Division.{le-or-lt}}
 use native.Mathlib.Nat.{le-div-iff-mul-le, lt-trans, mul-le-mul-right, mul-lt-mul-of-pos-right, mul-pos, div-add-mod', mod-lt}
-use Rattle.laws.proofs.Division.{le-or-lt}
-use Rattle.selection.specs.computed.Outcomes.{madeTable}
-use Rattle.selection.proofs.MadeTables.{kept-passes}
-use Rattle.division.specs.computed.WholeSteps.{wholeThrough}
-use Rattle.division.specs.computed.Ratios.{Ratios, Round, FoundIn, comparisonOf}
-use Rattle.division.specs.declared.whole.WholeResult.{WholeResult}
+use Rattle.selection.{specs.computed.Outcomes.{madeTable}, proofs.MadeTables.{kept-passes}, specs.declared.Estimate.the-variants.{EightBits}}
+use Rattle.division.specs.{computed.WholeSteps.{wholeThrough}, computed.Ratios.{Ratios, Round, FoundIn, comparisonOf}, declared.whole.WholeResult.{WholeResult}}
 use Rattle.division.specs.declared.ratio.RatioOrder.the-variants.{Less, Equal, Greater}
 use Rattle.division.proofs.WholeThrough.{whole-divides}
-use Rattle.selection.specs.declared.Estimate.the-variants.{EightBits}
 
 -- ---- how two numbers compare
 
@@ -108,16 +103,9 @@ module _ (n m p q : ℕ) (x y : WholeResult) (r : Ratios n m p q) (ex : x ≡ wh
   pub code-round : Round (x .quotient) (x .remainder) (y .quotient) (y .remainder) (comparisonOf (n * q) (p * m)) (comparisonOf (q * x .remainder) (m * y .remainder) ≡ comparisonOf (n * q) (p * m))
   code-round = rw (first, second) (round-of n m p q (r .b-some) (r .d-some))
 
-  below-m : x .remainder < m
-  below-m = rw first (mod-lt n (r .b-some))
-
-  below-q : y .remainder < q
-  below-q = rw second (mod-lt p (r .d-some))
+  below : (x .remainder < m) × (y .remainder < q)
+  below = rw (first, second) (mod-lt n (r .b-some), mod-lt p (r .d-some))
 
   -- the next round has smaller divisors
-  module _ (h : x .remainder ≡ 0 → ⊥) (k : y .remainder ≡ 0 → ⊥) where
-    pub round-again : Ratios q (y .remainder) m (x .remainder)
-    round-again = omega (arith, below-m, below-q)
-
-    pub round-falls : y .remainder + x .remainder < m + q
-    round-falls = omega (arith, below-m, below-q)
+  pub round-next : (x .remainder ≡ 0 → ⊥) → (y .remainder ≡ 0 → ⊥) → Ratios q (y .remainder) m (x .remainder) × (y .remainder + x .remainder < m + q)
+  round-next h k = omega (arith, below)

@@ -1,20 +1,15 @@
 -- Whether a wrong table affected a division of whole numbers: its mark, what it claims, the refusals of the call, and that no other answer fits.
-use Rattle.laws.proofs.Basics.{_≡_, refl, ap, _∙_, List, _⊎_, inl, inr, ⊎-elim, ℕ, _+_, _-_, _*_, _/_, _%_, _^_, _≤_, _<_, arith, length}
+use Rattle.laws.{proofs.Basics.{_≡_, refl, ap, _∙_, List, inl, inr, ⊎-elim, ℕ, _+_, _-_, _*_, _/_, _%_, _^_, _≤_, _<_, arith, length}, proofs.Tests.{Decides}, specs.Shifts.{shiftTo}}
 use native.Mathlib.Nat.{pos-of-ne-zero, mul-div-cancel, le-div-iff-mul-le, lt-of-mul-lt-mul-right, mod-lt, div-add-mod'}
 use lib.Pow.{pow-pos}
-use Rattle.laws.proofs.Tests.{Decides}
-use Rattle.selection.proofs.RefusalNames.{refusal, firstRefusal, rank, WellFormed, refuses-one, refuses, cleared, clear-admits}
-use Rattle.selection.specs.declared.Admission.the-variants.{Admitted}
-use Rattle.recurrence.specs.computed.Recheck.{exactResult, ShowsWrong, Marks, markZeros, markValues, runsWrong, runMark}
-use Rattle.recurrence.specs.Recurrence.{resultOf}
-use Rattle.recurrence.proofs.RightRuns.{wrong-decides, run-mark-right, run-mark-claim, mark-is, mark-one}
-use Rattle.laws.specs.Shifts.{shiftTo}
+use Rattle.selection.{proofs.RefusalNames.{refusal, firstRefusal, rank, WellFormed, refuses-one, refuses, cleared, clear-admits}, specs.declared.Admission.the-variants.{Admitted}}
+use Rattle.selection.specs.declared.Estimate.{Estimate}
+use Rattle.recurrence.specs.{computed.Recheck.{exactResult, ShowsWrong, Marks, markZeros, markValues, runsWrong, runMark}, Recurrence.{resultOf}}
+use Rattle.recurrence.{proofs.RightRuns.{wrong-decides, run-mark-right, run-mark-claim, mark-is, mark-one}, specs.declared.recheck.AffectedMark.{AffectedMark}}
 use Rattle.division.specs.computed.WholeSteps.{digitsAfter, shiftedRun, shiftedThrough}
 use Rattle.division.specs.computed.RecheckWhole.{wholeDividend, wholeDivisor, wholeCount, WholeAffected, WholeRight, recheckWholeRules, RecheckWholeAccepts, WholeRechecks, WholeClaim, wholeMark, recheckWholeOf}
 use Rattle.division.specs.declared.whole.WholeResult.{WholeResult}
-use Rattle.recurrence.specs.declared.recheck.AffectedMark.{AffectedMark}
 use Rattle.division.proofs.WholeThrough.{whole-operands, whole-dividend, whole-exact}
-use Rattle.selection.specs.declared.Estimate.{Estimate}
 
 -- ---- refusals
 

@@ -1,54 +1,46 @@
 -- What the code of the roots asks.
-use Rattle.laws.proofs.Basics.{_≡_, sym, ap, subst, _∙_, false, ℕ, min, _+_, _*_, _/_, _%_, _^_, _≤_, _<_, arith}
-use native.Mathlib.Nat.{mod-eq-of-lt}
-use Rattle.laws.proofs.Tests.{cond-in}
-use Rattle.selection.proofs.RefusalNames.{firstRefusal, rank, WellFormed, cleared, clear-admits}
-use Rattle.selection.specs.declared.Admission.the-variants.{Admitted}
-use Rattle.division.specs.Format.{magnitude, negative, FiniteNonzero}
-use Rattle.division.specs.computed.Significands.{significandOf}
-use Rattle.division.specs.Rounding.{modeOf}
-use Rattle.division.specs.computed.Rounding.{roundedResult}
-use Rattle.division.specs.computed.RootSteps.{DigitsTaken, finiteRoot, rootOfClass, rootByClass}
-use Rattle.division.specs.computed.RootCalls.{rootRules}
-use Rattle.division.specs.declared.rounding.Mode.{Mode}
-use Rattle.division.specs.declared.format.Binary64Result.{Binary64Result}
-use Rattle.division.specs.declared.format.Scaled.{Scaled}
-use Rattle.division.specs.declared.format.ByClass.{ByClass}
-use Rattle.division.specs.declared.format.ByClass.the-variants.{Decided, Undecided}
+use Rattle.laws.proofs.{Basics.{_≡_, sym, ap, subst, _∙_, false, ℕ, min, _+_, _*_, _/_, _%_, _^_, _≤_, _<_, arith}, Tests.{cond-in}}
+use Rattle.selection.{proofs.RefusalNames.{firstRefusal, rank, WellFormed, cleared, clear-admits}, specs.declared.Admission.the-variants.{Admitted}}
+use Rattle.division.specs.{Format.{magnitude, negative, FiniteNonzero}, computed.Significands.{significandOf}, Rounding.{modeOf}, computed.Rounding.{roundedResult}}
+use Rattle.division.specs.{computed.RootSteps.{DigitsTaken, finiteRoot, rootOfClass, rootByClass}, computed.RootCalls.{rootRules}, declared.rounding.Mode.{Mode}}
+use Rattle.division.specs.declared.format.{Binary64Result.{Binary64Result}, Scaled.{Scaled}, ByClass.{ByClass}, ByClass.the-variants.{Decided, Undecided}}
 use Rattle.division.specs.declared.root.RootState.{RootState}
-use Rattle.division.proofs.Quotient.{ScaledTo}
-use Rattle.division.proofs.Classes.{by-kind}
-use Rattle.division.proofs.Binary64Through.{significand-right}
-use Rattle.division.proofs.Roots.{exponentOf, radicandOf, radicand-span, exponent-span, half-span, root-is}
+use Rattle.division.proofs.{Quotient.{ScaledTo}, Classes.{by-kind}, Binary64Through.{significand-right}, Roots.{exponentOf, radicandOf, radicand-span, exponent-span, half-span, root-is}}
+
+-- the digits of n * 2^62 down to the weight 2^8: what is left is a multiple of that weight
+digits-down : (n q r v : ℕ) → q * 2 ^ 9 * (q * 2 ^ 9) + 4 * (2 ^ 8 * r) ≡ 4 * (2 ^ 62 * n) → r < q * 2 ^ 9 + 2 ^ 8 → v ≡ 2 * (q * 2 ^ 9 / 512) + min 1 r
+    → (q * q + r / 2 ^ 8 ≡ 2 ^ 46 * n) × (r / 2 ^ 8 ≤ 2 * q) × (v ≡ 2 * q + min 1 (r / 2 ^ 8))
+digits-down n q r v e l w =
+    let k : q * q + r / 2 ^ 8 ≡ 2 ^ 46 * n = omega arith in
+    let z : r ≡ 2 ^ 8 * (r / 2 ^ 8) = omega arith in
+    (k, omega arith, omega arith)
+
+pub root-below : {m k : ℕ} {x : RootState} → DigitsTaken m k x → x .twice / 512 < 2 ^ 60
+root-below d = omega (arith, d .room)
 
 -- the root of a finite number other than zero: x is its significand, n the radicand's word, y has its digits and v their sticky bit
 module _ (p : ℕ) (x : Scaled) (u : FiniteNonzero p) (ex : x ≡ significandOf p) where
   read : ScaledTo (magnitude p) x
   read = subst (ScaledTo (magnitude p)) (sym ex) (significand-right p u)
 
-  word-is : radicandOf x % 2 ^ 64 ≡ radicandOf x
-  word-is = mod-eq-of-lt (omega (arith, radicand-span (magnitude p) x read .1))
+  -- the radicand is a word
+  pub word-is : (radicandOf x % 2 ^ 64 ≡ radicandOf x) × (radicandOf x % 2 ^ 64 < 2 ^ 62)
+  word-is = omega (arith, radicand-span (magnitude p) x read)
 
-  pub word-span : radicandOf x % 2 ^ 64 < 2 ^ 54
-  word-span = rw word-is (radicand-span (magnitude p) x read .1)
-
-  module _ (y : RootState) (v : ℕ) (d : DigitsTaken (2 ^ 54 * (radicandOf x % 2 ^ 64)) 0 y) (ev : v ≡ 2 * (y .twice / 2) + min 1 (y .rest)) where
-    doubled : y .twice ≡ 2 * (y .twice / 2)
-    doubled = let w = d .placed ∙ ap (λ (z : ℕ). d .digits * (2 * z)) (d .weight) in omega (arith, w)
-
-    sum : y .twice / 2 * (y .twice / 2) + y .rest ≡ 2 ^ 54 * radicandOf x
-    sum = let w = rw (d .weight, word-is, doubled) at (d .value) in omega (arith, w)
-
-    left : y .rest ≤ 2 * (y .twice / 2)
-    left = let w = rw (d .weight) at (d .left) in omega (arith, w, doubled)
+  module _ (y : RootState) (v : ℕ) (d : DigitsTaken (2 ^ 62 * (radicandOf x % 2 ^ 64)) 8 y) (ev : v ≡ 2 * (y .twice / 512) + min 1 (y .rest)) where
+    taken : (d .digits * d .digits + y .rest / 2 ^ 8 ≡ 2 ^ 46 * radicandOf x) × (y .rest / 2 ^ 8 ≤ 2 * d .digits) × (v ≡ 2 * d .digits + min 1 (y .rest / 2 ^ 8))
+    taken =
+        let u = d .weight in
+        let t : y .twice ≡ d .digits * 2 ^ 9 = d .placed ∙ ap (λ (z : ℕ). d .digits * (2 * z)) u in
+        digits-down (radicandOf x) (d .digits) (y .rest) v (rw (u, t, word-is .0) at (d .value)) (rw (u, t) at (d .left)) (rw t at ev)
 
     pub rounded-ready : (exponentOf x ≤ 3119) × (v / 4 < 2 ^ 53) × (2 ^ 52 * min 1 (exponentOf x) ≤ v / 4) × (v % 4 < 4)
-    rounded-ready = omega (arith, half-span (magnitude p) x read (y .twice / 2) (y .rest) sum left, exponent-span (magnitude p) x read)
+    rounded-ready = omega (arith, half-span (magnitude p) x read (d .digits) (y .rest / 2 ^ 8) (taken .0) (taken .1), taken .2, exponent-span (magnitude p) x read)
 
     pub finite-root-is : (direction : ℕ) {m : Mode} {r : Binary64Result} → m ≡ modeOf direction false → r ≡ roundedResult m false (exponentOf x) (v / 4) (v % 4) → r ≡ finiteRoot direction (magnitude p)
     finite-root-is direction em er =
         er ∙ ap (λ (m : Mode). roundedResult m false (exponentOf x) (v / 4) (v % 4)) em
-        ∙ sym (root-is (magnitude p) x read (y .twice / 2) (y .rest) sum left direction v ev)
+        ∙ sym (root-is (magnitude p) x read (d .digits) (y .rest / 2 ^ 8) (taken .0) (taken .1) direction v (taken .2))
 
 -- where its class and its sign decide nothing, the operand is a finite number other than zero
 pub root-operand : (p : ℕ) → rootByClass p ≡ Undecided → FiniteNonzero p

@@ -1,7 +1,6 @@
 -- The meaning over a scale, at a root's scale, says what it should of the root of a magnitude a, whose square is a·2^1074 square units of 2^-1074: exponent and exactness.
-use Rattle.laws.proofs.Basics.{_≡_, _∙_, _↔_, ℕ, _*_, _^_, _≤_, _<_, arith}
+use Rattle.laws.proofs.{Basics.{_≡_, _∙_, _↔_, ℕ, _*_, _^_, _≤_, _<_, arith}, Powers.{four-pow}}
 use lib.Pow.{pow-add}
-use Rattle.laws.proofs.Powers.{four-pow}
 use Rattle.division.proofs.Binary64Names.{IsExponent, rootScale, rootPlace}
 
 squared : (e : ℕ) → 4 ^ e ≡ 2 ^ e * 2 ^ e

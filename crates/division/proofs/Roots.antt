@@ -1,17 +1,11 @@
 -- Roots: the digits give the definitions' answers, and the whole root is what it should be.
-use Rattle.laws.proofs.Basics.{_≡_, sym, ap, _∙_, false, ℕ, zero, suc, min, zero-le, _+_, _-_, _*_, _/_, _%_, _^_, _≤_, _<_, arith, lit≤}
-use native.Mathlib.Nat.{mul-le-mul, mul-le-mul-left, mul-le-mul-right, mul-lt-mul-of-pos-right, mul-pos, zero-mul, le-of-lt, lt-of-le-of-lt, lt-of-lt-of-le, pow-suc}
+use Rattle.laws.proofs.{Basics.{_≡_, sym, ap, _∙_, false, ℕ, min, zero-le, _+_, _-_, _*_, _/_, _%_, _^_, _≤_, _<_, arith, lit≤}, Comparisons.{not-below, not-most}, Powers.{four-pow, by-digits}}
+use native.Mathlib.Nat.{mul-le-mul, mul-le-mul-left, mul-le-mul-right, mul-lt-mul-of-pos-right, zero-mul, le-of-lt, lt-of-le-of-lt, lt-of-lt-of-le, pow-suc}
 use lib.Pow.{pow-add, pow-pos, pow-mono}
-use Rattle.laws.proofs.Comparisons.{not-below, not-most}
-use Rattle.laws.proofs.Powers.{four-pow, by-digits}
 use Rattle.selection.specs.Answer.{refusal}
 use Rattle.division.proofs.Binary64Names.{modeOf, roundedResult, rootScale, rootPlace, RoundedRoot, Scaled, DigitsTaken, wholeRoot, finiteRoot}
-use Rattle.division.specs.computed.RootCalls.{rootValues}
-use Rattle.division.specs.declared.root.Root.{Root}
-use Rattle.division.specs.declared.root.RootState.{RootState}
-use Rattle.division.proofs.Scales.{Increasing, greatest-meets, greatest-one}
-use Rattle.division.proofs.Rounded.{finite-rounded, finite-is}
-use Rattle.division.proofs.Quotient.{ScaledTo}
+use Rattle.division.proofs.{Scales.{Increasing, greatest-meets, greatest-one}, Rounded.{finite-rounded, finite-is}, Sticky.{sticky-bit}, Quotient.{ScaledTo}}
+use Rattle.division.specs.{computed.RootCalls.{rootValues}, declared.root.Root.{Root}, declared.root.RootState.{RootState}}
 
 -- ---- whole numbers
 
@@ -73,16 +67,11 @@ abbrev pub radicandOf : Scaled → ℕ
 radicandOf x = x .sig * 2 ^ (x .exp % 2)
 
 -- y stands for 2 ^ 970
-places : (a s p e y o : ℕ) → s * p ≡ a * 2 ^ 52 → o * e ≡ p * y → 4 * (a * (2 ^ 104 * y)) ≡ 2 ^ 54 * (s * o) * e
-places a s p e y o h k = omega (arith, ap (λ (z : ℕ). z * y * 2 ^ 54) h, ap (λ (z : ℕ). s * z * 2 ^ 54) k)
-
--- numbers that are zero together have one sticky bit
-bit : (r c : ℕ) → 0 < c → min 1 r ≡ min 1 (r * c)
-bit zero c p = omega arith
-bit (suc r) c p = omega (arith, mul-pos {m = suc r} {n = c} (omega arith) p)
+places : (a s p e y o : ℕ) → s * p ≡ a * 2 ^ 60 → o * e ≡ p * y → 4 * (a * (2 ^ 104 * y)) ≡ 2 ^ 46 * (s * o) * e
+places a s p e y o h k = omega (arith, ap (λ (z : ℕ). z * y * 2 ^ 46) h, ap (λ (z : ℕ). s * z * 2 ^ 46) k)
 
 module _ (a : ℕ) (x : Scaled) (sx : ScaledTo a x) where
-  pub place-is : rootPlace a ≡ 2 ^ 54 * radicandOf x * 4 ^ exponentOf x
+  pub place-is : rootPlace a ≡ 2 ^ 46 * radicandOf x * 4 ^ exponentOf x
   place-is =
       let o : (x .exp + 970) % 2 ≡ x .exp % 2 = omega arith in
       let k : 2 ^ (x .exp % 2) * 4 ^ exponentOf x ≡ 2 ^ x .exp * 2 ^ 970 = ap (λ (n : ℕ). 2 ^ n * 4 ^ exponentOf x) (sym o) ∙ by-digits (x .exp + 970) ∙ pow-add 2 (x .exp) 970 in
@@ -91,29 +80,23 @@ module _ (a : ℕ) (x : Scaled) (sx : ScaledTo a x) where
   pub exponent-span : (485 ≤ exponentOf x) × (exponentOf x ≤ 1533)
   exponent-span = (omega arith, omega (arith, sx .bits .small))
 
-  -- the radicand has 53 or 54 bits
-  pub radicand-span : (2 ^ 52 ≤ radicandOf x) × (radicandOf x < 2 ^ 54)
+  -- the radicand has 61 or 62 bits
+  pub radicand-span : (2 ^ 60 ≤ radicandOf x) × (radicandOf x < 2 ^ 62)
   radicand-span = omega (arith, sx .bits, mul-le-mul-left (x .sig) (pow-pos (x .exp % 2)), mul-le-mul-left (x .sig) (pow-mono {i = x .exp % 2} {j = 1} (omega arith)))
 
-  -- h is the whole root of the radicand with 54 bits after it, and r what is left
-  module _ (h r : ℕ) (sum : h * h + r ≡ 2 ^ 54 * radicandOf x) (left : r ≤ 2 * h) where
+  -- h is the whole root of the radicand with 46 bits after it, and r what is left
+  module _ (h r : ℕ) (sum : h * h + r ≡ 2 ^ 46 * radicandOf x) (left : r ≤ 2 * h) where
     pub half-span : (2 ^ 53 ≤ h) × (h < 2 ^ 54)
     half-span = (
       not-below (λ g. omega (arith, mul-le-mul {n₁ = h + 1} {m₁ = h + 1} {n₂ = 2 ^ 53} {m₂ = 2 ^ 53} (omega arith) (omega arith), radicand-span .0)),
       not-most (λ (g : 2 ^ 54 ≤ h). omega (arith, mul-le-mul {n₁ = 2 ^ 54} {m₁ = 2 ^ 54} {n₂ = h} {m₂ = h} g g, radicand-span .1)),
     )
 
-    under : rootScale (exponentOf x) h ≤ rootPlace a
-    under = let l : h * h ≤ 2 ^ 54 * radicandOf x = omega arith in rw place-is (mul-le-mul-right (4 ^ exponentOf x) l)
-
-    over : rootPlace a < rootScale (exponentOf x) (h + 1)
-    over = let l : 2 ^ 54 * radicandOf x < (h + 1) * (h + 1) = omega arith in rw place-is (mul-lt-mul-of-pos-right l (four-pos (exponentOf x)))
-
-    beyond : min 1 r ≡ min 1 (rootPlace a - rootScale (exponentOf x) h)
-    beyond = rw (place-is, ← sum) (omega (arith, bit r (4 ^ exponentOf x) (four-pos (exponentOf x))))
-
     -- h with a sticky bit below gives the definition's answer
     pub root-is : (direction v : ℕ) → v ≡ 2 * h + min 1 r → finiteRoot direction a ≡ roundedResult (modeOf direction false) false (exponentOf x) (v / 4) (v % 4)
     root-is direction v e =
-        finite-is rootScale root-increasing (rootPlace a) direction false (exponentOf x) h v (omega (arith, exponent-span .1)) under over (omega (arith, half-span .0)) (half-span .1)
-        (e ∙ ap (λ (b : ℕ). 2 * h + b) beyond)
+        let c = four-pos (exponentOf x) in
+        let low : h * h ≤ 2 ^ 46 * radicandOf x = omega arith in
+        let high : 2 ^ 46 * radicandOf x < (h + 1) * (h + 1) = omega arith in
+        finite-is rootScale root-increasing (rootPlace a) direction false (exponentOf x) h v (omega (arith, exponent-span .1)) (rw place-is (mul-le-mul-right (4 ^ exponentOf x) low))
+        (rw place-is (mul-lt-mul-of-pos-right high c)) (omega (arith, half-span .0)) (half-span .1) (rw (place-is, ← sum) (omega (arith, sticky-bit r (4 ^ exponentOf x) c)))

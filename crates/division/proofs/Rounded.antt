@@ -1,16 +1,13 @@
 -- The answer that the definition gives for an exact magnitude is that magnitude rounded once, with the specification's overflow value, sign and flags: shown once for every scale.
 use Rattle.laws.proofs.Basics.{_≡_, refl, sym, ap, ap₂, _∙_, Bool, false, cond, _&&_, ⊎-elim, ℕ, min, _+_, _-_, _*_, _/_, _%_, _^_, _≤_, _<_, arith, ltb, eqb, le-leb, eq-eqb, ne-eqb, lt-ltb, le-ltb}
+use Rattle.laws.proofs.Division.{le-or-lt}
 use native.Mathlib.Nat.{le-trans, lt-of-lt-of-le}
 use Rattle.division.proofs.Binary64Names.{modeOf, IsExponent, Rounded, roundedTo, tailAt, roundedResult, largest, unitsAt, roundedUnits, roundedAt, finiteRounded, Mode, Nearest, Toward, Away}
-use Rattle.laws.proofs.Division.{le-or-lt}
-use Rattle.division.proofs.Nearest.{mono, place, rounds, whole-units, halves}
-use Rattle.division.proofs.RoundedResults.{rounded-near, value-of, sign-of, field-of, word-of, flags-of-it}
+use Rattle.division.proofs.{Nearest.{mono, place, rounds, whole-units, halves}, RoundedResults.{rounded-near, result-means}}
 use Rattle.division.proofs.Scales.{Increasing, greatest-meets, greatest-one, order, beside, further, largest-meets, exponent-one, units-high, units-low}
 
 exact-none : (mode : Mode) (k : ℕ) → roundedTo mode k 0 ≡ k
-exact-none Nearest k = refl
-exact-none Toward k = refl
-exact-none Away k = refl
+exact-none mode k = elim mode as (λ m. roundedTo m k 0 ≡ k) [ Nearest ↦ refl | Toward ↦ refl | Away ↦ refl ]
 
 -- nothing left: the rounded multiple is exact, and only then
 module _ (f : ℕ → ℕ) (up : (i j : ℕ) → i < j → f i < f j) (m k : ℕ) (low : f (2 * k) ≤ m) (high : m < f (2 * k + 2)) where
@@ -48,19 +45,18 @@ module _ (scale : ℕ → ℕ → ℕ) (inc : Increasing scale) (m : ℕ) where
     pub result-rounds : (mode : Mode) (s : Bool) → Rounded mode s scale m (roundedResult mode s e k (tailAt (scale e) m k))
     result-rounds mode s =
         let tail = tailAt (scale e) m k in
-        let i = units-high scale inc m e k is low high in
-        let j = units-low scale inc m e k is low high in
+        let means = result-means mode s e k tail (units-high scale inc m e k is low high) (units-low scale inc m e k is low high) in
         record {
           e = e;
           K = roundedTo mode k tail;
           exponent = is;
           rounded = rounds (scale e) (inc .up e) m k low high mode;
           over = λ h. rw (le-leb _ _ h) refl;
-          word = word-of mode s e k tail i j;
-          value = value-of mode s e k tail i j;
-          sign = sign-of mode s e k tail i j;
-          finite = field-of mode s e k tail i j;
-          flags = λ h. flags-of-it mode s e k tail i j h ∙ ap₂ (λ (y z : Bool). cond y 0 (cond z 3 1)) (exact-test (scale e) (inc .up e) m k low high mode) tiny;
+          word = λ h. means h .3;
+          value = λ h. means h .0;
+          sign = λ h. means h .1;
+          finite = λ h. means h .2;
+          flags = λ h. means h .4 ∙ ap₂ (λ (y z : Bool). cond y 0 (cond z 3 1)) (exact-test (scale e) (inc .up e) m k low high mode) tiny;
         }
 
   -- the whole units that the definition finds

@@ -1,12 +1,9 @@
 -- Of two answers that `Rounded` accepts for one exact magnitude, one is the other, on every scale.
-use Rattle.laws.proofs.Basics.{_≡_, sym, ap, ap₂, _∙_, Bool, ⊎-elim, ℕ, suc, _+_, _-_, _*_, _^_, _≤_, _<_, arith, ne-eqb, le-leb, lt-leb, leb-true, leb-false}
-use native.Mathlib.Nat.{le-antisymm, mul-le-mul-left, mul-lt-mul-of-pos-right, eq-zero-or-pos, eq-of-mul-eq-mul-right, pow-suc}
-use Rattle.laws.proofs.Comparisons.{not-below}
-use lib.Pow.{pow-pos, pow-mono}
+use Rattle.laws.proofs.{Basics.{_≡_, sym, ap, ap₂, _∙_, Bool, ⊎-elim, ℕ, suc, _+_, _-_, _*_, _^_, _≤_, _<_, arith, ne-eqb, le-leb, lt-leb, leb-true, leb-false}, Comparisons.{not-below}}
 use Rattle.laws.proofs.Division.{le-or-lt}
-use Rattle.division.proofs.Binary64Names.{negative, field, fraction, magnitude, flagsOfResult, Rounded, Mode, Binary64Result}
-use Rattle.division.proofs.Nearest.{rounds-one}
-use Rattle.division.proofs.Scales.{Increasing, exponent-one}
+use native.Mathlib.Nat.{le-antisymm, mul-le-mul-left, mul-lt-mul-of-pos-right, eq-zero-or-pos, eq-of-mul-eq-mul-right, pow-suc}
+use lib.Pow.{pow-pos, pow-mono}
+use Rattle.division.proofs.{Binary64Names.{negative, field, fraction, magnitude, flagsOfResult, Rounded, Mode, Binary64Result}, Nearest.{rounds-one}, Scales.{Increasing, exponent-one}}
 
 -- a magnitude lies in the span that its exponent field gives
 magnitude-above : (p : ℕ) → 0 < field p → 2 ^ 52 * 2 ^ (field p - 1) ≤ magnitude p

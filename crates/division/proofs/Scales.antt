@@ -1,10 +1,7 @@
 -- The scale of an exact magnitude: the exponent that the definition finds is the largest, and there is one; so are the whole units, and they have 53 bits.
-use Rattle.laws.proofs.Basics.{_≡_, sym, ap, ⊎-elim, ℕ, zero, suc, min, _+_, _*_, _^_, _≤_, _<_, arith, le-leb, lt-leb}
+use Rattle.laws.proofs.{Basics.{_≡_, sym, ap, ⊎-elim, ℕ, zero, suc, min, _+_, _*_, _^_, _≤_, _<_, arith, le-leb, lt-leb}, Comparisons.{not-below, not-most}, Division.{le-or-lt}}
 use native.Mathlib.Nat.{pow-suc, le-of-eq, le-refl, le-trans, eq-or-lt-of-le}
-use Rattle.laws.proofs.Comparisons.{not-below, not-most}
-use Rattle.laws.proofs.Division.{le-or-lt}
-use Rattle.division.proofs.Binary64Names.{IsExponent, largest, greatest}
-use Rattle.division.proofs.Nearest.{mono}
+use Rattle.division.proofs.{Binary64Names.{IsExponent, largest, greatest}, Nearest.{mono}}
 
 -- half a unit taken more often lies further, from 0 on, and at the next exponent it is twice as much
 pub record Increasing (scale : ℕ → ℕ → ℕ) : Type 0 where

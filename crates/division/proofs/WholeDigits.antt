@@ -1,9 +1,7 @@
 -- How many digits a whole-number division takes.
-use Rattle.laws.proofs.Basics.{_≡_, refl, ℕ, _+_, _-_, _*_, _/_, _^_, _≤_, _<_, arith}
-use Rattle.laws.specs.Shifts.{shiftTo}
+use Rattle.laws.{proofs.Basics.{_≡_, refl, ℕ, _+_, _-_, _*_, _^_, _≤_, _<_, arith}, specs.Shifts.{shiftTo}}
 use lib.Count.{leadingZeros, leading-le, leading-length}
-use Rattle.division.specs.computed.WholeSteps.{digitsAfter, shiftedRun, shiftedThrough}
-use Rattle.division.specs.computed.WholeDigits.{bits, TakesDigits, WholeDigits}
+use Rattle.division.specs.computed.{WholeSteps.{digitsAfter, shiftedRun, shiftedThrough}, WholeDigits.{bits, TakesDigits, WholeDigits}}
 use Rattle.division.proofs.WholeThrough.{room-above}
 
 bits-least : (a : ℕ) → a < 2 ^ 64 → (a < 2 ^ bits a) × (2 ^ bits a ≤ 2 * a + 1)
@@ -19,10 +17,7 @@ takes a b =
     let s = shiftTo 60 b in
     record { dividend = a * 2 ^ (s - 2 * digitsAfter a s); divisor = b * 2 ^ s; shift = s; run = λ t. refl; answer = λ t. refl }
 
-few-digits : (a b : ℕ) → a < 2 ^ 60 → digitsAfter a (shiftTo 60 b) + 1 ≤ (bits a - bits b) / 2 + 2
-few-digits a b h = omega (arith, room-above a h .0, leading-le 64 a, leading-le 64 b)
-
 -- § 8.2 A division has a digit for every two bits of its quotient, two at most besides.
 pub whole-digits : WholeDigits
 unfolding leadingZeros
-whole-digits = record { bits-least = bits-least; few = λ a b h p k. (_, takes a b, few-digits a b h); smaller = takes 5 900; window = takes 9000000 900; longest = takes (2 ^ 60 - 1) 1 }
+whole-digits = record { bits-least = bits-least; few = λ a b h p k. (_, takes a b, omega (arith, room-above a h .0, leading-le 64 a, leading-le 64 b)); smaller = takes 5 900; window = takes 9000000 900; longest = takes (2 ^ 60 - 1) 1 }

@@ -1,17 +1,10 @@
 -- Whole numbers through a table that passes: the run's digits give a / b and a % b.
-use Rattle.laws.proofs.Basics.{_≡_, _∙_, List, ℕ, _+_, _-_, _*_, _/_, _%_, _^_, _≤_, _<_, arith, lit<}
+use Rattle.laws.{proofs.Basics.{_≡_, _∙_, List, ℕ, _+_, _-_, _*_, _/_, _%_, _^_, _≤_, _<_, arith, lit<}, proofs.Division.{scaled}, proofs.Powers.{four-pow, lifted, pow-cancel}, specs.Shifts.{shiftTo}}
 use native.Mathlib.Nat.{mul-assoc, mul-div-cancel, mul-lt-mul-of-pos-right}
-use lib.Count.{leadingZeros, leading-length}
-use lib.Pow.{pow-add, pow-mono, pow-pos}
-use Rattle.laws.proofs.Division.{scaled}
-use Rattle.laws.proofs.Powers.{four-pow, lifted, pow-cancel}
-use Rattle.laws.specs.Shifts.{shiftTo}
-use Rattle.selection.specs.Table.{Passes}
-use Rattle.recurrence.specs.Recurrence.{Operands, resultOf}
-use Rattle.recurrence.specs.computed.Recheck.{exactResult}
-use Rattle.recurrence.proofs.RunDemand.{result-divides}
+use lib.{Count.{leadingZeros, leading-length}, Pow.{pow-add, pow-mono, pow-pos}}
+use Rattle.selection.specs.{Table.{Passes}, declared.Estimate.{Estimate}}
+use Rattle.recurrence.{specs.Recurrence.{Operands, resultOf}, specs.computed.Recheck.{exactResult}, proofs.RunDemand.{result-divides}}
 use Rattle.division.specs.computed.WholeSteps.{digitsAfter, shiftedRun, shiftedThrough, wholeThrough}
-use Rattle.selection.specs.declared.Estimate.{Estimate}
 
 -- above a number below 2^60 there are four zeros at least; moved up by all of them but three, or by less, it stays in the dividend's span
 pub room-above : (a : ℕ) → a < 2 ^ 60 → (4 ≤ leadingZeros 64 a) × ((m : ℕ) → m ≤ shiftTo 60 a → a * 2 ^ m < 2 ^ 61)

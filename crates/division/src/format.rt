@@ -1,10 +1,9 @@
 // The binary64 format: fields, classes, significands, flags, a result, and an answer.
 ghost use mathlib.Core.Path.{_≡_};
-ghost use Prim.Native.Nat.{_-_, _*_, _^_, _<_};
-ghost use Rattle.laws.specs.Shifts.{shiftTo};
 ghost use Rattle.division.specs.Format.{classOf, FiniteNonzero, signalling, signOf, signBit};
 ghost use Rattle.division.specs.computed.Format.{binary64Zeros, binary64Values};
 ghost use Rattle.division.specs.computed.Significands.{significandOf, Normalized};
+use crate::whole::shift_of;
 use selection::NO_REFUSAL;
 use selection::Refusal;
 
@@ -62,7 +61,7 @@ pub(crate) enum ByClass {
     Undecided,
 }
 
-// A finite magnitude other than 0, its significand moved up to 53 bits: sig * 2^exp units of 2^-1126.
+// A finite magnitude other than 0, its significand moved up until the leading one is bit 60: sig * 2^exp units of 2^-1134.
 pub(crate) struct Scaled {
     pub(crate) sig: u64,
     pub(crate) exp: u64,
@@ -120,18 +119,6 @@ pub(crate) fn signalling(p: u64) -> bool
     fraction < QUIET_BIT
 }
 
-// A subnormal's fraction, moved up until the leading one is bit 52.
-fn scaled_up(fraction: u64) -> Scaled
-    requires { ⌜ (0 < fraction) × (fraction < 2 ^ 52) ⌝ }
-    ensures { λ r. ⌜ r ≡ record { sig = fraction * 2 ^ shiftTo 52 fraction; exp = 52 - shiftTo 52 fraction } ⌝ }
-{
-    let s = u64::leading_zeros(fraction) - 11;
-    Scaled {
-        sig: fraction << s,
-        exp: (52 - s) as u64,
-    }
-}
-
 // The significand and the exponent of a finite pattern that is not a zero.
 pub(crate) fn significand(p: u64) -> Scaled
     requires { ⌜ FiniteNonzero p ⌝ }
@@ -140,10 +127,14 @@ pub(crate) fn significand(p: u64) -> Scaled
     let exponent = p / HIDDEN_BIT % 2048;
     let fraction = p % HIDDEN_BIT;
     if exponent == 0 {
-        return scaled_up(fraction);
+        let s = shift_of(fraction);
+        return Scaled {
+            sig: fraction << s,
+            exp: (60 - s) as u64,
+        };
     }
     Scaled {
-        sig: HIDDEN_BIT + fraction,
+        sig: (HIDDEN_BIT + fraction) * 256,
         exp: exponent + 51,
     }
 }

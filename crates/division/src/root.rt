@@ -1,7 +1,7 @@
 // Square roots, a binary digit a step: of whole numbers, and of binary64 patterns with one rounding. No table is used.
 ghost use mathlib.Core.Path.{_≡_};
 ghost use mathlib.Core.Bool.{cond};
-ghost use Prim.Native.Nat.{ℕ, suc, _+_, _*_, _^_, _≤_, _<_};
+ghost use Prim.Native.Nat.{ℕ, suc, _+_, _-_, _*_, _^_, _≤_, _<_};
 ghost use Rattle.selection.specs.computed.Refusals.{firstRefusal};
 ghost use Rattle.division.specs.Format.{magnitude, FiniteNonzero};
 ghost use Rattle.division.specs.computed.RootSteps.{DigitsTaken, wholeRoot, finiteRoot, unlessNegative, rootByClass, rootOf};
@@ -52,7 +52,7 @@ fn chosen(first: bool, x: u64, y: u64) -> u64
 impl RootState {
     // One digit more, of half the weight: 1 exactly if the trial fits, which the top bit of a wrapping difference tells.
     fn next(self) -> RootState
-        requires { ⌜ (self .rest < self .twice + self .unit) × (self .twice + 2 * self .unit ≤ 2 ^ 61) ⌝ }
+        requires { ⌜ (self .rest < self .twice + self .unit) × (self .twice + 2 * self .unit ≤ 2 ^ 63) ⌝ }
         ensures { λ r. ⌜ ((m k : ℕ) → DigitsTaken m (suc k) self → DigitsTaken m k r) ⌝ }
     {
         let half = self.unit / 2;
@@ -68,20 +68,20 @@ impl RootState {
     }
 }
 
-// The root of radicand * 2^first, digit by digit down to the weight 2^last.
-fn root_digits(radicand: u64, first: u64, last: u64) -> RootState
-    requires { ⌜ (radicand < 2 ^ first) × (first ≤ 60) × (last ≤ first) ⌝ }
-    ensures { λ r. ⌜ DigitsTaken (2 ^ first * radicand) last r ⌝ }
+// The root of radicand * 2^first: its first digits, below the weight 2^first, as many as count says.
+fn root_digits(radicand: u64, first: u64, count: u64) -> RootState
+    requires { ⌜ (radicand < 2 ^ first) × (first ≤ 62) × (count ≤ first) ⌝ }
+    ensures { λ r. ⌜ DigitsTaken (2 ^ first * radicand) (first - count) r ⌝ }
 {
     let mut state = RootState {
         twice: 0,
         rest: radicand,
         unit: 1 << first,
     };
-    let mut place = first;
-    while last < place {
+    let mut left = count;
+    while 0 < left {
         state = state.next();
-        place -= 1;
+        left -= 1;
     }
     state
 }
@@ -95,7 +95,7 @@ fn refusal_of(a: u64) -> Admission
     Admission::Admitted
 }
 
-// An answer that is not refused: the digits of a * 2^60 down to the weight 2^30.
+// An answer that is not refused: 30 digits of the root of a * 2^60.
 fn values(a: u64) -> Root
     requires { ⌜ a < 2 ^ 60 ⌝ }
     ensures { λ r. ⌜ r ≡ rootValues a (wholeRoot a) ⌝ }
@@ -123,14 +123,15 @@ pub fn root_whole(a: u64) -> Root
     }
 }
 
-// The root of a finite number above 0. Its half units of 2^(e - 1074), e = (exp + 970) / 2, are the root of sig * 2^(exp % 2) * 2^54, which has 54 bits.
+// The root of a finite number above 0. Its half units of 2^(e - 1074), e = (exp + 970) / 2, are the root of m = sig * 2^(exp % 2) * 2^46, which has 54 bits:
+// the first 54 digits of the root of m * 2^16.
 fn finite_root(p: u64, direction: u64) -> Binary64Result
     requires { ⌜ (FiniteNonzero p) × (direction ≤ 3) ⌝ }
     ensures { λ r. ⌜ r ≡ finiteRoot direction (magnitude p) ⌝ }
 {
     let x = significand(p);
-    let state = root_digits(x.sig << (x.exp % 2), 54, 0);
-    let quarters = with_sticky(state.twice / 2, state.rest);
+    let state = root_digits(x.sig << (x.exp % 2), 62, 54);
+    let quarters = with_sticky(state.twice / 512, state.rest);
     let mode = mode_of(direction, false);
     rounded_result(mode, false, (x.exp + 970) / 2, quarters / 4, quarters % 4)
 }

@@ -35,7 +35,7 @@ pub struct Whole {
     pub remainder: u64,
 }
 
-// How far the divisor is moved up, for its leading one to stand at bit 60.
+// How far b is moved up, for its leading one to stand at bit 60.
 pub(crate) fn shift_of(b: u64) -> u32
     requires { ⌜ (0 < b) × (b < 2 ^ 60) ⌝ }
     ensures { λ s. ⌜ DivisorShift b s ⌝ }

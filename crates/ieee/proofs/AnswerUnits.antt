@@ -1,20 +1,11 @@
 -- A rounded magnitude as the logic reads it: its sign, and how many units of 2^-1074 it has, an infinity 2^2098. It is stated for every scale.
-use Rattle.laws.proofs.Basics.{_≡_, refl, subst, Bool, true, false, cond, _⊎_, ⊎-elim, ℕ, suc, _+_, _*_, _^_, _≤_, _<_, zero-le, arith, T, leb, le-leb, lt-leb}
+use Rattle.laws.proofs.{Basics.{_≡_, refl, subst, Bool, true, false, cond, ⊎-elim, ℕ, suc, _+_, _*_, _^_, _≤_, _<_, zero-le, arith, T, leb, le-leb, lt-leb}, Division.{le-or-lt}}
 use native.Mathlib.Nat.{eq-or-lt-of-le, le-refl, le-of-eq, le-of-lt, mul-le-mul-right, pow-suc}
-use lib.Pow.{pow-pos, pow-mono}
-use lib.Ieee.{Float, nan, inf, fin, ofBits, le}
-use Rattle.laws.proofs.Division.{le-or-lt}
-use Rattle.division.specs.declared.format.Binary64Result.{Binary64Result}
-use Rattle.division.specs.Format.{signBit, infinity, largestFinite}
-use Rattle.division.specs.declared.rounding.Mode.{Mode}
-use Rattle.division.specs.Rounding.{Rounds, pointsToZero}
-use Rattle.division.specs.Rounded.{Rounded}
-use Rattle.division.proofs.Nearest.{rounds-mono, rounds-exact}
-use Rattle.division.proofs.Scales.{Increasing, exponent-mono}
-use Rattle.ieee.specs.LanguageQuotient.{valueOf}
-use Rattle.ieee.specs.Directions.{signIn}
-use Rattle.ieee.proofs.LanguageOrder.{SignedLe, negatedIf, signed-negated, stands-le}
-use Rattle.ieee.proofs.Operands.{Is, top, top-below, magnitude-top, finite-stands}
+use lib.{Pow.{pow-pos, pow-mono}, Ieee.{Float, nan, inf, fin, ofBits, le}}
+use Rattle.division.specs.{declared.format.Binary64Result.{Binary64Result}, Format.{signBit, infinity, largestFinite}, declared.rounding.Mode.{Mode}, Rounding.{Rounds, pointsToZero}}
+use Rattle.division.{specs.Rounded.{Rounded}, proofs.Nearest.{rounds-mono, rounds-exact}, proofs.Scales.{Increasing, exponent-mono}}
+use Rattle.ieee.specs.{LanguageQuotient.{valueOf}, Directions.{signIn}}
+use Rattle.ieee.proofs.{LanguageOrder.{SignedLe, negatedIf, signed-negated, stands-le}, Operands.{Is, top, top-below, magnitude-top, finite-stands}}
 
 pub is-le : (x y : Float) (s t : Bool) (a b : ℕ) → Is x s a → Is y t b → SignedLe s a t b → T (le x y)
 is-le = stands-le (2 ^ 1074) (2 ^ 2098) (pow-pos 1074) (pow-pos 2098)

@@ -2,21 +2,11 @@
 -- sign are equal.
 use Rattle.laws.proofs.Basics.{_≡_, refl, ap, subst, _∙_, Bool, true, false, not, Bool·beq, ℕ, _*_, _^_, _≤_, _<_, zero-le, arith, T, ltb→lt}
 use native.Mathlib.Nat.{add-le-add, mul-pos, mul-le-mul-left, mul-le-mul-right}
-use lib.IntN.{ℤ}
-use lib.Ieee.{Float, nan, inf, fin, le}
-use lib.Ieee.Fits.{up-pos}
-use lib.Ieee.Scale.{finite}
-use lib.Ieee.Positive.{num, positive}
-use Rattle.division.specs.declared.format.Binary64Result.{Binary64Result}
-use Rattle.division.specs.Format.{negative, magnitude, signOf}
-use Rattle.division.specs.Rounding.{modeOf}
-use Rattle.division.specs.Ieee.{quotientScale, quotientPlace, RoundedQuotient, Ieee}
+use lib.{IntN.{ℤ}, Ieee.{Float, nan, inf, fin, le}, Ieee.Fits.{up-pos}, Ieee.Scale.{finite}, Ieee.Positive.{num, positive}}
+use Rattle.division.specs.{declared.format.Binary64Result.{Binary64Result}, Format.{negative, magnitude, signOf}, Rounding.{modeOf}, Ieee.{quotientScale, quotientPlace, RoundedQuotient, Ieee}}
 use Rattle.division.proofs.Quotient.{quotient-increasing}
 use Rattle.ieee.specs.LanguageQuotient.{valueOf}
-use Rattle.ieee.proofs.LanguageOrder.{SignedLe}
-use Rattle.ieee.proofs.Operands.{seen, seen-some, finite-le, quotient-rounded}
-use Rattle.ieee.proofs.ExactQuotients.{kept-sign}
-use Rattle.ieee.proofs.AnswerUnits.{is-le, answered, rounded-stands, units-mono}
+use Rattle.ieee.proofs.{LanguageOrder.{SignedLe}, Operands.{seen, seen-some, finite-le, quotient-rounded}, ExactQuotients.{kept-sign}, AnswerUnits.{is-le, answered, rounded-stands, units-mono}}
 use Rattle.ieee.proofs.Directions.{no-more}
 
 -- a divisor above zero

@@ -1,18 +1,10 @@
 -- One pattern has what the logic's account asks: nothing of it is left to chance.
 use Rattle.laws.proofs.Basics.{_≡_, refl, sym, ap, subst, _∙_, Bool, true, false, not, inl, inr, ⊎-elim, ℕ, zero, suc, _^_, _<_, T}
 use native.Mathlib.Nat.{eq-zero-or-pos}
-use lib.Pow.{pow-pos}
-use lib.Ieee.{Float, nan, inf, fin, binary64, toBits, isNan, le}
-use lib.Ieee.Bits.{toBits-ofBits}
-use lib.Ieee.Scale.{finite}
-use lib.Ieee.Positive.{num}
-use Rattle.division.specs.Format.{negative, magnitude}
-use Rattle.division.proofs.RoundedOne.{pattern-one}
-use Rattle.ieee.specs.LanguageQuotient.{valueOf}
-use Rattle.ieee.specs.Directions.{signIn, quotientSign, RoundedToZero, RoundedIn, Directed, FiniteOver, Pinned}
-use Rattle.ieee.proofs.LanguageOrder.{signed-both, le-signed}
-use Rattle.ieee.proofs.Operands.{num-finite, seen, finite-stands}
-use Rattle.ieee.proofs.AnswerUnits.{is-sign}
+use lib.{Pow.{pow-pos}, Ieee.{Float, nan, inf, fin, binary64, toBits, isNan, le}, Ieee.Bits.{toBits-ofBits}, Ieee.Scale.{finite}, Ieee.Positive.{num}}
+use Rattle.division.{specs.Format.{negative, magnitude}, proofs.RoundedOne.{pattern-one}}
+use Rattle.ieee.specs.{LanguageQuotient.{valueOf}, Directions.{signIn, quotientSign, RoundedToZero, RoundedIn, Directed, FiniteOver, Pinned}}
+use Rattle.ieee.proofs.{LanguageOrder.{signed-both, le-signed}, Operands.{num-finite, seen, finite-stands}, AnswerUnits.{is-sign}}
 
 -- a pattern is that of its value, where this is a number or an infinity
 pub same-pattern : (p q : ℕ) → p < 2 ^ 64 → q < 2 ^ 64 → T (not (isNan (valueOf p))) → valueOf p ≡ valueOf q → p ≡ q

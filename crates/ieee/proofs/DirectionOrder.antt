@@ -1,17 +1,9 @@
 -- The answer in direction 3 is at most that in direction 0, which is at most that in direction 2; and direction 1 has the answer of 2 or 3, flags too.
 use Rattle.laws.proofs.Basics.{_≡_, refl, true, false, cond, ℕ, _<_, T}
-use lib.Ieee.{le}
-use lib.Ieee.Scale.{finite}
-use lib.Ieee.Positive.{num}
-use Rattle.division.specs.declared.format.Binary64Result.{Binary64Result}
-use Rattle.division.specs.Format.{signOf, FiniteNonzero}
-use Rattle.division.specs.Ieee.{Ieee}
-use Rattle.division.proofs.IeeeOne.{ieee-one}
-use Rattle.ieee.specs.LanguageQuotient.{valueOf}
-use Rattle.ieee.specs.Directions.{quotientSign}
-use Rattle.ieee.proofs.LanguageQuotient.{number-of}
-use Rattle.ieee.proofs.Operands.{quotient-rounded}
-use Rattle.ieee.proofs.Directions.{one-alike, within, farthest}
+use lib.{Ieee.{le}, Ieee.Scale.{finite}, Ieee.Positive.{num}}
+use Rattle.division.{specs.declared.format.Binary64Result.{Binary64Result}, specs.Format.{signOf, FiniteNonzero}, specs.Ieee.{Ieee}, proofs.IeeeOne.{ieee-one}}
+use Rattle.ieee.specs.{LanguageQuotient.{valueOf}, Directions.{quotientSign}}
+use Rattle.ieee.proofs.{LanguageQuotient.{number-of}, Operands.{quotient-rounded}, Directions.{one-alike, within, farthest}}
 
 pub directions-ordered : (a b : ℕ) {x y z : Binary64Result} → Ieee 3 a b x → Ieee 0 a b y → Ieee 2 a b z → T (finite (valueOf a)) → 0 < num (valueOf b)
     → T (le (valueOf (x .pattern)) (valueOf (y .pattern))) × T (le (valueOf (y .pattern)) (valueOf (z .pattern)))

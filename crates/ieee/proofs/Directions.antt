@@ -1,22 +1,12 @@
 -- Of directions 2 and 3 the answer is the exact quotient rounded up and down, among all values of the format; of direction 1 it is the one that the sign asks for.
-use Rattle.laws.proofs.Basics.{_≡_, refl, sym, subst, _∙_, Bool, true, false, cond, ⊎-elim, ℕ, zero, suc, _+_, _*_, _%_, _^_, _≤_, _<_, zero-le, arith, T, le-leb, lt-leb}
+use Rattle.laws.proofs.{Basics.{_≡_, refl, sym, subst, _∙_, Bool, true, false, cond, ⊎-elim, ℕ, zero, suc, _+_, _*_, _%_, _^_, _≤_, _<_, zero-le, arith, T, le-leb, lt-leb}, Division.{le-or-lt}}
 use native.Mathlib.Nat.{le-of-lt, le-refl, le-trans, lt-of-le-of-lt, not-le-of-lt, mul-le-mul-left, mul-le-mul-right}
-use lib.Ieee.{Float, nan, inf, fin}
-use lib.Ieee.Scale.{finite}
-use lib.Ieee.Positive.{num}
-use Rattle.laws.proofs.Division.{le-or-lt}
-use Rattle.division.specs.declared.format.Binary64Result.{Binary64Result}
-use Rattle.division.specs.Format.{negative, field, magnitude, signBit, signOf}
-use Rattle.division.specs.declared.rounding.Mode.{Mode}
-use Rattle.division.specs.declared.rounding.Mode.the-variants.{Toward, Away}
-use Rattle.division.specs.Rounding.{modeOf}
-use Rattle.division.specs.Rounded.{Rounded}
-use Rattle.division.specs.Ieee.{quotientScale, quotientPlace, RoundedQuotient, Ieee}
+use lib.{Ieee.{Float, nan, inf, fin}, Ieee.Scale.{finite}, Ieee.Positive.{num}}
+use Rattle.division.specs.{declared.format.Binary64Result.{Binary64Result}, Format.{negative, field, magnitude, signBit, signOf}, declared.rounding.Mode.{Mode}}
+use Rattle.division.specs.{declared.rounding.Mode.the-variants.{Toward, Away}, Rounding.{modeOf}, Rounded.{Rounded}, Ieee.{quotientScale, quotientPlace, RoundedQuotient, Ieee}}
 use Rattle.division.proofs.Quotient.{quotient-increasing}
-use Rattle.ieee.specs.LanguageQuotient.{valueOf}
-use Rattle.ieee.specs.Directions.{RoundedToZero, RoundedIn, Directed}
-use Rattle.ieee.proofs.LanguageQuotient.{nearest-quotient}
-use Rattle.ieee.proofs.LanguageOrder.{SignedLe, negatedIf}
+use Rattle.ieee.specs.{LanguageQuotient.{valueOf}, Directions.{RoundedToZero, RoundedIn, Directed}}
+use Rattle.ieee.proofs.{LanguageQuotient.{nearest-quotient}, LanguageOrder.{SignedLe, negatedIf}}
 use Rattle.ieee.proofs.Operands.{top, top-below, magnitude-top, seen, seen-some, finite-stands, exact-rounded, exact-kept, quotient-rounded}
 use Rattle.ieee.proofs.AnswerUnits.{Before, before, infinity-before, is-sign, capped, answered, rounded-stands, rounded-word, units-small, units-mono}
 use Rattle.ieee.proofs.QuotientOrder.{Beside, at-most, at-least, sign-seen, units, beside}

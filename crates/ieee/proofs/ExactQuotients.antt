@@ -1,23 +1,14 @@
 -- A quotient that is a value of the format is the answer in every direction, with no flag. So a / 1 is a, and a / a is 1.
 use Rattle.laws.proofs.Basics.{_≡_, refl, sym, ap, ap₂, subst, _∙_, Bool, true, false, not, Bool·beq, inr, ⊎-elim, ℕ, _+_, _*_, _%_, _^_, _≤_, _<_, arith, T, ne-eqb, le-ltb, leb-true, leb-false}
-use native.Mathlib.Nat.{eq-zero-or-pos, mul-comm}
-use lib.Ieee.{Float, nan, ofBits, isNan}
-use lib.Ieee.Scale.{finite}
-use lib.Ieee.Positive.{num}
 use Rattle.laws.proofs.Division.{le-or-lt}
-use Rattle.division.specs.declared.format.Binary64Result.{Binary64Result}
-use Rattle.division.specs.declared.format.Class.the-variants.{Infinite}
-use Rattle.division.specs.Format.{negative, field, fraction, magnitude, classOf, signBit, signOf, infinity}
-use Rattle.division.specs.Rounding.{modeOf}
-use Rattle.division.specs.Ieee.{quotientScale, quotientPlace, Ieee}
-use Rattle.division.proofs.Quotient.{quotient-increasing}
-use Rattle.division.proofs.RoundedOne.{rounded-one}
-use Rattle.ieee.specs.LanguageQuotient.{valueOf, one}
-use Rattle.ieee.specs.Directions.{signIn, quotientSign, IsQuotient}
+use native.Mathlib.Nat.{eq-zero-or-pos, mul-comm}
+use lib.{Ieee.{Float, nan, ofBits, isNan}, Ieee.Scale.{finite}, Ieee.Positive.{num}}
+use Rattle.division.specs.declared.format.{Binary64Result.{Binary64Result}, Class.the-variants.{Infinite}}
+use Rattle.division.specs.{Format.{negative, field, fraction, magnitude, classOf, signBit, signOf, infinity}, Rounding.{modeOf}, Ieee.{quotientScale, quotientPlace, Ieee}}
+use Rattle.division.proofs.{Quotient.{quotient-increasing}, RoundedOne.{rounded-one}}
+use Rattle.ieee.specs.{LanguageQuotient.{valueOf, one}, Directions.{signIn, quotientSign, IsQuotient}}
 use Rattle.ieee.proofs.LanguageReading as Reading
-use Rattle.ieee.proofs.Operands.{Is, seen, seen-some, finite-stands, exact-rounded, quotient-rounded}
-use Rattle.ieee.proofs.AnswerUnits.{is-sign}
-use Rattle.ieee.proofs.QuotientOrder.{both-finite, sign-seen, exact-units}
+use Rattle.ieee.proofs.{Operands.{Is, seen, seen-some, finite-stands, exact-rounded, quotient-rounded}, AnswerUnits.{is-sign}, QuotientOrder.{both-finite, sign-seen, exact-units}}
 
 abbrev unflagged : ℕ → Binary64Result
 unflagged p = record { pattern = p; flags = 0 }

@@ -1,38 +1,16 @@
 -- Binary64 answers by the logic's own account of IEEE 754, through every table that passes.
 use Rattle.laws.proofs.Basics.{_≡_, refl, ap, _∙_, sym, Bool, true, false, cond, List, ℕ, zero, suc, _≤_, _<_, zero-le, arith, length, getD, T}
-use lib.Ieee.{ofBits, le}
-use lib.Ieee.Scale.{finite}
-use lib.Ieee.Positive.{positive}
-use Rattle.selection.proofs.RefusalNames.{refusal}
-use Rattle.selection.specs.declared.Refusal.{Refusal}
-use Rattle.selection.specs.Table.{Passes}
-use Rattle.selection.proofs.MadeTables.{kept-passes}
-use Rattle.division.specs.declared.format.Binary64Result.{Binary64Result}
-use Rattle.division.specs.declared.format.Binary64.{Binary64}
-use Rattle.division.specs.Format.{negative, magnitude, largestFinite}
-use Rattle.division.specs.computed.Format.{binary64Values}
-use Rattle.division.specs.Ieee.{Ieee}
-use Rattle.division.specs.computed.Binary64.{binary64Of}
-use Rattle.division.specs.computed.Samples.{samplesOf}
-use Rattle.division.proofs.AdmittedAnswers.{binary64-answer}
-use Rattle.division.proofs.SampleRuns.{samples-right}
+use lib.{Ieee.{ofBits, le}, Ieee.Scale.{finite}, Ieee.Positive.{positive}}
+use Rattle.selection.{proofs.RefusalNames.{refusal}, specs.declared.Refusal.{Refusal}, specs.Table.{Passes}, proofs.MadeTables.{kept-passes}, specs.declared.Estimate.the-variants.{EightBits}}
+use Rattle.division.specs.{declared.format.Binary64Result.{Binary64Result}, declared.format.Binary64.{Binary64}, Format.{negative, magnitude, largestFinite}, computed.Format.{binary64Values}}
+use Rattle.division.{specs.Ieee.{Ieee}, specs.computed.Binary64.{binary64Of}, specs.computed.Samples.{samplesOf}, proofs.AdmittedAnswers.{binary64-answer}, proofs.SampleRuns.{samples-right}}
 use Rattle.division.proofs.IeeeLaws.{ieee-through}
-use Rattle.ieee.specs.LanguageQuotient.{valueOf, one}
-use Rattle.ieee.specs.Directions.{quotientSign, Pinned, negated, mirrored}
+use Rattle.ieee.specs.{LanguageQuotient.{valueOf, one}, Directions.{quotientSign, Pinned, negated, mirrored}}
 use Rattle.ieee.specs.computed.Ieee754.{answerValue, Sorted, OneSensitivity, IeeeThrough, NamedPatterns, Thirds, Ieee754}
-use Rattle.ieee.proofs.LanguageQuotient.{special-quotient, language-quotient}
-use Rattle.ieee.proofs.LanguageOrder.{SignedLe}
-use Rattle.ieee.proofs.Operands.{top, magnitude-top, seen, finite-stands}
-use Rattle.ieee.proofs.AnswerUnits.{is-le}
-use Rattle.ieee.proofs.Directions.{directed}
-use Rattle.ieee.proofs.DirectedOne.{pinned-one}
-use Rattle.ieee.proofs.DirectionOrder.{directions-ordered, toward-zero}
-use Rattle.ieee.proofs.InexactFlag.{silent}
-use Rattle.ieee.proofs.ExactQuotients.{exact-quotient, over-one, over-itself}
-use Rattle.ieee.proofs.Signalling.{signals, silent-nan}
-use Rattle.ieee.proofs.SignSymmetry.{negated-neg, dividend-negated, divisor-negated}
+use Rattle.ieee.proofs.{LanguageQuotient.{special-quotient, language-quotient}, LanguageOrder.{SignedLe}, Operands.{top, magnitude-top, seen, finite-stands}, AnswerUnits.{is-le}}
+use Rattle.ieee.proofs.{Directions.{directed}, DirectedOne.{pinned-one}, DirectionOrder.{directions-ordered, toward-zero}, InexactFlag.{silent}}
+use Rattle.ieee.proofs.{ExactQuotients.{exact-quotient, over-one, over-itself}, Signalling.{signals, silent-nan}, SignSymmetry.{negated-neg, dividend-negated, divisor-negated}}
 use Rattle.ieee.proofs.BiggerStays.{bigger-stays}
-use Rattle.selection.specs.declared.Estimate.the-variants.{EightBits}
 
 -- an answer without a refusal is its pattern and flags
 abbrev told : Binary64 → Binary64Result

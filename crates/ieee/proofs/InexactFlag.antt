@@ -1,21 +1,11 @@
 -- In every direction there is no flag exactly where the answer is the exact quotient.
-use Rattle.laws.proofs.Basics.{_≡_, refl, sym, ap, _∙_, Bool, true, false, cond, ⊎-elim, _↔_, ℕ, _+_, _*_, _^_, _≤_, _<_, arith, T, ltb, lt-leb, eqb-true}
+use Rattle.laws.proofs.{Basics.{_≡_, refl, sym, ap, _∙_, Bool, true, false, cond, ⊎-elim, _↔_, ℕ, _+_, _*_, _^_, _≤_, _<_, arith, T, ltb, lt-leb, eqb-true}, Division.{le-or-lt}}
 use native.Mathlib.Nat.{le-of-eq, not-le-of-lt}
-use lib.Ieee.{Float, nan, inf, fin}
-use lib.Ieee.Scale.{finite}
-use lib.Ieee.Positive.{num}
-use Rattle.laws.proofs.Division.{le-or-lt}
-use Rattle.division.specs.declared.format.Binary64Result.{Binary64Result}
-use Rattle.division.specs.Format.{magnitude, signOf, inexactFlag, underflowFlag, overflowFlag}
-use Rattle.division.specs.Rounding.{modeOf}
-use Rattle.division.specs.Ieee.{quotientScale, quotientPlace, RoundedQuotient, Ieee}
-use Rattle.division.proofs.QuotientReading.{quotient-exact}
-use Rattle.ieee.specs.LanguageQuotient.{valueOf}
-use Rattle.ieee.specs.Directions.{IsQuotient}
-use Rattle.ieee.proofs.Operands.{Is, quotient-rounded}
-use Rattle.ieee.proofs.AnswerUnits.{is-sign, answered, rounded-stands, rounded-word}
-use Rattle.ieee.proofs.QuotientOrder.{sign-seen, exact-units}
-use Rattle.ieee.proofs.ExactQuotients.{exact-quotient}
+use lib.{Ieee.{Float, nan, inf, fin}, Ieee.Scale.{finite}, Ieee.Positive.{num}}
+use Rattle.division.specs.{declared.format.Binary64Result.{Binary64Result}, Format.{magnitude, signOf, inexactFlag, underflowFlag, overflowFlag}, Rounding.{modeOf}}
+use Rattle.division.{specs.Ieee.{quotientScale, quotientPlace, RoundedQuotient, Ieee}, proofs.QuotientReading.{quotient-exact}}
+use Rattle.ieee.specs.{LanguageQuotient.{valueOf}, Directions.{IsQuotient}}
+use Rattle.ieee.proofs.{Operands.{Is, quotient-rounded}, AnswerUnits.{is-sign, answered, rounded-stands, rounded-word}, QuotientOrder.{sign-seen, exact-units}, ExactQuotients.{exact-quotient}}
 
 no-flag : (t z : Bool) → _≡_ {A = ℕ} (cond t 0 (cond z (inexactFlag + underflowFlag) inexactFlag)) 0 → t ≡ true
 no-flag true z e = refl

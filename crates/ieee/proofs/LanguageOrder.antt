@@ -1,10 +1,7 @@
 -- The order of values in the logic's account of IEEE 754 (`le` of lib.Ieee), told by signs and whole numbers of units.
-use Rattle.laws.proofs.Basics.{_≡_, sym, ap, subst, Bool, true, false, not, _&&_, ⊎-elim, _↔_, ℕ, _+_, _*_, _≤_, _<_, arith, ℤ, T, eqb, eqb→eq, lt-ltb, le-ltb, eq-eqb, ne-eqb}
+use Rattle.laws.proofs.{Basics.{_≡_, sym, ap, subst, Bool, true, false, not, _&&_, ⊎-elim, _↔_, ℕ, _+_, _*_, _≤_, _<_, arith, ℤ, T, eqb, eqb→eq, lt-ltb, le-ltb, eq-eqb, ne-eqb}, Division.{le-or-lt}}
 use native.Mathlib.Nat.{eq-or-lt-of-le, eq-zero-or-pos, mul-pos, mul-le-mul-right, le-of-mul-le-mul-right}
-use Rattle.laws.proofs.Division.{le-or-lt}
-use lib.Ieee.{Float, nan, inf, fin, up, down, le}
-use lib.Ieee.Fits.{down-pos}
-use lib.Ieee.Scale.{finite}
+use lib.{Ieee.{Float, nan, inf, fin, up, down, le}, Ieee.Fits.{down-pos}, Ieee.Scale.{finite}}
 use Rattle.ieee.specs.Directions.{atMost}
 
 pub both : (x y : Bool) → T (x && y) → T x × T y

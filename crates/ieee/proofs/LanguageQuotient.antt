@@ -1,26 +1,14 @@
 -- The pattern of an answer in direction 0 is that of the language's own quotient, for all patterns; so it is in every direction where an operand is zero, infinite or not a number.
 use Rattle.laws.proofs.Basics.{_≡_, refl, sym, ap, subst, _∙_, Bool, true, false, _⊎_, ⊎-elim, List, ℕ, _*_, _^_, _<_, arith, pos, eqb, eq-eqb, ne-eqb}
 use native.Mathlib.Nat.{eq-zero-or-pos, eq-of-mul-eq-mul-right, mul-pos}
-use lib.Pow.{pow-pos}
-use lib.Ieee.{Float, nan, inf, fin, binary64, up, down, unlike, round, div, toBits}
-use lib.Ieee.Bits.{ofBits-toBits}
-use lib.Ieee.Fits.{up-pos, down-pos, div-fits}
-use lib.Ieee.Positive.{num, first-pos}
+use lib.{Pow.{pow-pos}, Ieee.{Float, nan, inf, fin, binary64, up, down, unlike, round, div, toBits}, Ieee.Bits.{ofBits-toBits}, Ieee.Fits.{up-pos, down-pos, div-fits}, Ieee.Positive.{num, first-pos}}
 use lib.Ieee.Scale.{round-same}
-use Rattle.selection.specs.Table.{Passes}
-use Rattle.division.specs.declared.format.Binary64Result.{Binary64Result}
-use Rattle.division.specs.declared.format.Class.{Class}
-use Rattle.division.specs.declared.format.Class.the-variants.{Zero, Infinite, Nan}
-use Rattle.division.specs.Format.{magnitude, classOf, signBit, signOf, FiniteNonzero}
-use Rattle.division.specs.Ieee.{Ieee}
-use Rattle.division.specs.computed.Binary64.{binary64Of}
-use Rattle.division.proofs.Classes.{by-cases, nonzero-operand}
+use Rattle.selection.specs.{Table.{Passes}, declared.Estimate.the-variants.{EightBits}}
+use Rattle.division.specs.declared.format.{Binary64Result.{Binary64Result}, Class.{Class}, Class.the-variants.{Zero, Infinite, Nan}}
+use Rattle.division.{specs.Format.{magnitude, classOf, signBit, signOf, FiniteNonzero}, specs.Ieee.{Ieee}, specs.computed.Binary64.{binary64Of}, proofs.Classes.{by-cases, nonzero-operand}}
 use Rattle.division.proofs.IeeeLaws.{ieee-through}
-use Rattle.ieee.specs.LanguageQuotient.{valueOf, languageQuotient}
-use Rattle.ieee.specs.computed.LanguageQuotient.{LanguageQuotient}
-use Rattle.ieee.proofs.LanguageRounding.{quotient-bits}
-use Rattle.ieee.proofs.LanguageReading.{Number, Nonzero, Reads, finite, read}
-use Rattle.selection.specs.declared.Estimate.the-variants.{EightBits}
+use Rattle.ieee.specs.{LanguageQuotient.{valueOf, languageQuotient}, computed.LanguageQuotient.{LanguageQuotient}}
+use Rattle.ieee.proofs.{LanguageRounding.{quotient-bits}, LanguageReading.{Number, Nonzero, Reads, finite, read}}
 
 -- ---- two finite values
 

@@ -1,13 +1,9 @@
 -- What the logic reads from a pattern (`ofBits` of lib.Ieee) is what the specification's class, sign and magnitude say.
-use Rattle.laws.proofs.Basics.{_≡_, refl, sym, ap, subst, _∙_, Bool, cond, inl, inr, ⊎-elim, ℕ, zero, suc, _+_, _-_, _*_, _^_, _≤_, _<_, arith, ℤ, eqb, ne-eqb, lt-ltb, le-ltb}
+use Rattle.laws.proofs.{Basics.{_≡_, refl, sym, ap, subst, _∙_, Bool, cond, inl, inr, ⊎-elim, ℕ, zero, suc, _+_, _-_, _*_, _^_, _≤_, _<_, arith, ℤ, eqb, ne-eqb, lt-ltb, le-ltb}, Division.{le-or-lt}}
 use native.Mathlib.Nat.{eq-zero-or-pos, mul-one}
 use lib.Pow as Pow
-use lib.Ieee.{Float, nan, inf, fin, binary64, up, down, ofFields, ofBits}
-use lib.Ieee.Exact.{HasValue, odd-sign}
-use Rattle.laws.proofs.Division.{le-or-lt}
-use Rattle.division.specs.declared.format.Class.{Class}
-use Rattle.division.specs.declared.format.Class.the-variants.{Zero, Subnormal, Normal, Infinite, Nan}
-use Rattle.division.specs.Format.{negative, field, fraction, magnitude, classOf}
+use lib.{Ieee.{Float, nan, inf, fin, binary64, up, down, ofFields, ofBits}, Ieee.Exact.{HasValue, odd-sign}}
+use Rattle.division.specs.{declared.format.Class.{Class}, declared.format.Class.the-variants.{Zero, Subnormal, Normal, Infinite, Nan}, Format.{negative, field, fraction, magnitude, classOf}}
 use Rattle.division.proofs.Classes.{nonzero-operand}
 
 -- a finite value with the sign s, of n units of 2^-1074

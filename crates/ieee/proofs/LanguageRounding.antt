@@ -1,25 +1,13 @@
 -- The logic's rounding of a fraction of two magnitudes, written as a pattern, is the specification's in direction 0.
 use Rattle.laws.proofs.Basics.{_≡_, refl, sym, ap, ap₂, subst, _∙_, Bool, not, ⊎-elim, ℕ, _+_, _-_, _*_, _/_, _%_, _^_, _≤_, _<_, compare, Ordering, Ordering·lt, Ordering·eq, Ordering·gt, arith, T, isLe, isEq, eqb, leb-true, leb-false, eqb-true, eqb-false, eq-eqb, ne-eqb, lt-ltb, le-ltb}
+use Rattle.laws.proofs.{Division.{le-or-lt}, Tests.{cond-in}}
 use native.Mathlib.Nat.{div-add-mod', mod-lt, mul-div-cancel, mul-pos, lt-of-lt-of-le, le-div-iff-mul-le, div-lt-iff-lt-mul}
-use lib.Pow.{pow-pos, pow-mono, pow-add}
-use lib.Ieee.{Float, binary64, size, units, round, toBits, isNan}
-use lib.Ieee.Bits.{toBits-ofBits}
-use lib.Ieee as Logic
-use lib.Ieee.Digits.{size-lt, size-reaches}
-use lib.Ieee.Fits.{down-pos, round-is}
+use lib.{Pow.{pow-pos, pow-mono, pow-add}, Ieee.{Float, binary64, size, units, round, toBits, isNan}, Ieee.Bits.{toBits-ofBits}, Ieee.Digits.{size-lt, size-reaches}, Ieee.Fits.{down-pos, round-is}}
 use lib.Ieee.Exact.{units-val}
-use Rattle.laws.proofs.Division.{le-or-lt}
-use Rattle.laws.proofs.Tests.{cond-in}
-use Rattle.division.specs.declared.format.Binary64Result.{Binary64Result}
-use Rattle.division.specs.Format.{signBit, infinity}
-use Rattle.division.specs.declared.rounding.Mode.the-variants.{Nearest}
-use Rattle.division.specs.Rounding.{ToNearest}
-use Rattle.division.specs.Rounded.{IsExponent, Rounded}
-use Rattle.division.specs.Ieee.{quotientScale, quotientPlace, RoundedQuotient}
-use Rattle.division.specs.computed.Rounding.{nearest, tailAt}
-use Rattle.division.proofs.Nearest.{rounds-one, rounds}
-use Rattle.division.proofs.Scales.{exponent-one}
-use Rattle.division.proofs.Quotient.{quotient-increasing}
+use lib.Ieee as Logic
+use Rattle.division.specs.{declared.format.Binary64Result.{Binary64Result}, Format.{signBit, infinity}, declared.rounding.Mode.the-variants.{Nearest}, Rounding.{ToNearest}}
+use Rattle.division.{specs.Rounded.{IsExponent, Rounded}, specs.Ieee.{quotientScale, quotientPlace, RoundedQuotient}, specs.computed.Rounding.{nearest, tailAt}, proofs.Nearest.{rounds-one, rounds}}
+use Rattle.division.proofs.{Scales.{exponent-one}, Quotient.{quotient-increasing}}
 use Rattle.ieee.proofs.LanguageReading.{Number, number, finite}
 
 -- ---- the same exponent, and the same rounding

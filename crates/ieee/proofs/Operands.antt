@@ -1,24 +1,14 @@
 -- Finite operands, from what the logic reads; and an answer to a finite number over one that is not zero is their quotient rounded, the answer to a zero dividend too.
 use Rattle.laws.proofs.Basics.{_≡_, refl, sym, subst, Bool, true, false, cond, _⊎_, inl, inr, ⊎-elim, ℕ, _+_, _-_, _*_, _%_, _^_, _≤_, _<_, arith, T, eqb, lit<, lit≤, eq-eqb, ne-eqb, lt-ltb, le-leb, lt-leb}
-use native.Mathlib.Nat.{add-zero, eq-zero-or-pos, le-trans, not-le-of-lt, lt-of-le-of-lt, mul-pos, mul-le-mul, mul-le-mul-right, mul-lt-mul-of-pos-right, zero-mul}
-use lib.Pow.{pow-pos, pow-mono}
-use lib.Ieee.{Float, nan, inf, fin, up, down, le}
-use lib.Ieee.Scale.{finite}
-use lib.Ieee.Positive.{num, first-pos}
 use Rattle.laws.proofs.Division.{le-or-lt}
-use Rattle.division.specs.declared.format.Binary64Result.{Binary64Result}
-use Rattle.division.specs.declared.format.Class.the-variants.{Zero}
-use Rattle.division.specs.Format.{negative, field, fraction, magnitude, classOf, signBit, signOf, FiniteNonzero}
-use Rattle.division.specs.declared.rounding.Mode.{Mode}
-use Rattle.division.specs.Rounding.{modeOf, Rounds}
-use Rattle.division.specs.Rounded.{IsExponent, Rounded}
-use Rattle.division.specs.Ieee.{quotientScale, RoundedQuotient, Ieee}
-use Rattle.division.proofs.Nearest.{rounds-exact}
-use Rattle.division.proofs.Quotient.{quotient-increasing}
+use native.Mathlib.Nat.{add-zero, eq-zero-or-pos, le-trans, not-le-of-lt, lt-of-le-of-lt, mul-pos, mul-le-mul, mul-le-mul-right, mul-lt-mul-of-pos-right, zero-mul}
+use lib.{Pow.{pow-pos, pow-mono}, Ieee.{Float, nan, inf, fin, up, down, le}, Ieee.Scale.{finite}, Ieee.Positive.{num, first-pos}}
+use Rattle.division.specs.declared.format.{Binary64Result.{Binary64Result}, Class.the-variants.{Zero}}
+use Rattle.division.specs.{Format.{negative, field, fraction, magnitude, classOf, signBit, signOf, FiniteNonzero}, declared.rounding.Mode.{Mode}, Rounding.{modeOf, Rounds}}
+use Rattle.division.{specs.Rounded.{IsExponent, Rounded}, specs.Ieee.{quotientScale, RoundedQuotient, Ieee}, proofs.Nearest.{rounds-exact}, proofs.Quotient.{quotient-increasing}}
 use Rattle.ieee.specs.LanguageQuotient.{valueOf}
-use Rattle.ieee.proofs.LanguageReading.{Number}
+use Rattle.ieee.proofs.{LanguageReading.{Number}, LanguageOrder.{SignedLe, Stands, le-signed}}
 use Rattle.ieee.proofs.LanguageReading as Reading
-use Rattle.ieee.proofs.LanguageOrder.{SignedLe, Stands, le-signed}
 
 -- a finite pattern's class, by its magnitude
 pub class-of : (p : ℕ) → field p < 2047 → ((classOf p ≡ Zero) × (magnitude p ≡ 0)) ⊎ (FiniteNonzero p × (0 < magnitude p))

@@ -1,16 +1,10 @@
 -- At most and at least the exact quotient, told by signs and whole numbers of units.
 use Rattle.laws.proofs.Basics.{_≡_, refl, sym, ap, Bool, true, false, _↔_, ℕ, _*_, _^_, _<_, arith, ℤ, T}
 use native.Mathlib.Nat.{mul-pos}
-use lib.Pow.{pow-pos}
-use lib.Ieee.{Float, nan, inf, fin, up, down, unlike}
-use lib.Ieee.Fits.{down-pos}
-use lib.Ieee.Scale.{finite}
-use lib.Ieee.Positive.{num, den}
+use lib.{Pow.{pow-pos}, Ieee.{Float, nan, inf, fin, up, down, unlike}, Ieee.Fits.{down-pos}, Ieee.Scale.{finite}, Ieee.Positive.{num, den}}
 use Rattle.division.specs.Format.{negative, magnitude, signOf}
-use Rattle.ieee.specs.LanguageQuotient.{valueOf}
-use Rattle.ieee.specs.Directions.{quotientSign, AtMostQuotient, AtLeastQuotient, IsQuotient}
-use Rattle.ieee.proofs.LanguageOrder.{SignedLe, negatedIf, signed-negated, signed-at-most, at-most-signed, signed-both, rescaled, Stands}
-use Rattle.ieee.proofs.Operands.{Is, seen, seen-some}
+use Rattle.ieee.specs.{LanguageQuotient.{valueOf}, Directions.{quotientSign, AtMostQuotient, AtLeastQuotient, IsQuotient}}
+use Rattle.ieee.proofs.{LanguageOrder.{SignedLe, negatedIf, signed-negated, signed-at-most, at-most-signed, signed-both, rescaled, Stands}, Operands.{Is, seen, seen-some}}
 
 -- z ≤ x / y, and where r is true x / y ≤ z
 abbrev pub Beside : Bool → Float → Float → Float → Type 0

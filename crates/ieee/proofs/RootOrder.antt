@@ -1,22 +1,12 @@
 -- Roots keep the order of their operands: the law of every scale, at a root's.
-use Rattle.laws.proofs.Basics.{_≡_, refl, ap, subst, _∙_, Bool, true, false, not, cond, _⊎_, inl, inr, ⊎-elim, ℕ, _^_, _≤_, _<_, arith, T, eqb, ne-eqb, le-ltb}
+use Rattle.laws.proofs.{Basics.{_≡_, refl, ap, subst, _∙_, Bool, true, false, not, cond, _⊎_, inl, inr, ⊎-elim, ℕ, _^_, _≤_, _<_, arith, T, eqb, ne-eqb, le-ltb}, Division.{le-or-lt}}
 use native.Mathlib.Nat.{le-refl, mul-le-mul-left, mul-le-mul-right}
-use lib.Ieee.{Float, nan, inf, fin, le}
-use lib.Ieee.Scale.{finite}
-use Rattle.laws.proofs.Division.{le-or-lt}
-use Rattle.division.specs.declared.format.Binary64Result.{Binary64Result}
-use Rattle.division.specs.declared.format.Class.the-variants.{Infinite}
-use Rattle.division.specs.Format.{negative, field, fraction, magnitude, classOf}
-use Rattle.division.specs.Roots.{rootScale, rootPlace, RoundedRoot, IeeeRoot}
-use Rattle.division.proofs.Roots.{root-increasing}
-use Rattle.division.proofs.AdmittedAnswers.{root-answer}
-use Rattle.division.proofs.IeeeRoots.{ieee-root}
-use Rattle.ieee.specs.LanguageQuotient.{valueOf}
-use Rattle.ieee.specs.computed.RootOrder.{RootOrder}
+use lib.{Ieee.{Float, nan, inf, fin, le}, Ieee.Scale.{finite}}
+use Rattle.division.specs.{declared.format.Binary64Result.{Binary64Result}, declared.format.Class.the-variants.{Infinite}, Format.{negative, field, fraction, magnitude, classOf}}
+use Rattle.division.{specs.Roots.{rootScale, rootPlace, RoundedRoot, IeeeRoot}, proofs.Roots.{root-increasing}, proofs.AdmittedAnswers.{root-answer}, proofs.IeeeRoots.{ieee-root}}
+use Rattle.ieee.specs.{LanguageQuotient.{valueOf}, computed.RootOrder.{RootOrder}}
 use Rattle.ieee.proofs.LanguageReading as Reading
-use Rattle.ieee.proofs.LanguageOrder.{SignedLe}
-use Rattle.ieee.proofs.Operands.{class-of, Is, finite-stands, finite-value, finite-le}
-use Rattle.ieee.proofs.AnswerUnits.{is-le, infinity-before, rounded-stands, units-mono}
+use Rattle.ieee.proofs.{LanguageOrder.{SignedLe}, Operands.{class-of, Is, finite-stands, finite-value, finite-le}, AnswerUnits.{is-le, infinity-before, rounded-stands, units-mono}}
 
 -- ---- signs: ±m is not below zero, and ±n not below it
 not-below-zero : (s t : Bool) (m n : ℕ) → SignedLe false 0 s m → SignedLe s m t n → SignedLe false 0 t n × (m ≤ n)

@@ -1,23 +1,13 @@
 -- Negating an operand negates the answer and exchanges directions 2 and 3; the flags stay. It holds of not-a-numbers too, whose sign the logic does not tell.
-use Rattle.laws.proofs.Basics.{_≡_, refl, sym, ap, ap₂, _∙_, Bool, true, false, not, cond, _||_, Bool·beq, ⊎-elim, ℕ, zero, suc, _+_, _^_, _≤_, _<_, arith, eqb, le-leb, lt-leb}
+use Rattle.laws.proofs.{Basics.{_≡_, refl, sym, ap, ap₂, _∙_, Bool, true, false, not, cond, _||_, Bool·beq, ⊎-elim, ℕ, zero, suc, _+_, _^_, _≤_, _<_, arith, eqb, le-leb, lt-leb}, Division.{le-or-lt}}
 use lib.Ieee.{nan, inf, binary64, neg, odd, ofFields, ofBits}
-use Rattle.laws.proofs.Division.{le-or-lt}
 use Rattle.division.specs.declared.format.Binary64Result.{Binary64Result}
 use Rattle.division.specs.Format.{negative, field, fraction, magnitude, classOf, signalling, signBit, signOf, infinity, largestFinite, quietNan, inexactFlag, overflowFlag, invalidFlag, FiniteNonzero}
-use Rattle.division.specs.computed.Format.{binary64Values}
-use Rattle.division.specs.computed.Rounding.{nanFlags}
-use Rattle.division.specs.declared.rounding.Mode.{Mode}
-use Rattle.division.specs.Rounding.{modeOf, pointsToZero}
-use Rattle.division.specs.Rounded.{Rounded}
-use Rattle.division.specs.Ieee.{quotientScale, quotientPlace, RoundedQuotient, Ieee}
-use Rattle.division.proofs.Classes.{by-cases, nonzero-operand}
-use Rattle.division.proofs.Quotient.{quotient-increasing}
+use Rattle.division.specs.{computed.Format.{binary64Values}, computed.Rounding.{nanFlags}, declared.rounding.Mode.{Mode}, Rounding.{modeOf, pointsToZero}, Rounded.{Rounded}}
+use Rattle.division.{specs.Ieee.{quotientScale, quotientPlace, RoundedQuotient, Ieee}, proofs.Classes.{by-cases, nonzero-operand}, proofs.Quotient.{quotient-increasing}}
 use Rattle.division.proofs.RoundedOne.{rounded-one}
-use Rattle.ieee.specs.LanguageQuotient.{valueOf}
-use Rattle.ieee.specs.Directions.{negated, mirrored}
-use Rattle.ieee.specs.computed.Ieee754.{Opposite}
-use Rattle.ieee.proofs.LanguageReading.{by-fields}
-use Rattle.ieee.proofs.AnswerUnits.{rounded-word}
+use Rattle.ieee.specs.{LanguageQuotient.{valueOf}, Directions.{negated, mirrored}, computed.Ieee754.{Opposite}}
+use Rattle.ieee.proofs.{LanguageReading.{by-fields}, AnswerUnits.{rounded-word}}
 
 -- ---- a negated pattern
 negated-field : (p : ℕ) → field (negated p) ≡ field p

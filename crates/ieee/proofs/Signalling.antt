@@ -1,15 +1,9 @@
 -- Signalling by the logic's own account: the pattern is read as the not-a-number, and its top fraction bit is 0. The flags of answers by it.
 use Rattle.laws.proofs.Basics.{_≡_, refl, sym, ap, _∙_, Bool, true, false, cond, _&&_, _||_, _↔_, _⊎_, inl, inr, ⊎-elim, ℕ, _+_, _*_, _/_, _%_, _^_, _<_, arith, T, eqb, ltb, ltb→lt, eqb→eq, lt-ltb, eq-eqb, ltb-true, le-ltb, ne-eqb}
-use lib.Ieee.{Float, nan, inf, fin, binary64, isNan}
-use lib.Ieee.Bits.{nanBits-is, nanBits-above}
-use Rattle.laws.proofs.Division.{quotient}
-use Rattle.laws.proofs.Tests.{is-true}
-use Rattle.division.specs.Format.{field, fraction, classOf, signalling, invalidFlag}
-use Rattle.division.specs.Ieee.{Ieee}
-use Rattle.division.specs.declared.format.Binary64Result.{Binary64Result}
-use Rattle.division.specs.declared.format.Class.the-variants.{Nan}
-use Rattle.ieee.specs.LanguageQuotient.{valueOf}
-use Rattle.ieee.specs.computed.Ieee754.{Signals}
+use Rattle.laws.proofs.{Division.{quotient}, Tests.{is-true}}
+use lib.{Ieee.{Float, nan, inf, fin, binary64, isNan}, Ieee.Bits.{nanBits-is, nanBits-above}}
+use Rattle.division.specs.{Format.{field, fraction, classOf, signalling, invalidFlag}, Ieee.{Ieee}, declared.format.Binary64Result.{Binary64Result}, declared.format.Class.the-variants.{Nan}}
+use Rattle.ieee.specs.{LanguageQuotient.{valueOf}, computed.Ieee754.{Signals}}
 use Rattle.ieee.proofs.LanguageOrder.{both}
 
 is-nan : (x : Float) → isNan x ≡ true → x ≡ nan

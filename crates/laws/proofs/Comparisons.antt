@@ -1,6 +1,5 @@
 -- Two numbers: what is not below, not at most and not different.
-use Rattle.laws.proofs.Basics.{_≡_, ⊎-elim, ℕ, _≤_, _<_, arith}
-use Rattle.laws.proofs.Division.{le-or-lt}
+use Rattle.laws.proofs.{Basics.{_≡_, ⊎-elim, ℕ, _≤_, _<_, arith}, Division.{le-or-lt}}
 use native.Mathlib.Nat.{le-antisymm}
 
 pub not-below : {a b : ℕ} → (a < b → ⊥) → b ≤ a

@@ -1,13 +1,8 @@
 -- How many numbers pass a test, and how many have a property.
 use Rattle.laws.proofs.Basics.{_≡_, refl, sym, subst, _∙_, Bool, true, false, cond, _⊎_, ⊎-elim, _≢_, ℕ, zero, suc, _+_, _≤_, _<_, add-one, arith, T}
+use Rattle.laws.proofs.{Tests.{by-cond, cond-in, is-true, either, Decides}, Sums.{sum-more, sum-part, sum-most, sum-nothing, sum-zero, sum-as}, Search.{first-below}}
 use native.Mathlib.Nat.{add-zero, eq-or-lt-of-le}
-use Rattle.laws.specs.Sums.{sumBelow}
-use Rattle.laws.specs.Search.{First, firstFrom}
-use Rattle.laws.specs.Counting.{Tally, countBelow}
-use Rattle.laws.specs.Counting.Tally.{none, one, other}
-use Rattle.laws.proofs.Tests.{by-cond, cond-in, is-true, either, Decides}
-use Rattle.laws.proofs.Sums.{sum-more, sum-part, sum-most, sum-nothing, sum-zero, sum-as}
-use Rattle.laws.proofs.Search.{first-below}
+use Rattle.laws.specs.{Sums.{sumBelow}, Search.{First, firstFrom}, Counting.{Tally, countBelow}, Counting.Tally.{none, one, other}}
 
 -- ---- tests
 

@@ -2,10 +2,8 @@
 -- `omega` reads: `simp diffs (omega arith)` proves an equation or an order of sums and products of such differences, and
 -- `simp diffs at h` reads one.
 use Rattle.laws.proofs.Basics.{_≡_, refl, sym, ap, subst, _↔_, ℕ, zero, suc, _+_, _-_, _*_, _≤_, _<_, arith, ltb, ltb→lt, nltb→le, leb→le, le→leb, ℤ, pos, negsuc, negℤ, subℕ, _+ℤ_, _*ℤ_, _≤ℤ_, ltZ, natAbs, ⊎-elim}
-use lib.IntN.{pos-ne-negsuc}
-use lib.Signed.{_<ℤ_, ltZ-yes, ltZ-no, clashℤ}
-use Rattle.laws.proofs.Comparisons.{not-most}
-use Rattle.laws.proofs.Tests.{by-cond, either}
+use Rattle.laws.proofs.{Comparisons.{not-most}, Tests.{by-cond, either}}
+use lib.{IntN.{pos-ne-negsuc}, Signed.{_<ℤ_, ltZ-yes, ltZ-no, clashℤ}}
 
 unfoldable pub diff : ℕ → ℕ → ℤ
 diff a b = subℕ a b

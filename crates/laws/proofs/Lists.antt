@@ -1,10 +1,9 @@
 -- A list by its index, a lent list filled from the front, and a part of a list lent and put back.
 use Rattle.laws.proofs.Basics.{_≡_, refl, sym, ap, _∙_, ⊎-elim, List, [], _∷_, _++_, append-assoc, append-nil, ℕ, zero, suc, _+_, _-_, _≤_, _<_, add-one, arith, length, getD, take, drop, set, length-append, length-take, length-drop, drop-of-length-le}
-use native.Mathlib.Nat.{add-zero, add-suc, suc-add, zero-add, not-suc-le-zero, le-of-suc-le-suc, eq-or-lt-of-le}
-use lib.Seq.{drop-drop, drop-cons, set-at, getD-set-same, getD-set-other, getD-append-add, getD-drop, ext-getD}
-use lib.ListN.{List·getD-append}
-use Rattle.laws.specs.Lists.{listFrom, filled, KeptFrom, FilledWith}
 use Rattle.laws.proofs.Division.{le-or-lt}
+use native.Mathlib.Nat.{add-zero, add-suc, suc-add, zero-add, not-suc-le-zero, le-of-suc-le-suc, eq-or-lt-of-le}
+use lib.{Seq.{drop-drop, drop-cons, set-at, getD-set-same, getD-set-other, getD-append-add, getD-drop, ext-getD}, ListN.{List·getD-append}}
+use Rattle.laws.specs.Lists.{listFrom, filled, KeptFrom, FilledWith}
 
 module _ {X : Type 0} (f : ℕ → X) where
   pub list-length : (i n : ℕ) → length (listFrom f i n) ≡ n

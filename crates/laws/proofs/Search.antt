@@ -1,8 +1,8 @@
 -- The first number that passes a test: the turns of a loop that looks for it, and what it is of a property that the test decides.
 use Rattle.laws.proofs.Basics.{_≡_, refl, sym, subst, Bool, true, false, cond, _⊎_, inl, inr, ⊎-elim, ℕ, zero, suc, _+_, _-_, _≤_, _<_, min, arith, ltb, lt-ltb, le-ltb}
+use Rattle.laws.proofs.Tests.{by-cond, either, Decides}
 use native.Mathlib.Nat.{zero-add, add-zero, suc-add, eq-or-lt-of-le}
 use Rattle.laws.specs.Search.{First, firstFrom}
-use Rattle.laws.proofs.Tests.{by-cond, either, Decides}
 
 module _ (f : ℕ → Bool) (i m : ℕ) where
   pub first-here : i < m → f i ≡ true → firstFrom f i (m - i) ≡ i

@@ -1,22 +1,13 @@
 -- A table with no bad cell or with one, and the specification's example of a listing.
-use Rattle.laws.proofs.Basics.{_≡_, refl, sym, ap, _∙_, List, [], _++_, append-nil, ⊎-elim, _⊎_, _≢_, ℕ, zero, suc, _/_, _%_, _<_, _≤_, arith, pos, negsuc, getD, set, length-set}
+use Rattle.laws.{proofs.Basics.{_≡_, refl, sym, ap, _∙_, List, [], _++_, append-nil, ⊎-elim, _≢_, ℕ, zero, suc, _/_, _%_, _<_, _≤_, arith, pos, negsuc, getD, set, length-set}, specs.Lists.{listFrom}}
+use Rattle.laws.proofs.Division.{same-or-other}
 use native.Mathlib.Nat.{eq-or-lt-of-le}
 use lib.Seq.{getD-set-same, getD-set-other}
-use Rattle.selection.specs.Answer.{refusal}
-use Rattle.selection.specs.Cell.{Allows, digit}
-use Rattle.laws.specs.Lists.{listFrom}
-use Rattle.laws.proofs.Division.{same-or-other}
-use Rattle.selection.specs.computed.Allowed.{allowsOf}
-use Rattle.selection.specs.computed.Outcomes.{cellOf, madeOf, madeTable}
-use Rattle.selection.specs.Table.{Table, Passes}
-use Rattle.selection.proofs.MadeTables.{kept-passes}
+use Rattle.selection.specs.{Answer.{refusal}, Cell.{Allows, digit}, computed.Allowed.{allowsOf}, computed.Outcomes.{cellOf, madeOf, madeTable}, Table.{Table, Passes}}
+use Rattle.selection.{proofs.MadeTables.{kept-passes}, specs.declared.Estimate.the-variants.{EightBits}}
 use Rattle.printing.specs.Text.{ascii, decimalUpto, decimalOf, refusalText}
-use Rattle.listing.specs.Listing.{names, lineText, lineFrom, lineOf, linesUpto, listingOf}
-use Rattle.listing.specs.Example.{Example}
-use Rattle.listing.specs.declared.Line.the-variants.{Nothing, Cell}
-use Rattle.listing.proofs.Lines.{listed-one}
-use Rattle.listing.proofs.Listings.{table-text, wrong-length, byte-above}
-use Rattle.selection.specs.declared.Estimate.the-variants.{EightBits}
+use Rattle.listing.specs.{Listing.{names, lineText, lineFrom, lineOf, linesUpto, listingOf}, Example.{Example}, declared.Line.the-variants.{Nothing, Cell}}
+use Rattle.listing.proofs.{Lines.{listed-one}, Listings.{table-text, wrong-length, byte-above}}
 
 -- a cell whose digit is allowed has no line
 quiet : {t : List ℕ} → Table t → (k : ℕ) → k < 2048 → Allows EightBits (k / 128) (k % 128) (digit (getD t k 0)) → lineOf EightBits t k ≡ Nothing

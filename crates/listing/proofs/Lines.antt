@@ -1,20 +1,10 @@
 -- Laws of the listing's lines: the computed ones are those in the specification's words, and there are no others.
 use Rattle.laws.proofs.Basics.{_≡_, refl, sym, ap, subst, _∙_, List, _++_, ℕ, zero, suc, _+_, _/_, _%_, _≤_, _<_, add-one, arith, getD}
-use Rattle.selection.specs.Cell.{LeastWitness, digit}
-use Rattle.selection.specs.computed.Cell.{CellChecked}
-use Rattle.selection.specs.computed.Outcomes.{cellOf}
-use Rattle.selection.specs.Table.{Table}
-use Rattle.selection.specs.declared.CellVerdict.{CellVerdict}
+use Rattle.selection.specs.{Cell.{LeastWitness, digit}, computed.Cell.{CellChecked}, computed.Outcomes.{cellOf}, Table.{Table}, declared.CellVerdict.{CellVerdict}}
+use Rattle.selection.{proofs.BiasedPoints.{known-not-refused, cell-checked}, proofs.Tables.{cell-at}, proofs.UniqueCell.{cell-checked-one}, specs.declared.Estimate.{Estimate}}
 use Rattle.selection.specs.declared.CellVerdict.the-variants as C
-use Rattle.selection.proofs.BiasedPoints.{known-not-refused, cell-checked}
-use Rattle.selection.proofs.Tables.{cell-at}
-use Rattle.selection.proofs.UniqueCell.{cell-checked-one}
-use Rattle.listing.specs.Listing.{Listed, Lines, none, more, lineFrom, lineOf, lineText, linesUpto}
-use Rattle.listing.specs.declared.Line.{Line}
-use Rattle.listing.specs.declared.Line.the-variants.{Nothing, Cell}
-use Rattle.selection.specs.declared.Estimate.{Estimate}
+use Rattle.listing.specs.{Listing.{Listed, Lines, none, more, lineFrom, lineOf, lineText, linesUpto}, declared.Line.{Line}, declared.Line.the-variants.{Nothing, Cell}}
 
--- in a divider with the estimate E
 module _ (E : Estimate) where
   module _ (t : List ℕ) (k : ℕ) (h : Table t) (below : k < 2048) where
     verdict-listed : (v : CellVerdict) → CellChecked E (k / 128) (k % 128) (getD t k 0) v → Listed E t k (lineFrom t k v)

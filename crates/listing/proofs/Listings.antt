@@ -1,29 +1,16 @@
 -- The computed listing is the one in the specification's words and there is no other, and the text in the buffer is it.
-use Rattle.laws.proofs.Basics.{_≡_, refl, sym, ap, _∙_, List, _++_, ⊎-elim, _≢_, ℕ, _≤_, _<_, arith, length, getD, take, drop, length-take, ne-eqb}
+use Rattle.laws.proofs.{Basics.{_≡_, refl, sym, ap, _∙_, List, _++_, ⊎-elim, _≢_, ℕ, _≤_, _<_, arith, length, getD, take, drop, length-take, ne-eqb}, Division.{le-or-lt}}
 use native.Mathlib.Nat.{add-zero}
 use lib.Seq.{take-all}
-use Rattle.laws.proofs.Division.{le-or-lt}
-use Rattle.selection.specs.Answer.{refusal}
-use Rattle.selection.specs.computed.Answer.{answerBy}
-use Rattle.selection.specs.Table.{Table}
-use Rattle.selection.specs.computed.Table.{ReportMeaning}
-use Rattle.selection.specs.computed.Outcomes.{reportOf, refusedReport, tableReport}
-use Rattle.selection.specs.declared.Admission.{Admission}
-use Rattle.selection.proofs.RuleByRule.{refused-at}
-use Rattle.selection.specs.declared.table.Outcome.{Outcome}
+use Rattle.selection.specs.{Answer.{refusal}, computed.Answer.{answerBy}, Table.{Table}, computed.Table.{ReportMeaning}, computed.Outcomes.{reportOf, refusedReport, tableReport}}
+use Rattle.selection.{specs.declared.Admission.{Admission}, proofs.RuleByRule.{refused-at}, specs.declared.table.Outcome.{Outcome}, specs.declared.table.TableVerdict.{TableVerdict}}
+use Rattle.selection.{proofs.Tables.{no-table}, proofs.Reports.{form-rules, report-checked}, proofs.Rules.{refusal-one}, specs.declared.Estimate.{Estimate}}
 use Rattle.selection.specs.declared.table.Outcome.the-variants as O
-use Rattle.selection.specs.declared.table.TableVerdict.{TableVerdict}
-use Rattle.selection.proofs.Tables.{no-table}
-use Rattle.selection.proofs.Reports.{form-rules, report-checked}
-use Rattle.selection.proofs.Rules.{refusal-one}
-use Rattle.printing.specs.Text.{Appended, refusalText}
+use Rattle.printing.{specs.Text.{Appended, refusalText}, proofs.Texts.{appended-size, appended-take, appended-drop, counts}}
 use Rattle.io.specs.Counts.{Counts}
-use Rattle.printing.proofs.Texts.{appended-size, appended-take, appended-drop, counts}
 use Rattle.listing.specs.Listing.{Lists, ListsRead, names, linesUpto, tableText, textFor, listingOf}
 use Rattle.listing.proofs.Lines.{lines-right, lines-one}
-use Rattle.selection.specs.declared.Estimate.{Estimate}
 
--- in a divider with the estimate E
 module _ (E : Estimate) where
   -- by the check's answer, the text is the listing in the specification's words
   module _ (t : List ℕ) where

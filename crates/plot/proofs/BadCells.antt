@@ -1,12 +1,9 @@
 -- Bad cells: one more in a row, and that all of them are drawn.
-use Rattle.laws.proofs.Basics.{subst, List, ⊎-elim, ℕ, _+_, _*_, _-_, _/_, _%_, _≤_, _<_, arith}
-use Rattle.laws.proofs.Division.{le-or-lt}
-use Rattle.selection.specs.Table.{BadAt}
+use Rattle.laws.proofs.{Basics.{subst, List, ⊎-elim, ℕ, _+_, _*_, _-_, _/_, _%_, _≤_, _<_, arith}, Division.{le-or-lt}}
+use Rattle.selection.specs.{Table.{BadAt}, declared.Estimate.{Estimate}}
 use Rattle.plot.specs.Plot.{HasPoint, BadTo}
 use Rattle.plot.proofs.Points.{has-point-columns}
-use Rattle.selection.specs.declared.Estimate.{Estimate}
 
--- in a divider with the estimate E
 module _ (E : Estimate) where
   -- the columns from `from` to before `end` of the row are bad
   pub record BadSoFar (t : List ℕ) (row from end : ℕ) : Type 0 where

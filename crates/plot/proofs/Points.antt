@@ -1,11 +1,7 @@
 -- A cell without a point is one that allows both -2 and 2: where there is a point, it keeps at most one of them. Points lie in the columns 20 to 106.
-use Rattle.laws.proofs.Basics.{sym, true, false, true≢false, ℕ, _≤_, _<_, arith, ℤ}
-use Rattle.laws.proofs.Diff.{diffs, by-diff}
-use Rattle.selection.specs.Cell.{Keeps, Allows, digit}
-use Rattle.selection.proofs.BiasedPoints.{of-point}
-use Rattle.selection.proofs.Search.{span-most}
+use Rattle.laws.proofs.{Basics.{sym, true, false, true≢false, ℕ, _≤_, _<_, arith, ℤ}, Diff.{diffs, by-diff}}
+use Rattle.selection.{specs.Cell.{Keeps, Allows, digit}, proofs.BiasedPoints.{of-point}, proofs.Search.{span-most}, specs.declared.Estimate.{Estimate}}
 use Rattle.plot.specs.Plot.{HasPoint, Broken, PointIs, DrawnIs}
-use Rattle.selection.specs.declared.Estimate.{Estimate}
 
 -- 3(P + 2D) ≤ 2D and -2D ≤ 3(P - 2D)
 keeps-not-both : (D : ℕ) → 0 < D → (P : ℤ) → Keeps (digit 0) D P → Keeps (digit 4) D P → ⊥
@@ -14,7 +10,6 @@ keeps-not-both D h =
     by-diff (λ P. Keeps (digit 0) D P → Keeps (digit 4) D P → ⊥) (λ a b low high.
     omega (arith, simp diffs at (low .high), simp diffs at (high .low)))
 
--- in a divider with the estimate E
 module _ (E : Estimate) where
   pub no-point : {r c : ℕ} → Allows E r c (digit 0) → Allows E r c (digit 4) → HasPoint E r c → ⊥
   no-point low high p = keeps-not-both (p .divisor) (omega (arith, p .point .row .from)) (p .remainder) (low _ _ (p .point)) (high _ _ (p .point))

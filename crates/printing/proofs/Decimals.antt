@@ -1,9 +1,7 @@
 -- Laws of decimal digits: those that `io::decimal` makes are the number's, at most 20 of them, and they spell the number.
-use Rattle.laws.proofs.Basics.{_≡_, refl, ap, _∙_, List, [], _∷_, _++_, ℕ, zero, suc, _+_, _*_, _-_, _/_, _%_, _^_, _≤_, _<_, arith, ltb, lt-ltb, le-ltb}
+use Rattle.laws.proofs.{Basics.{_≡_, refl, ap, _∙_, List, [], _∷_, _++_, ℕ, zero, suc, _+_, _*_, _-_, _/_, _%_, _^_, _≤_, _<_, arith, ltb, lt-ltb, le-ltb}, Tests.{by-cond}}
 use Prim.Native.Char.{code}
-use native.Mathlib.Decide.{decLt}
-use native.Mathlib.Nat.{pow-suc, one-le-pow, pow-le-pow-right, lt-of-not-le}
-use Rattle.laws.proofs.Tests.{by-cond}
+use native.Mathlib.{Decide.{decLt}, Nat.{pow-suc, one-le-pow, pow-le-pow-right, lt-of-not-le}}
 use Rattle.io.specs.Digits.{digits, Fewest, glyph}
 use Rattle.printing.specs.Text.{decimalUpto, decimalOf, spelledAfter}
 

@@ -1,8 +1,6 @@
 -- Signed numbers as their words hold them: what the test against zero tells, and a signed number in decimal.
 use Rattle.laws.proofs.Basics.{_≡_, refl, subst, true, false, List, _++_, ℕ, arith, T, ℤ, pos, negsuc, natAbs, ltZ, ltb-true}
-use mir.Facts.{toZ-ofZ}
-use mir.Syntax.{w64}
-use mir.Val.{toZ, ofZ, SFits}
+use mir.{Facts.{toZ-ofZ}, Syntax.{w64}, Val.{toZ, ofZ, SFits}}
 use Rattle.printing.specs.Text.{ascii, decimalOf, signedOf}
 
 -- a number as its word holds it

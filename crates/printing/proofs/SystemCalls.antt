@@ -1,8 +1,6 @@
 -- Laws of what a call of the C library's answers that is handed a part of a buffer.
 use Rattle.laws.proofs.Basics.{_≡_, subst, List, ℕ, _-_, _≤_, arith, ℤ, pos, negsuc, length, take, drop, length-take, length-drop}
-use mir.Facts.{toZ-ofZ}
-use mir.Syntax.{w64}
-use mir.Val.{SFits}
+use mir.{Facts.{toZ-ofZ}, Syntax.{w64}, Val.{SFits}}
 use Rattle.io.specs.Counts.{clamped}
 use Rattle.libc.specs.Io.{Moved}
 use Rattle.printing.proofs.Signs.{held}

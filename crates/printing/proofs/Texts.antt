@@ -1,8 +1,8 @@
 -- Laws of text in a lent buffer: one text after another, with room for it or not, and a text that grows turn by turn.
 use Rattle.laws.proofs.Basics.{_≡_, sym, subst, _∙_, List, [], _∷_, _++_, append-assoc, append-nil, ⊎-elim, ℕ, _+_, _≤_, _<_, add-one, arith, length, set, take, drop, length-append, length-take, length-drop, drop-of-length-le, take-append-drop}
+use Rattle.laws.proofs.Division.{le-or-lt}
 use native.Mathlib.Nat.{add-zero}
 use lib.Seq.{length-take-le, take-all, take-at, append-snoc, set-split, drop-append-add, drop-drop}
-use Rattle.laws.proofs.Division.{le-or-lt}
 use Rattle.io.specs.Counts.{Counts}
 use Rattle.printing.specs.Text.{Appended}
 

@@ -1,8 +1,6 @@
 -- The sum word and twice the majority word add up to the three words.
-use Rattle.laws.proofs.Basics.{_≡_, Bool, ℕ, _+_, _*_, _/_, _%_, _^_, _<_, arith, eqb, eqb→eq}
-use lib.Arith.{bin-ind}
-use lib.Bits.{bitAnd, bitXor, xor-add-and, xor-shr, and-shr, or-shr, xor-mod, and-mod, or-mod}
-use Rattle.laws.proofs.Tests.{upto, upto-at}
+use Rattle.laws.proofs.{Basics.{_≡_, Bool, ℕ, _+_, _*_, _/_, _%_, _^_, _<_, arith, eqb, eqb→eq}, Tests.{upto, upto-at}}
+use lib.{Arith.{bin-ind}, Bits.{bitAnd, bitXor, xor-add-and, xor-shr, and-shr, or-shr, xor-mod, and-mod, or-mod}}
 use Rattle.recurrence.specs.CarrySave.{sum3, maj3}
 
 abbrev Adds : ℕ → ℕ → ℕ → Type 0

@@ -1,23 +1,12 @@
 -- The correction of the last digit: the sign of the last remainder says whether S is one too large. The code corrects by the words;
 -- S and the end remainder, corrected, are the same numbers, and they are quotient and remainder of N·4^(n−1) by D.
 use Rattle.laws.proofs.Basics.{_≡_, refl, sym, ap, ap₂, subst, _∙_, false, cond, List, ℕ, zero, suc, _+_, _-_, _*_, _/_, _%_, _^_, _≤_, _<_, arith, ltb, ltb→lt, nltb→le, ℤ, pos, negsuc, natAbs, _+ℤ_, nonNeg}
-use native.Mathlib.Nat.{pow-le-pow-right}
-use Rattle.laws.proofs.Diff.{diff, diffs, diff-sub}
-use Rattle.laws.proofs.Tests.{by-cond}
-use Rattle.recurrence.specs.Recurrence.{State, after, digits, value, correctedQuotient, correctedRemainder, endRemainder, resultOf}
-use Rattle.recurrence.specs.computed.Run.{longest}
-use Rattle.recurrence.specs.computed.FastRun.{resultFromWord}
-use Rattle.recurrence.specs.computed.OnTheFly.{PairOf}
-use Rattle.recurrence.specs.declared.RunResult.{RunResult}
-use Rattle.recurrence.proofs.Steps.{biased}
-use Rattle.recurrence.proofs.Digits.{divisor-after}
-use Rattle.recurrence.proofs.Invariant.{Invariant, quarter}
-use Rattle.recurrence.proofs.Pair.{word-one}
+use Rattle.laws.proofs.{Diff.{diff, diffs, diff-sub}, Division.{quotient}, Tests.{by-cond}}
+use native.Mathlib.Nat.{add-zero, pow-le-pow-right}
+use Rattle.recurrence.specs.{Recurrence.{State, after, digits, value, correctedQuotient, correctedRemainder, endRemainder, resultOf}, computed.Run.{longest}, computed.FastRun.{resultFromWord}}
+use Rattle.recurrence.specs.{computed.Recheck.{exactResult}, computed.OnTheFly.{PairOf}, declared.RunResult.{RunResult}}
+use Rattle.recurrence.proofs.{Steps.{biased}, Digits.{divisor-after}, Invariant.{Invariant, quarter}, Pair.{word-one}}
 use Rattle.selection.specs.declared.Estimate.{Estimate}
-
--- quotient and remainder of M by D
-abbrev pub divided : ℕ → ℕ → ℕ → RunResult
-divided M D n = record { quotient = M / D; remainder = M % D; count = n }
 
 -- S and M − S·D, corrected, are Q and R
 pub record Corrected (S M D Q R : ℕ) : Type 0 where
@@ -25,6 +14,17 @@ pub record Corrected (S M D Q R : ℕ) : Type 0 where
   pub remainder : correctedRemainder (diff M (S * D)) D ≡ pos R
   pub divides : Q * D + R ≡ M
   pub below : R < D
+
+-- S is the quotient Q, or one more
+pub corrected-same : (Q M D R : ℕ) → Q * D + R ≡ M → R < D → Corrected Q M D Q R
+corrected-same Q M D R e l = let d : diff M (Q * D) ≡ pos R = simp diffs (omega arith) in record { quotient = rw d refl; remainder = rw d refl; divides = e; below = l }
+
+pub corrected-less : (Q M D R : ℕ) → Q * D + R ≡ M → R < D → Corrected (Q + 1) M D Q R
+corrected-less Q M D R e l =
+    let d : diff M ((Q + 1) * D) ≡ negsuc (D - R - 1) = simp diffs (omega arith) in
+    let f : nonNeg (diff M ((Q + 1) * D)) ≡ false = ap nonNeg d in
+    let p : diff M ((Q + 1) * D) +ℤ pos D ≡ pos R = simp diffs (omega arith) in
+    record { quotient = rw f (diff-sub (Q + 1) 1 ∙ simp diffs (omega arith)); remainder = rw f p; divides = e; below = l }
 
 -- ---- by the sum of the last words
 
@@ -46,16 +46,11 @@ by-word S D w M z m l h e lo hi =
   where
     go : (s Q R : ℕ) → w / 2 ^ 63 ≡ s → R ≡ (w / 4 + s * (D + 3 * 2 ^ 62)) % 2 ^ 64 → w + 4 * ((Q + s) * D) ≡ M * 4 + s * 2 ^ 64
         → 3 * w ≤ s * 3 * 2 ^ 64 + 8 * D → s * 3 * 2 ^ 64 ≤ 3 * w + 8 * D → Corrected (Q + s) M D Q R
-    go zero Q R q r e lo hi =
-        let d : diff M ((Q + 0) * D) ≡ pos R = simp diffs (omega arith) in
-        record { quotient = rw d (ap pos (omega arith)); remainder = rw d; divides = omega arith; below = omega arith }
+    go zero Q R q r e lo hi = rw (add-zero Q) (corrected-same Q M D R (omega arith) (omega arith))
     go (suc zero) Q R q r e lo hi =
         let u : R + 2 ^ 62 ≡ w / 4 + D = omega arith in
         let v : w / 4 + (Q * D + D) ≡ M + 2 ^ 62 = omega arith in
-        let d : diff M ((Q + 1) * D) ≡ negsuc (D - R - 1) = simp diffs (omega arith) in
-        let f : nonNeg (diff M ((Q + 1) * D)) ≡ false = ap nonNeg d in
-        let p : diff M ((Q + 1) * D) +ℤ pos D ≡ pos R = simp diffs (omega arith) in
-        record { quotient = rw f (diff-sub (Q + 1) 1 ∙ simp diffs (omega arith)); remainder = rw f p; divides = omega arith; below = omega arith }
+        corrected-less Q M D R (omega arith) (omega arith)
     go (suc (suc s)) Q R q r e lo hi = absurd (omega arith)
 
 -- ---- the answer of a run
@@ -105,3 +100,8 @@ module _ (E : Estimate) where
 
     pub corrected-result : 1 ≤ n → Corrected S (N * 4 ^ (n - 1)) D (resultOf E t N D n .quotient) (resultOf E t N D n .remainder)
     corrected-result h = rw (← result-by-sign h) (corrected-run h)
+
+    -- and the right one
+    pub exact-result : 1 ≤ n → resultOf E t N D n ≡ exactResult N D n
+    unfolding resultOf
+    exact-result h = let c = corrected-result h in let q = quotient (c .divides) (c .below) in rw (q .0, q .1)

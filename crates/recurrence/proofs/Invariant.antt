@@ -1,29 +1,16 @@
 -- The invariant of the recurrence: after i steps the digits make S, a natural number, and P = 4^i N − 4 S D, in range.
-use Rattle.laws.proofs.Basics.{_≡_, refl, sym, ap, _∙_, List, ℕ, zero, suc, _+_, _-_, _*_, _^_, _≤_, _<_, arith, getD, pos}
-use native.Mathlib.Nat.{pow-suc, mul-assoc}
-use Rattle.laws.specs.Lists.{listFrom}
-use Rattle.laws.proofs.Diff.{diffs}
-use Rattle.laws.proofs.Lists.{list-snoc}
-use Rattle.selection.specs.Table.{Passes}
-use Rattle.selection.proofs.BiasedPoints.{digit-diff}
+use Rattle.laws.{proofs.Basics.{_≡_, refl, sym, ap, _∙_, List, ℕ, zero, suc, _+_, _-_, _*_, _^_, _≤_, _<_, arith, getD, pos}, specs.Lists.{listFrom}, proofs.Diff.{diffs}}
+use native.Mathlib.Nat.{pow-suc, mul-assoc, lt-of-mul-lt-mul-right}
+use Rattle.selection.{specs.Table.{Passes}, proofs.BiasedPoints.{digit-diff}, specs.declared.Estimate.{Estimate}}
 use Rattle.recurrence.specs.Recurrence.{State, Operands, cellAt, stepBy, nextOf, after, digitOf, digits, value}
-use Rattle.recurrence.proofs.Steps.{biased, InRange, AllowedAt, table-digit-allowed, step-law, step-in-range}
-use Rattle.recurrence.proofs.Digits.{divisor-after, value-append}
-use Rattle.selection.specs.declared.Estimate.{Estimate}
+use Rattle.recurrence.proofs.{Steps.{biased, InRange, AllowedAt, table-digit-allowed, step-law, step-in-range}, Digits.{divisor-after, value-next}}
 
--- 4S + q is not negative, since the digit is allowed
-enough : (S d D u M : ℕ) → 0 < D → u + 4 * (S * D) ≡ M + 2 ^ 63 → 3 * u + 4 * D ≤ 3 * (d * D) + 3 * 2 ^ 63 → 2 ≤ 4 * S + d
-enough (suc S) d D u M h e f = omega arith
-enough zero (suc (suc d)) D u M h e f = omega arith
-enough zero (suc zero) D u M h e f = absurd (omega arith)
-enough zero zero D u M h e f = absurd (omega arith)
-
--- so, and P′ = 4 (P − qD) and P = M − 4SD give P′ = 4M − 4(4S + q)D, of a step with an allowed digit
+-- P′ = 4 (P − qD) and P = M − 4SD give P′ = 4M − 4(4S + q)D, of a step with an allowed digit, and 4S + q is not negative
 step-meets : (d : ℕ) (p : State) {D : ℕ} (S M : ℕ) → p .divisor ≡ D → InRange p → AllowedAt d p → biased p + 4 * (S * D) ≡ M + 2 ^ 63
-    → (2 ≤ 4 * S + d) × (biased (stepBy d p) + 4 * ((4 * S + d - 2) * D) ≡ M * 4 + 2 ^ 63)
+    → (1 < 4 * S + d) × (biased (stepBy d p) + 4 * ((4 * S + d - 2) * D) ≡ M * 4 + 2 ^ 63)
 step-meets d p S M v g f e =
     let m : biased p + 4 * (S * p .divisor) ≡ M + 2 ^ 63 = rw v e in
-    let k : 2 ≤ 4 * S + d = enough S d (p .divisor) (biased p) M (omega (arith, g .least)) m (f .high) in
+    let k : 1 < 4 * S + d = lt-of-mul-lt-mul-right (p .divisor) (omega (arith, g .least, f .high)) in
     let s : 4 * S + d - 2 + 2 ≡ 4 * S + d = omega arith in
     (k, rw (← v) (omega (arith, step-law d p g f, ap (λ (n : ℕ). n * p .divisor) s)))
 
@@ -51,7 +38,7 @@ module _ (E : Estimate) where
         let m = step-meets d p S (N * 4 ^ i) (divisor-after E t N D i) (h .in-range) f (h .meets) in
         record {
           in-range = step-in-range d p (h .in-range) f;
-          makes = ap value (list-snoc (digitOf E t N D) i) ∙ value-append (digits E t N D i) d ∙ rw (h .makes, digit-diff d) (simp diffs (omega (arith, m .0)));
+          makes = value-next (digitOf E t N D) i ∙ rw (h .makes, digit-diff d) (simp diffs (omega (arith, m .0)));
           meets = m .1 ∙ ap (λ (x : ℕ). x + 2 ^ 63) (sym (quad N i));
           size = omega (arith, f .byte, h .size);
         }

@@ -1,19 +1,12 @@
 -- The estimate ahead: the column of the next words, from the top bits of these words and of the multiple.
-use Rattle.laws.proofs.Basics.{_≡_, refl, ap, _∙_, List, ℕ, _+_, _-_, _*_, _/_, _%_, _^_, _≤_, _<_, arith, lit<, ltb, getD}
+use Rattle.laws.proofs.{Basics.{_≡_, refl, ap, _∙_, List, ℕ, _+_, _-_, _*_, _/_, _%_, _^_, _≤_, _<_, arith, lit<, ltb, getD}, Counting.{bit-most}, Words.{same-mod, mod-sum}}
 use native.Mathlib.Nat.{mod-add-mod, add-mod-mod}
 use lib.Bits.{bitAnd, bitXor, and-high}
-use Rattle.laws.proofs.Counting.{bit-most}
-use Rattle.laws.proofs.Words.{same-mod, mod-sum}
-use Rattle.selection.proofs.DigitBytes.{up-to-four}
-use Rattle.selection.specs.Cell.{column}
-use Rattle.recurrence.specs.CarrySave.{sum3, maj3, multiple, lowestCarry}
-use Rattle.recurrence.specs.Recurrence.{State, stepBy}
-use Rattle.recurrence.specs.computed.FastRun.{withColumn, topBitsOf, divisorMultiples, allTopBits, maskOf, maskedMultiples, maskedTopBits, columnAhead, renewed}
+use Rattle.selection.{proofs.DigitBytes.{up-to-four}, specs.Cell.{column}, specs.declared.Estimate.{Estimate}, specs.declared.Estimate.the-variants.{SevenBits, EightBits}}
+use Rattle.recurrence.specs.{CarrySave.{sum3, maj3, multiple, lowestCarry}, Recurrence.{State, stepBy}}
+use Rattle.recurrence.specs.computed.FastRun.{runStateOf, stateOf, StepReady, topBitsOf, divisorMultiples, allTopBits, maskOf, maskedMultiples, maskedTopBits, columnAhead, renewed}
 use Rattle.recurrence.specs.declared.state.RunState.{RunState}
-use Rattle.recurrence.proofs.CarrySave.{tops, majority}
-use Rattle.recurrence.proofs.Pair.{by-digit}
-use Rattle.selection.specs.declared.Estimate.{Estimate}
-use Rattle.selection.specs.declared.Estimate.the-variants.{SevenBits, EightBits}
+use Rattle.recurrence.proofs.{CarrySave.{tops, majority}, Pair.{by-digit}}
 
 shifted : (n : ℕ) → n * 4 % 2 ^ 64 / 2 ^ 56 ≡ n / 2 ^ 54 % 256
 shifted n = omega arith
@@ -52,7 +45,7 @@ ahead a b x k l h e =
     (quarter-mod (a / 2 ^ 53) (b / 2 ^ 53) (x / 2 ^ 53))
 
 -- the top bits of each come to the top by its shift
-pub top-bits-at : (ms : List ℕ) (d : ℕ) → d ≤ 4 → allTopBits ms * 2 ^ (9 * d) % 2 ^ 64 / 2 ^ 55 ≡ topBitsOf (getD ms d 0)
+top-bits-at : (ms : List ℕ) (d : ℕ) → d ≤ 4 → allTopBits ms * 2 ^ (9 * d) % 2 ^ 64 / 2 ^ 55 ≡ topBitsOf (getD ms d 0)
 top-bits-at ms = joined (λ d. topBitsOf (getD ms d 0)) (λ d. omega arith)
   where
     joined : (f : ℕ → ℕ) → ((d : ℕ) → f d < 512) → (d : ℕ) → d ≤ 4
@@ -135,16 +128,19 @@ pub lowest-at : (d : ℕ) → d ≤ 4 → (d + 5) / 8 ≡ lowestCarry d
 lowest-at = up-to-four (λ d. (d + 5) / 8 ≡ lowestCarry d) refl refl refl refl refl
 
 -- the words, the column and the pair that the code forms are those of the step
-pub step-code : (p : State) (d x l : ℕ) → d ≤ 4 → x ≡ multiple d (p .divisor) → l / 2 ^ 55 ≡ topBitsOf x
+pub step-code : {ms : List ℕ} (p : RunState) (d : ℕ) → d ≤ 4 → StepReady ms p
     → _≡_ {A = RunState} (record {
-      sum = bitXor (bitXor (p .sum) (p .carry)) x * 4 % 2 ^ 64;
-      carry = ((bitAnd (p .sum) (p .carry) + bitAnd (bitXor (p .sum) (p .carry)) x) % 2 ^ 64 * 2 % 2 ^ 64 + lowestCarry d) * 4 % 2 ^ 64;
+      sum = bitXor (bitXor (p .sum) (p .carry)) (getD ms d 0) * 4 % 2 ^ 64;
+      carry = ((bitAnd (p .sum) (p .carry) + bitAnd (bitXor (p .sum) (p .carry)) (getD ms d 0)) % 2 ^ 64 * 2 % 2 ^ 64 + lowestCarry d) * 4 % 2 ^ 64;
       divisor = p .divisor;
-      column = ((bitAnd (p .sum % 2 ^ 62) (2 ^ 64 - 2 ^ 53) + bitAnd (p .carry % 2 ^ 62) (2 ^ 64 - 2 ^ 53)) % 2 ^ 64 * 4 % 2 ^ 64 + l) % 2 ^ 64 / 2 ^ 57;
+      tops = p .tops;
+      column = columnAhead (2 ^ 64 - 2 ^ 53) (p .tops) d (p .sum) (p .carry);
       digit = d;
       value = renewed (d + 2) (p .value) (p .decremented);
       decremented = renewed (d + 1) (p .value) (p .decremented);
-    }) (withColumn (stepBy d p))
-step-code p d x l b e h =
+    }) (runStateOf (stepBy d (stateOf p)))
+step-code {ms} p d b r =
+    let x : getD ms d 0 ≡ multiple d (p .divisor) = rw (r .multiples) (multiple-at (p .divisor) d b) in
+    let l : p .tops * 2 ^ (9 * d) % 2 ^ 64 / 2 ^ 55 ≡ topBitsOf (getD ms d 0) = rw (r .tops) (top-bits-at ms d b) in
     let c = by-digit (p .value) (p .decremented) d b in
-    rw (majority, carry-word, ahead (p .sum) (p .carry) x (lowestCarry d) l (carry-small d) h, e, c .value, c .decremented)
+    rw (majority, carry-word, ahead (p .sum) (p .carry) (getD ms d 0) (lowestCarry d) _ (carry-small d) l, x, c .value, c .decremented, r .tops, r .multiples)

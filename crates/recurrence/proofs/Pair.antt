@@ -1,18 +1,10 @@
 -- The value of the digits so far and that value less one: each step renews both by choosing one of the old pair and appending two bits.
 use Rattle.laws.proofs.Basics.{_≡_, refl, ap, _∙_, List, inl, inr, ℕ, zero, suc, _+_, _-_, _*_, _/_, _%_, _^_, _≤_, _<_, arith, ltb, ltb→lt, nltb→le, cond, getD, ℤ, pos, negsuc, _+ℤ_, _-ℤ_, _*ℤ_, nonNeg}
-use Rattle.laws.specs.Lists.{listFrom}
-use Rattle.laws.proofs.Diff.{diff, diffs, by-diff}
-use Rattle.laws.proofs.Lists.{list-snoc}
-use Rattle.laws.proofs.Tests.{by-cond}
-use Rattle.laws.proofs.Words.{same-mod}
-use Rattle.selection.proofs.DigitBytes.{up-to-four}
-use Rattle.selection.specs.Cell.{digit}
-use Rattle.selection.proofs.BiasedPoints.{digit-diff}
-use Rattle.recurrence.specs.Recurrence.{State, cellAt, appended, stepBy, nextOf, after, digitOf, digits, value, correctedQuotient}
-use Rattle.recurrence.specs.computed.OnTheFly.{WordOf, PairOf, Appends, Renews}
+use Rattle.laws.{specs.Lists.{listFrom}, proofs.Diff.{diff, diffs, by-diff}, proofs.Tests.{by-cond}, proofs.Words.{same-mod}}
+use Rattle.selection.{proofs.DigitBytes.{up-to-four}, specs.Cell.{digit}, proofs.BiasedPoints.{digit-diff}, specs.declared.Estimate.{Estimate}}
+use Rattle.recurrence.specs.{Recurrence.{State, cellAt, appended, stepBy, nextOf, after, digitOf, digits, value, correctedQuotient}, computed.OnTheFly.{WordOf, PairOf, Appends, Renews}}
 use Rattle.recurrence.specs.computed.FastRun.{renewed}
-use Rattle.recurrence.proofs.Digits.{value-append}
-use Rattle.selection.specs.declared.Estimate.{Estimate}
+use Rattle.recurrence.proofs.Digits.{value-next}
 
 -- ---- words modulo 2^64
 
@@ -104,4 +96,4 @@ module _ (E : Estimate) where
   pair-after t N D small (suc i) =
       let p = after E t N D i in
       let d = getD t (cellAt E p) 0 in
-      rw (ap value (list-snoc (digitOf E t N D) i) ∙ value-append (digits E t N D i) d) (pair-next d p (value (digits E t N D i)) (small (cellAt E p)) (pair-after t N D small i))
+      rw (value-next (digitOf E t N D) i) (pair-next d p (value (digits E t N D i)) (small (cellAt E p)) (pair-after t N D small i))

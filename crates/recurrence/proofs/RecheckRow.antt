@@ -1,18 +1,9 @@
 -- The loop of `recheck_row`: it goes on as long as no step strays.
 use Rattle.laws.proofs.Basics.{_≡_, refl, sym, ap, subst, _∙_, true, false, List, ℕ, suc, _+_, _*_, _≤_, _<_, arith, add-one, length, getD, length-take, length-drop, lt-ltb, le-ltb, le-leb, lt-leb}
-use Rattle.selection.specs.Cell.{row, column}
-use Rattle.selection.proofs.Columns.{column-small}
-use Rattle.selection.specs.computed.Table.{rowBytes}
-use Rattle.recurrence.specs.Recurrence.{cellAt, stepBy, startOf, nextOf, after}
-use Rattle.recurrence.specs.computed.FastRun.{withColumn, stateOf, divisorMultiples, maskOf, maskedTopBits, columnAhead}
-use Rattle.recurrence.specs.computed.Recheck.{byteRead, leftBy, leftEnd, strays, straysBelow, runsWrong, runMark, BurnedRow}
-use Rattle.recurrence.specs.declared.state.RunState.{RunState}
-use Rattle.recurrence.proofs.Rows.{row-at}
-use Rattle.recurrence.proofs.Loop.{stands-next, stands-divisor}
-use Rattle.recurrence.proofs.NextColumn.{mask-one, column-ahead}
-use Rattle.recurrence.proofs.Digits.{divisor-after}
-use Rattle.recurrence.proofs.Straying.{strays-later}
-use Rattle.selection.specs.declared.Estimate.{Estimate}
+use Rattle.selection.{specs.Cell.{row, column}, proofs.Columns.{column-small}, specs.computed.Table.{rowBytes}, specs.declared.Estimate.{Estimate}}
+use Rattle.recurrence.specs.{Recurrence.{cellAt, stepBy, startOf, nextOf, after}, computed.FastRun.{runStateOf, stateOf, divisorMultiples, maskOf, maskedTopBits, columnAhead}}
+use Rattle.recurrence.specs.{computed.Recheck.{byteRead, leftBy, leftEnd, strays, straysBelow, runsWrong, runMark, BurnedRow}, declared.state.RunState.{RunState}}
+use Rattle.recurrence.proofs.{Rows.{row-at}, Loop.{stands-next, stands-divisor}, NextColumn.{mask-one, column-ahead}, Digits.{divisor-after}, Straying.{strays-later}}
 
 -- the row has 128 bytes
 pub row-size : {D : ℕ} {bytes : List ℕ} → BurnedRow D bytes → length bytes ≡ 128
@@ -22,15 +13,11 @@ row-size {D} g = rw (g .is) (simp (length-take, length-drop, g .size) (omega ari
 module _ (E : Estimate) where
   -- after i turns, where c is the column of the state
   pub record Followed (t : List ℕ) (N D : ℕ) (state : RunState) (c i : ℕ) : Type 0 where
-    pub stands : state ≡ withColumn (after E t N D i)
+    pub stands : state ≡ runStateOf (after E t N D i)
     pub current : c ≡ column E (state .sum) (state .carry)
     pub clear : runsWrong E t N D i ≡ false
 
   module _ (t : List ℕ) (N D : ℕ) where
-    followed-none : {p : RunState} {c : ℕ} → p ≡ withColumn (startOf N D) → c ≡ column E (p .sum) (p .carry) → Followed t N D p c 0
-    unfolding after straysBelow
-    followed-none e f = record { stands = e; current = f; clear = refl }
-
     module _ {p : RunState} {c i : ℕ} (x : Followed t N D p c i) where
       pub column-below : c < 128
       column-below = omega (arith, x .current, column-small E (p .sum) (p .carry))
@@ -68,7 +55,7 @@ module _ (E : Estimate) where
       -- the step is the run's
       pub followed-more : {q : RunState} {bytes ms : List ℕ} {k r mask tops : ℕ} → bytes ≡ rowBytes t (row D) → getD bytes c 0 ≤ 4 → r ≡ leftBy (getD bytes c 0) (stateOf p) → r < leftEnd D
           → mask ≡ maskOf E → ms ≡ divisorMultiples D → tops ≡ maskedTopBits ms mask → k ≡ columnAhead mask tops (getD bytes c 0) (p .sum) (p .carry)
-          → q ≡ withColumn (stepBy (getD bytes c 0) (stateOf p)) → Followed t N D q k (i + 1)
+          → q ≡ runStateOf (stepBy (getD bytes c 0) (stateOf p)) → Followed t N D q k (i + 1)
       unfolding nextOf straysBelow
       followed-more {q} {bytes} {ms} {k} {r} f b e l u v w a g =
           let s = after E t N D i in
@@ -84,5 +71,6 @@ module _ (E : Estimate) where
     followed-all x e = rw (← e, x .clear) refl
 
 -- before the first turn, by the mask
-pub followed-start : (E F : Estimate) (t : List ℕ) (N D : ℕ) {p : RunState} {c mask : ℕ} → mask ≡ maskOf F → mask ≡ maskOf E → p ≡ withColumn (startOf N D) → c ≡ column F (p .sum) (p .carry) → Followed E t N D p c 0
-followed-start E F t N D {p} {c} u v e f = subst (λ (G : Estimate). Followed G t N D p c 0) (mask-one F E (sym u ∙ v)) (followed-none F t N D e f)
+pub followed-start : (E F : Estimate) (t : List ℕ) (N D : ℕ) {p : RunState} {c mask : ℕ} → mask ≡ maskOf F → mask ≡ maskOf E → p ≡ runStateOf (startOf N D) → c ≡ column F (p .sum) (p .carry) → Followed E t N D p c 0
+unfolding after straysBelow
+followed-start E F t N D {p} {c} u v e f = subst (λ (G : Estimate). Followed G t N D p c 0) (mask-one F E (sym u ∙ v)) (record { stands = e; current = f; clear = refl })

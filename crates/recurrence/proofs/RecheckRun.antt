@@ -1,10 +1,8 @@
 -- Whether a wrong table affected a run: the refusals of the call, its answer, and that no other answer fits.
 use Rattle.laws.proofs.Basics.{_≡_, refl, List, ℕ, arith, length}
-use Rattle.selection.proofs.RefusalNames.{refusal, firstRefusal, rank, WellFormed, refuses-one, refuses, cleared, clear-admits}
-use Rattle.selection.specs.declared.Admission.the-variants.{Admitted}
+use Rattle.selection.{proofs.RefusalNames.{refusal, firstRefusal, rank, WellFormed, refuses-one, refuses, cleared, clear-admits}, specs.declared.Admission.the-variants.{Admitted}}
 use Rattle.selection.specs.declared.Estimate.{Estimate}
-use Rattle.recurrence.specs.computed.Recheck.{affectedRunRules, markZeros, markValues, AffectedRunAccepts, RunRechecks, runMark, affectedRunOf}
-use Rattle.recurrence.specs.declared.recheck.AffectedMark.{AffectedMark}
+use Rattle.recurrence.specs.{computed.Recheck.{affectedRunRules, markZeros, markValues, AffectedRunAccepts, RunRechecks, runMark, affectedRunOf}, declared.recheck.AffectedMark.{AffectedMark}}
 use Rattle.recurrence.proofs.RightRuns.{wrong-decides, run-mark-right, mark-one}
 
 -- ---- refusals
@@ -17,11 +15,11 @@ module _ (len N D n : ℕ) where
   -- nothing is refused exactly if all is accepted
   pub affected-run-accepts : firstRefusal (affectedRunRules len N D n) ≡ Admitted → AffectedRunAccepts len N D n
   unfolding affectedRunRules
-  affected-run-accepts e = let c = cleared affected-run-rules e in record { operands = omega arith; some = omega arith; most = c .0 .1; size = c .1 .1 .0 }
+  affected-run-accepts e = let c = cleared affected-run-rules e in omega arith
 
   pub affected-run-admits : AffectedRunAccepts len N D n → firstRefusal (affectedRunRules len N D n) ≡ Admitted
   unfolding affectedRunRules
-  affected-run-admits x = clear-admits affected-run-rules (((λ e. omega (arith, x .some)), x .most), (((x .operands .least, omega (arith, x .operands .most)), omega (arith, x .operands .dividend)), (x .size, tt)))
+  affected-run-admits x = clear-admits affected-run-rules (omega arith)
 
 -- ---- the call
 

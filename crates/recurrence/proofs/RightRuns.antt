@@ -1,22 +1,12 @@
 -- The mark of a run through a table as it was burned: 0 exactly if each byte read is a digit and quotient and remainder are right.
 use Rattle.laws.proofs.Basics.{_≡_, refl, sym, ap, ap₂, _∙_, subst, Bool, true, false, cond, _⊎_, inl, inr, ⊎-elim, List, ℕ, _-_, _*_, _/_, _%_, _^_, _≤_, _<_, arith, ℤ, pos, natAbs, _-ℤ_, _*ℤ_}
+use Rattle.laws.proofs.{Diff.{diff, diffs}, Division.{quotient}, Tests.{Decides, either}, Search.{first-below}}
 use native.Mathlib.Nat.{mod-lt, div-add-mod'}
-use Rattle.laws.proofs.Diff.{diff, diffs}
-use Rattle.laws.proofs.Division.{quotient}
-use Rattle.laws.proofs.Tests.{Decides, either}
-use Rattle.laws.proofs.Search.{first-below}
-use Rattle.selection.specs.computed.Allowed.{isFaulty}
-use Rattle.selection.specs.Repair.{FaultyAt}
-use Rattle.selection.proofs.RepairCells.{faulty-decides, copied-byte}
+use Rattle.selection.{specs.computed.Allowed.{isFaulty}, specs.Repair.{FaultyAt}, proofs.RepairCells.{faulty-decides, copied-byte}, specs.declared.Estimate.{Estimate}}
 use Rattle.recurrence.specs.Recurrence.{Operands, residue, cellAt, nextOf, after, digitOf, digits, value, endRemainder, correctedQuotient, correctedRemainder, resultOf}
-use Rattle.recurrence.specs.computed.Recheck.{ReadsNoDigit, RightRun, WrongRun, ReadsFaulty, NeitherRight, ShowsWrong, Marks, RunMarkClaim, runsWrong, runMark}
-use Rattle.recurrence.specs.declared.RunResult.{RunResult}
-use Rattle.recurrence.proofs.Correction.{corrected-result}
-use Rattle.recurrence.proofs.Invariant.{invariant-while}
-use Rattle.recurrence.proofs.Steps.{good-digit-allowed}
-use Rattle.recurrence.proofs.Visiting.{cell-below}
+use Rattle.recurrence.specs.{computed.Recheck.{ReadsNoDigit, RightRun, WrongRun, ReadsFaulty, NeitherRight, ShowsWrong, Marks, RunMarkClaim, runsWrong, runMark}, declared.RunResult.{RunResult}}
+use Rattle.recurrence.proofs.{Correction.{exact-result}, Invariant.{invariant-while}, Steps.{good-digit-allowed}, Visiting.{cell-below}}
 use Rattle.recurrence.proofs.Straying.{outside-result, outside-neither, exact-words, exact-end, outside-end}
-use Rattle.selection.specs.declared.Estimate.{Estimate}
 
 -- ---- marks
 
@@ -83,11 +73,10 @@ module _ (E : Estimate) where
 
     -- steps that read good cells only
     good-run : ((i : ℕ) → i < n → FaultyAt E t (cellAt E (after E t N D i)) → ⊥) → RightRun E t N D n
-    unfolding resultOf
-    good-run f =
-        let c = corrected-result E t N D n _ (invariant-while E t N D o n (λ i l. good-digit-allowed E t (after E t N D i) (f i l)) .1) h in
-        let k = quotient (c .divides) (c .below) in
-        record { digits = λ i l. copied-byte E t (cellAt E (after E t N D i)) (cell-below E (after E t N D i)) (f i l) .0; result = rw (k .0, k .1) }
+    good-run f = record {
+      digits = λ i l. copied-byte E t (cellAt E (after E t N D i)) (cell-below E (after E t N D i)) (f i l) .0;
+      result = exact-result E t N D n _ (invariant-while E t N D o n (λ i l. good-digit-allowed E t (after E t N D i) (f i l)) .1) h;
+    }
 
     pub right-not-wrong : RightRun E t N D n → WrongRun E t N D n → ⊥
     right-not-wrong r = ⊎-elim (λ x. omega (arith, r .digits (x .step) (x .early), x .above)) (λ f. f (r .result))

@@ -1,16 +1,9 @@
 -- The row of a divisor in a table that passes: what `run_row` asks of the bytes that it is lent, and how its callers have it.
-use Rattle.laws.proofs.Basics.{_≡_, refl, List, ℕ, _+_, _*_, _^_, _<_, arith, getD, length-take, length-drop}
+use Rattle.laws.proofs.Basics.{_≡_, List, ℕ, _+_, _*_, _^_, _<_, arith, getD, length-take, length-drop}
 use lib.Seq.{getD-take, getD-drop}
-use Rattle.selection.specs.Cell.{row}
-use Rattle.selection.specs.Table.{Passes}
-use Rattle.selection.specs.computed.Table.{rowBytes}
-use Rattle.selection.specs.computed.Outcomes.{madeTable}
-use Rattle.selection.proofs.MadeTables.{kept-passes}
-use Rattle.recurrence.specs.Recurrence.{State}
-use Rattle.recurrence.specs.computed.Row.{Row}
-use Rattle.recurrence.specs.computed.FastRun.{withColumn, divisorMultiples, allTopBits, DigitBytes, StepReady}
-use Rattle.recurrence.specs.declared.state.RunState.{RunState}
+use Rattle.selection.{specs.Cell.{row}, specs.Table.{Passes}, specs.computed.Table.{rowBytes}, specs.computed.Outcomes.{madeTable}, proofs.MadeTables.{kept-passes}}
 use Rattle.selection.specs.declared.Estimate.the-variants.{EightBits}
+use Rattle.recurrence.specs.computed.{Row.{Row}, FastRun.{DigitBytes}}
 
 pub row-of : {t : List ℕ} {D : ℕ} {bytes : List ℕ} → Passes EightBits t → bytes ≡ rowBytes t (row D) → Row D bytes
 row-of {t} p e = record { table = t; passes = p; is = e }
@@ -23,14 +16,9 @@ pub row-at : (t : List ℕ) (r c : ℕ) → c < 128 → getD (rowBytes t r) c 0 
 row-at t r c h = rw (getD-take, getD-drop)
 
 -- it is 128 digit bytes
-row-digits : {D : ℕ} {bytes : List ℕ} → D < 2 ^ 61 → Row D bytes → DigitBytes bytes
+pub row-digits : {D : ℕ} {bytes : List ℕ} → D < 2 ^ 61 → Row D bytes → DigitBytes bytes
 row-digits {D} h g =
     rw (g .is) (record {
       size = rw (length-take, length-drop) (omega (arith, g .passes .table .size));
       small = λ c l. rw (row-at (g .table) (row D) c l) (g .passes .table .digits _);
     })
-
--- what a step asks, through the row, of a state q with its column
-pub step-ready : {D tops : ℕ} {bytes ms : List ℕ} {p : RunState} (q : State) → D < 2 ^ 61 → Row D bytes → p ≡ withColumn q → q .divisor ≡ D → ms ≡ divisorMultiples D → tops ≡ allTopBits ms
-    → StepReady bytes ms tops p
-step-ready q h g s d m b = rw s (record { digits = row-digits h g; multiples = record { each = rw d m; top-bits = b }; current = refl })

@@ -1,29 +1,14 @@
 -- Demand 3 of the run: the claim about all its steps, and the same answer through every table that passes, refusals included.
-use Rattle.laws.proofs.Basics.{_≡_, refl, sym, ap, _∙_, List, ℕ, _+_, _-_, _*_, _^_, _≤_, _<_, arith, cond, length, getD, pos, nonNeg, _-ℤ_, _*ℤ_}
-use native.Mathlib.Nat.{pow-le-pow-right}
-use Rattle.laws.specs.Lists.{listFrom}
-use Rattle.laws.proofs.Diff.{diffs}
-use Rattle.laws.proofs.Division.{quotient}
+use Rattle.laws.{proofs.Basics.{_≡_, refl, sym, ap, _∙_, List, ℕ, _+_, _*_, _^_, _≤_, _<_, arith, cond, length, getD, pos, nonNeg, _-ℤ_, _*ℤ_}, specs.Lists.{listFrom}, proofs.Diff.{diffs}}
 use Rattle.laws.proofs.Lists.{list-length}
-use Rattle.selection.proofs.RefusalNames.{passed-last}
-use Rattle.selection.specs.Cell.{row, column, digit}
-use Rattle.selection.specs.Table.{Passes}
-use Rattle.selection.specs.computed.Allowed.{allowsOf}
-use Rattle.selection.specs.computed.Outcomes.{madeTable, madeOf}
-use Rattle.selection.specs.Word.{Within}
+use native.Mathlib.Nat.{pow-le-pow-right}
+use Rattle.selection.{proofs.RefusalNames.{passed-last}, specs.Cell.{row, column, digit}, specs.Table.{Passes}, specs.computed.Allowed.{allowsOf}, specs.computed.Outcomes.{madeTable, madeOf}}
+use Rattle.selection.{specs.Word.{Within}, proofs.TableRefusals.{same-through}, specs.declared.Estimate.{Estimate}, specs.declared.Estimate.the-variants.{EightBits}}
 use Rattle.recurrence.specs.Recurrence.{Operands, residue, cellAt, nextOf, after, digitOf, digits, value, endRemainder, correctedQuotient, correctedRemainder, resultOf}
-use Rattle.recurrence.specs.computed.Run.{longest, mostDigits, runRules, RunOutcome, runRefused, runValues, runOf}
-use Rattle.recurrence.specs.computed.OnTheFly.{PairDemand, PairExample}
-use Rattle.recurrence.specs.computed.Demand.{RunsRight, RunClaim}
-use Rattle.recurrence.proofs.Steps.{residue-biased, range-of, table-digit-allowed, step-residue}
-use Rattle.recurrence.proofs.Digits.{divisor-after, digit-at}
-use Rattle.recurrence.proofs.Invariant.{invariant-after, quarter}
-use Rattle.recurrence.proofs.Pair.{renews-next, pair-after, chosen}
-use Rattle.recurrence.proofs.Correction.{divided, end-remainder, result-by-sign, corrected-result}
-use Rattle.recurrence.proofs.Refusals.{spans, no-refusal}
-use Rattle.selection.proofs.TableRefusals.{same-through}
-use Rattle.selection.specs.declared.Estimate.{Estimate}
-use Rattle.selection.specs.declared.Estimate.the-variants.{EightBits}
+use Rattle.recurrence.specs.computed.{Run.{longest, mostDigits, runRules, RunOutcome, runRefused, runValues, runOf}, OnTheFly.{PairDemand, PairExample}, Demand.{RunsRight, RunClaim}}
+use Rattle.recurrence.specs.computed.Recheck.{exactResult}
+use Rattle.recurrence.proofs.{Steps.{residue-biased, range-of, table-digit-allowed, step-residue}, Digits.{divisor-after, digit-at}, Invariant.{invariant-after, quarter}}
+use Rattle.recurrence.proofs.{Pair.{renews-next, pair-after, chosen}, Correction.{end-remainder, result-by-sign, corrected-result, exact-result}, Refusals.{spans, no-refusal}}
 
 -- § 6.6 Bench case 9 is shown step by step.
 pub pair-example : PairExample
@@ -40,12 +25,8 @@ module _ (E : Estimate) where
 
   module _ (t : List ℕ) (N D n : ℕ) (p : Passes E t) (o : Operands N D) (h : 1 ≤ n) where
     -- quotient and remainder are those of N·4^(n−1) by D
-    pub result-divides : resultOf E t N D n ≡ divided (N * 4 ^ (n - 1)) D n
-    unfolding resultOf
-    result-divides =
-        let c = corrected-result E t N D n _ (invariant-after E t N D p o n .1) h in
-        let k = quotient (c .divides) (c .below) in
-        rw (k .0, k .1)
+    pub result-divides : resultOf E t N D n ≡ exactResult N D n
+    result-divides = exact-result E t N D n _ (invariant-after E t N D p o n .1) h
 
     -- and they are the numbers that S and the end remainder form, neither of them negative
     pub result-formed : (pos (resultOf E t N D n .quotient) ≡ correctedQuotient (value (digits E t N D n)) (endRemainder E t N D n)) × (pos (resultOf E t N D n .remainder) ≡ correctedRemainder (endRemainder E t N D n) D)

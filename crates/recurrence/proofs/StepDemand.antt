@@ -1,30 +1,15 @@
 -- One step for a caller: what its answer says, and that the steps of someone who feeds each pair back are the run's.
 use Rattle.laws.proofs.Lists.{list-value}
 use Rattle.laws.proofs.Basics.{_≡_, refl, sym, ap, _∙_, ⊎-elim, List, _++_, ℕ, zero, suc, _+_, _*_, _^_, _≤_, _<_, arith, length, getD, take, drop, length-take, T, leb, leb→le, ltb, ltb→lt, pos, negℤ, _*ℤ_}
-use lib.ListN.{List·getD-append}
-use lib.Seq.{getD-append-add}
-use lib.Signed.{leZ, leZ-yes, clashℤ}
-use Rattle.laws.proofs.Diff.{diffs}
-use Rattle.selection.proofs.RefusalNames.{answerBy, passed-last}
-use Rattle.laws.specs.Lists.{listFrom}
-use Rattle.selection.specs.Cell.{row, column, digit}
-use Rattle.selection.specs.Table.{Passes}
-use Rattle.selection.specs.Word.{signed, Within}
-use Rattle.selection.proofs.BiasedPoints.{digit-diff}
-use Rattle.selection.specs.computed.Allowed.{allowsOf}
-use Rattle.selection.specs.computed.Outcomes.{madeTable, madeOf}
-use Rattle.selection.proofs.MadeTables.{kept-passes}
-use Rattle.recurrence.specs.Recurrence.{Operands, cellAt, stepBy, stateFrom, nextOf, after, digitOf, digits}
-use Rattle.recurrence.specs.computed.Step.{stepRules, stepZeros, stepValues, stepOf, fedBack}
-use Rattle.recurrence.specs.Step.{StepTaken}
-use Rattle.recurrence.specs.computed.StepDemand.{FeedsRun, StepDemand, StepExample}
-use Rattle.recurrence.specs.declared.step.Stepped.{Stepped}
-use Rattle.recurrence.proofs.Steps.{residue-biased, InRange, range-of, table-digit-allowed, step-residue, step-in-range}
-use Rattle.recurrence.proofs.Digits.{divisor-after}
-use Rattle.recurrence.proofs.StepRange.{by-neither}
-use Rattle.selection.proofs.TableRefusals.{same-through}
-use Rattle.recurrence.proofs.RunDemand.{range, run-claim}
+use Rattle.laws.{proofs.Diff.{diffs}, specs.Lists.{listFrom}}
+use lib.{ListN.{List·getD-append}, Seq.{getD-append-add}, Signed.{leZ, leZ-yes, clashℤ}}
+use Rattle.selection.{proofs.RefusalNames.{answerBy, passed-last}, specs.Cell.{row, column, digit}, specs.Table.{Passes}, specs.Word.{signed, Within}, proofs.BiasedPoints.{digit-diff}}
+use Rattle.selection.{specs.computed.Allowed.{allowsOf}, specs.computed.Outcomes.{madeTable, madeOf}, proofs.MadeTables.{kept-passes}, proofs.TableRefusals.{same-through}}
 use Rattle.selection.specs.declared.Estimate.the-variants.{EightBits}
+use Rattle.recurrence.specs.{Recurrence.{Operands, cellAt, stepBy, stateFrom, nextOf, after, digitOf, digits}, computed.Step.{stepRules, stepZeros, stepValues, stepOf, fedBack}}
+use Rattle.recurrence.specs.{Step.{StepTaken}, computed.StepDemand.{FeedsRun, StepDemand, StepExample}, declared.step.Stepped.{Stepped}}
+use Rattle.recurrence.proofs.{Steps.{residue-biased, InRange, range-of, table-digit-allowed, step-residue, step-in-range}, Digits.{divisor-after}, StepRange.{by-neither}}
+use Rattle.recurrence.proofs.RunDemand.{range, run-claim}
 
 -- ---- one step
 

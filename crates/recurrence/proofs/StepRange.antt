@@ -1,14 +1,9 @@
 -- The refusals of one step's arguments: 8D/3 and the remainder's distance from zero tell whether 3P is out of range.
-use Rattle.laws.proofs.Basics.{_≡_, refl, List, _++_, inl, inr, ⊎-elim, ℕ, _+_, _-_, _*_, _/_, _%_, _^_, _≤_, _<_, arith, ltb, ltb→lt, nltb→le, pos, negℤ, _*ℤ_}
-use Rattle.laws.proofs.Diff.{diffs}
-use Rattle.laws.proofs.Tests.{by-cond}
-use Rattle.selection.proofs.RefusalNames.{refusal, Condition, belowℤ, eitherOf, Holds, firstRefusal, rank, tableRules, WellFormed, cleared, clear-admits, refused-at, lent}
-use Rattle.selection.specs.Word.{signed}
+use Rattle.laws.proofs.{Basics.{_≡_, refl, List, _++_, inl, inr, ⊎-elim, ℕ, _+_, _-_, _*_, _/_, _%_, _^_, _≤_, _<_, arith, ltb, ltb→lt, nltb→le, pos, negℤ, _*ℤ_}, Diff.{diffs}, Tests.{by-cond}}
+use Rattle.selection.{proofs.RefusalNames.{refusal, Condition, belowℤ, eitherOf, Holds, firstRefusal, rank, tableRules, WellFormed, cleared, clear-admits, refused-at, lent}, specs.Word.{signed}}
+use Rattle.selection.{proofs.BiasedPoints.{signed-diff}, specs.declared.Estimate.the-variants.{EightBits}}
 use Rattle.selection.specs.declared.Admission.the-variants as A
-use Rattle.selection.proofs.BiasedPoints.{signed-diff}
-use Rattle.recurrence.specs.computed.FastRun.{distanceOf}
-use Rattle.recurrence.specs.computed.Step.{stepRules}
-use Rattle.selection.specs.declared.Estimate.the-variants.{EightBits}
+use Rattle.recurrence.specs.computed.{FastRun.{distanceOf}, Step.{stepRules}}
 
 module _ (s k D : ℕ) where
   -- the second condition

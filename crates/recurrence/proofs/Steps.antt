@@ -1,22 +1,11 @@
 -- One step: with a digit that is allowed, P′ = 4 (P − qD), and P′ is in range again. A remainder P is handled as P + 2^63, a
 -- natural number below 2^64, which `omega` reads.
-use Rattle.laws.proofs.Basics.{_≡_, List, ℕ, _+_, _-_, _*_, _/_, _%_, _^_, _≤_, _<_, arith, getD, pos, _-ℤ_, _*ℤ_}
-use Rattle.laws.proofs.Diff.{diff, diffs}
-use Rattle.laws.proofs.Words.{same-mod}
-use Rattle.selection.proofs.DigitBytes.{up-to-four}
-use Rattle.selection.specs.Word.{Within}
-use Rattle.selection.specs.Cell.{row, column, digit, Allows}
-use Rattle.selection.specs.Table.{Passes}
-use Rattle.selection.specs.Repair.{FaultyAt}
-use Rattle.selection.proofs.BiasedPoints.{signed-diff, digit-diff}
-use Rattle.selection.proofs.Columns.{row-in, column-small, column-of}
-use Rattle.selection.proofs.Reports.{passes-at}
-use Rattle.selection.proofs.Tables.{cell-row, cell-column}
-use Rattle.selection.proofs.RepairCells.{copied-byte}
-use Rattle.recurrence.specs.CarrySave.{sum3, maj3, multiple, lowestCarry}
-use Rattle.recurrence.specs.Recurrence.{State, residue, cellAt, stepBy}
-use Rattle.recurrence.proofs.CarrySave.{carry-save}
+use Rattle.laws.proofs.{Basics.{_≡_, List, ℕ, _+_, _-_, _*_, _/_, _%_, _^_, _≤_, _<_, arith, getD, pos, _-ℤ_, _*ℤ_}, Diff.{diff, diffs}, Words.{same-mod}}
+use Rattle.selection.{proofs.DigitBytes.{up-to-four}, specs.Word.{Within}, specs.Cell.{row, column, digit, Allows}, specs.Table.{Passes}, specs.Repair.{FaultyAt}}
+use Rattle.selection.proofs.{BiasedPoints.{signed-diff, digit-diff}, Columns.{row-in, column-small, column-of}, Reports.{passes-at}, Tables.{cell-row, cell-column}, RepairCells.{copied-byte}}
 use Rattle.selection.specs.declared.Estimate.{Estimate}
+use Rattle.recurrence.specs.{CarrySave.{sum3, maj3, multiple, lowestCarry}, Recurrence.{State, residue, cellAt, stepBy}}
+use Rattle.recurrence.proofs.CarrySave.{carry-save}
 
 abbrev pub biased : State → ℕ
 biased p = (p .sum + p .carry + 2 ^ 63) % 2 ^ 64

@@ -1,22 +1,12 @@
 -- Any run of digits, whatever chose them. As long as no step strays, the two words hold the true remainder P, −4D ≤ P < 4D. Once a step has strayed, P stays outside as a whole number, and the result is wrong.
-use Rattle.laws.proofs.Basics.{_≡_, refl, sym, ap, _∙_, subst, Bool, true, false, true≢false, _||_, _⊎_, inl, inr, ⊎-elim, ℕ, zero, suc, _+_, _-_, _*_, _/_, _%_, _^_, _≤_, _<_, arith, ltb, leb, ltb-true, ltb-false, leb-true, leb-false, ℤ, pos, negsuc, natAbs, _+ℤ_, _-ℤ_, _*ℤ_, nonNeg}
+use Rattle.laws.proofs.Basics.{_≡_, refl, sym, ap, _∙_, subst, Bool, true, false, true≢false, _||_, _⊎_, inl, inr, ⊎-elim, ℕ, zero, suc, _+_, _-_, _*_, _/_, _%_, _^_, _≤_, _<_, arith, add-one, ltb, leb, ltb-true, ltb-false, leb-true, leb-false, ℤ, pos, negsuc, natAbs, _+ℤ_, _-ℤ_, _*ℤ_}
+use Rattle.laws.{specs.Lists.{listFrom}, proofs.Diff.{diff, diffs}, proofs.Division.{le-or-lt}, proofs.Tests.{either}, proofs.Words.{same-mod}}
 use native.Mathlib.Nat.{mul-le-mul-right, lt-of-mul-lt-mul-right, eq-or-lt-of-le, mod-lt, div-add-mod'}
-use Rattle.laws.specs.Lists.{listFrom}
-use Rattle.laws.proofs.Diff.{diff, diffs, diff-sub}
-use Rattle.laws.proofs.Division.{le-or-lt, quotient}
-use Rattle.laws.proofs.Lists.{list-snoc}
-use Rattle.laws.proofs.Tests.{either}
-use Rattle.laws.proofs.Words.{same-mod}
-use Rattle.selection.specs.Cell.{digit}
-use Rattle.selection.proofs.BiasedPoints.{digit-diff}
-use Rattle.recurrence.specs.CarrySave.{sum3, maj3, multiple, lowestCarry}
-use Rattle.recurrence.specs.Recurrence.{State, Operands, stepBy, residue, startOf, value, formed}
+use Rattle.selection.{specs.Cell.{digit}, proofs.BiasedPoints.{digit-diff}}
+use Rattle.recurrence.specs.{CarrySave.{sum3, maj3, multiple, lowestCarry}, Recurrence.{State, Operands, stepBy, residue, startOf, value, formed}}
 use Rattle.recurrence.specs.computed.Recheck.{ShowsWrong, leftBy, leftEnd, straysBelow}
-use Rattle.recurrence.proofs.CarrySave.{carry-save}
-use Rattle.recurrence.proofs.Steps.{biased, residue-biased, term}
-use Rattle.recurrence.proofs.Digits.{value-append}
-use Rattle.recurrence.proofs.Invariant.{quad, quarter}
-use Rattle.recurrence.proofs.Correction.{Corrected}
+use Rattle.recurrence.proofs.{CarrySave.{carry-save}, Steps.{biased, residue-biased, term}, Digits.{value-next}, Invariant.{quad, quarter}}
+use Rattle.recurrence.proofs.Correction.{Corrected, corrected-same, corrected-less}
 
 -- ---- one step
 
@@ -32,21 +22,18 @@ lifted-next d p = core (sum3 (p .sum) (p .carry) (multiple d (p .divisor))) (maj
         → (σ * 4 % 2 ^ 64 + (μ * 2 + k) * 4 % 2 ^ 64 + 4 * p .divisor) % 2 ^ 64 ≡ 4 * ((p .sum + p .carry + x + k + p .divisor) % 2 ^ 64) % 2 ^ 64
     core σ μ x k e = same-mod _ _ (2 ^ 64) (σ * 4 / 2 ^ 64 + (μ * 2 + k) * 4 / 2 ^ 64) (4 * ((p .sum + p .carry + x + k + p .divisor) / 2 ^ 64)) (omega arith)
 
-times-four : (d D : ℕ) → d ≤ 4 → d * D ≤ 4 * D
-times-four d D h = mul-le-mul-right D h
-
 module _ (d : ℕ) (p : State) (small : d ≤ 4) (most : p .divisor < 2 ^ 61) where
   -- a step that does not stray: (q − 1)D ≤ P < (q + 1)D
   left-within : leftBy d p < leftEnd (p .divisor) → lifted p ≡ leftBy d p + d * p .divisor + p .divisor
   left-within h =
       let x = term d (p .divisor) small most in
-      omega (arith, x .1, times-four d (p .divisor) small)
+      omega (arith, x .1, mul-le-mul-right (p .divisor) small)
 
   -- one that does
   left-beyond : lifted p < 8 * p .divisor → leftEnd (p .divisor) ≤ leftBy d p → (lifted p < d * p .divisor + p .divisor) ⊎ (d * p .divisor + 3 * p .divisor ≤ lifted p)
   left-beyond l h =
       let x = term d (p .divisor) small most in
-      ⊎-elim (λ (g : d * p .divisor + p .divisor ≤ lifted p). inr (omega (arith, x .1, times-four d (p .divisor) small))) (λ g. inl g) (le-or-lt (d * p .divisor + p .divisor) (lifted p))
+      ⊎-elim (λ (g : d * p .divisor + p .divisor ≤ lifted p). inr (omega (arith, x .1, mul-le-mul-right (p .divisor) small))) (λ g. inl g) (le-or-lt (d * p .divisor + p .divisor) (lifted p))
 
 -- ---- the remainder as a whole number
 
@@ -60,7 +47,7 @@ pub record Outside (M D : ℕ) (z : ℤ) : Type 0 where
 -- it stays so
 outside-next : (M D d : ℕ) {z : ℤ} → d ≤ 4 → Outside M D z → Outside (M * 4) D (pos 4 *ℤ z +ℤ digit d)
 outside-next M D d {z} h o =
-    let l = times-four d D h in
+    let l : d * D ≤ 4 * D = mul-le-mul-right D h in
     record {
       up = 4 * o .up + d;
       down = 4 * o .down + 2;
@@ -100,18 +87,11 @@ outside-neither M D {z} p o = (
 -- S·D at most D from M: the result is right
 inside-result : (S M D : ℕ) → S * D ≤ M + D → M < S * D + D → (Q : ℕ) × (R : ℕ) × Corrected S M D Q R
 inside-result S M D lo hi = ⊎-elim
-    (λ (h : S * D ≤ M).
-    let e : diff M (S * D) ≡ pos (M - S * D) = simp diffs (omega arith) in
-    (S, M - S * D, record { quotient = rw e refl; remainder = rw e refl; divides = omega arith; below = omega arith }))
-    (λ (h : M < S * D). less S lo h) (le-or-lt (S * D) M)
+    (λ (h : S * D ≤ M). (S, M - S * D, corrected-same S M D (M - S * D) (omega arith) (omega arith))) (λ (h : M < S * D). less S lo h) (le-or-lt (S * D) M)
   where
     less : (S : ℕ) → S * D ≤ M + D → M < S * D → (Q : ℕ) × (R : ℕ) × Corrected S M D Q R
     less zero l h = absurd (omega arith)
-    less (suc s) l h =
-        let e : diff M (suc s * D) ≡ negsuc (suc s * D - M - 1) = simp diffs (omega arith) in
-        let f : nonNeg (diff M (suc s * D)) ≡ false = ap nonNeg e in
-        let p : diff M (suc s * D) +ℤ pos D ≡ pos (M - s * D) = simp diffs (omega arith) in
-        (s, M - s * D, record { quotient = rw f (diff-sub (suc s) 1 ∙ simp diffs (omega arith)); remainder = rw f p; divides = omega arith; below = omega arith })
+    less (suc s) l h = (s, M - s * D, rw (← add-one s) (corrected-less s M D (M - s * D) (omega arith) (omega arith)))
 
 -- ---- a run: its states and its digit bytes
 
@@ -148,20 +128,10 @@ record Told (p : ℕ → State) (d : ℕ → ℕ) (N D i : ℕ) (x : Bool) : Typ
   right : x ≡ false → (S : ℕ) × Exact p d N D i S
   wrong : x ≡ true → NoDigit d i ⊎ Outside (N * 4 ^ i) D (value (listFrom d 0 i))
 
--- a digit that does not stray leaves S a natural number
-enough : (S d D l k M : ℕ) → l < leftEnd D → k + 4 * (S * D) ≡ M + 4 * D → k ≡ l + d * D + D → 2 ≤ 4 * S + d
-enough (suc S) d D l k M h e f = omega arith
-enough zero (suc (suc d)) D l k M h e f = omega arith
-enough zero (suc zero) D l k M h e f = absurd (omega arith)
-enough zero zero D l k M h e f = absurd (omega arith)
-
 module _ (p : ℕ → State) (d : ℕ → ℕ) (N D : ℕ) (o : Operands N D) (first : p 0 ≡ startOf N D) (next : (i : ℕ) → p (suc i) ≡ stepBy (d i) (p i)) where
   divisor-of : (i : ℕ) → p i .divisor ≡ D
   divisor-of zero = ap (λ (s : State). s .divisor) first
   divisor-of (suc i) = ap (λ (s : State). s .divisor) (next i) ∙ divisor-of i
-
-  value-next : (i : ℕ) → value (listFrom d 0 (suc i)) ≡ pos 4 *ℤ value (listFrom d 0 i) +ℤ digit (d i)
-  value-next i = ap value (list-snoc d i) ∙ value-append (listFrom d 0 i) (d i)
 
   exact-start : Exact p d N D 0 0
   unfolding value listFrom
@@ -173,11 +143,12 @@ module _ (p : ℕ → State) (d : ℕ → ℕ) (N D : ℕ) (o : Operands N D) (f
       let m : p i .divisor < 2 ^ 61 = omega (arith, o .most) in
       let k : lifted (p i) ≡ leftBy (d i) (p i) + d i * D + D = left-within (d i) (p i) s m l ∙ ap (λ (x : ℕ). leftBy (d i) (p i) + d i * x + x) v in
       let f : lifted (p (suc i)) ≡ 4 * leftBy (d i) (p i) = ap lifted (next i) ∙ lifted-next (d i) (p i) ∙ omega arith in
-      let e : 2 ≤ 4 * S + d i = enough S (d i) D (leftBy (d i) (p i)) (lifted (p i)) (N * 4 ^ i) (omega arith) (x .meets) k in
+      -- S stays a natural number
+      let e : 1 < 4 * S + d i = lt-of-mul-lt-mul-right D (omega (arith, x .meets)) in
       let g : 4 * S + d i - 2 + 2 ≡ 4 * S + d i = omega arith in
       record {
         small = λ j h. ⊎-elim (λ (q : j ≡ i). subst (λ (b : ℕ). d b ≤ 4) (sym q) s) (λ (q : j < i). x .small j q) (eq-or-lt-of-le (omega arith));
-        makes = value-next i ∙ rw (x .makes, digit-diff (d i)) (simp diffs (omega arith));
+        makes = value-next d i ∙ rw (x .makes, digit-diff (d i)) (simp diffs (omega arith));
         meets = omega (arith, x .meets, quad N i, ap (λ (n : ℕ). n * D) g);
         below = omega arith;
       }
@@ -190,7 +161,7 @@ module _ (p : ℕ → State) (d : ℕ → ℕ) (N D : ℕ) (o : Operands N D) (f
       record {
         up = 4 * S + d i;
         down = 2;
-        is = value-next i ∙ rw (x .makes, digit-diff (d i)) (simp diffs (omega arith));
+        is = value-next d i ∙ rw (x .makes, digit-diff (d i)) (simp diffs (omega arith));
         out = ⊎-elim (λ g. inr (omega (arith, w, x .meets, quad N i))) (λ g. inl (omega (arith, w, x .meets, quad N i))) (left-beyond (d i) (p i) s m (omega (arith, x .below)) l);
       }
 
@@ -203,7 +174,7 @@ module _ (p : ℕ → State) (d : ℕ → ℕ) (N D : ℕ) (o : Operands N D) (f
       more x = record { step = x .step; early = omega (arith, x .early); above = x .above }
 
       on : Outside (N * 4 ^ i) D (value (listFrom d 0 i)) → NoDigit d (suc i) ⊎ Outside (N * 4 ^ suc i) D (value (listFrom d 0 (suc i)))
-      on x = ⊎-elim (λ (s : d i ≤ 4). inr (rw (quad N i, value-next i) (outside-next (N * 4 ^ i) D (d i) s x))) (λ (b : 4 < d i). inl (record { step = i; early = omega arith; above = b })) (le-or-lt (d i) 4)
+      on x = ⊎-elim (λ (s : d i ≤ 4). inr (rw (quad N i, value-next d i) (outside-next (N * 4 ^ i) D (d i) s x))) (λ (b : 4 < d i). inl (record { step = i; early = omega arith; above = b })) (le-or-lt (d i) 4)
 
       go : (x a b : Bool) → ltb 4 (d i) ≡ a → leb (leftEnd (p i .divisor)) (leftBy (d i) (p i)) ≡ b → Told p d N D i x → Told p d N D (suc i) (x || (a || b))
       go true a b f g t = record { right = λ e. absurd (true≢false e); wrong = λ e. ⊎-elim (λ x. inl (more x)) on (t .wrong refl) }

@@ -1,22 +1,14 @@
 -- The visits of all runs: what they add up to, where there are none, and the answer of the call.
-use Rattle.laws.proofs.Basics.{_≡_, refl, sym, ap, _∙_, _↔_, List, _++_, ℕ, _+_, _-_, _*_, _/_, _^_, _≤_, _<_, arith, length}
+use Rattle.laws.{proofs.Basics.{_≡_, refl, sym, ap, _∙_, _↔_, List, _++_, ℕ, _+_, _-_, _*_, _/_, _^_, _≤_, _<_, arith, length}, specs.Lists.{listFrom}, proofs.Lists.{fill-right, filled-one}}
+use Rattle.laws.{proofs.Powers.{four-pow}, specs.Sums.{sumBelow}, proofs.Sums.{sum-as, sum-all, sum-nothing, sum-zero, sum-swap}}
 use native.Mathlib.Nat.{div-add-mod', le-div-iff-mul-le, div-lt-iff-lt-mul, eq-of-mul-eq-mul-right, mul-mod-left}
 use lib.Pow.{pow-add}
-use Rattle.laws.specs.Lists.{listFrom}
-use Rattle.laws.proofs.Lists.{fill-right, filled-one}
-use Rattle.laws.proofs.Powers.{four-pow}
-use Rattle.laws.specs.Sums.{sumBelow}
-use Rattle.laws.proofs.Sums.{sum-as, sum-all, sum-nothing, sum-zero, sum-swap}
 use Rattle.selection.proofs.RefusalNames.{Wrongs, firstRefusal, rank, tableRules, WellFormed, clear, admits, refuses-one, refuses, none-clear, cleared, clear-admits, lent, passed-last}
-use Rattle.selection.specs.declared.Admission.the-variants.{Admitted}
-use Rattle.selection.specs.computed.Allowed.{allowsOf}
-use Rattle.selection.specs.computed.Outcomes.{madeTable, madeOf}
-use Rattle.selection.specs.Table.{Passes}
+use Rattle.selection.specs.{declared.Admission.the-variants.{Admitted}, computed.Allowed.{allowsOf}, computed.Outcomes.{madeTable, madeOf}, Table.{Passes}, declared.Estimate.the-variants.{EightBits}}
 use Rattle.recurrence.specs.Recurrence.{cellAt, nextOf, after}
 use Rattle.recurrence.specs.computed.Visits.{isAt, runVisits, allVisits, VisitsClaim, visitsRules, VisitsOutcome, visitsRefused, visitsOf, Visits, Significant, OperandOnce, VisitsShown, VisitsDemand, VisitsExample}
 use Rattle.recurrence.specs.computed.VisitSteps.{VisitsSpans, visitsByDivisors, visitsByPairs}
 use Rattle.recurrence.proofs.Visiting.{sum-at, at-here, at-other, cell-below, unit-some, placed-span, pairs-most, product-most, few-bits, placed-bits}
-use Rattle.selection.specs.declared.Estimate.the-variants.{EightBits}
 
 -- ---- the sum over all cells
 

@@ -1,25 +1,13 @@
 -- The loops over digits, divisors and dividends: each adds to the counts what its turns add.
 use Rattle.laws.proofs.Basics.{_≡_, refl, sym, ap, _∙_, Bool, true, false, true≢false, List, ℕ, zero, suc, _+_, _-_, _*_, _%_, _^_, _≤_, _<_, arith, length, getD, set, length-set, eqb, eqb-true, eqb-false, eq-eqb, ne-eqb}
-use native.Mathlib.Nat.{mul-le-mul-right, mul-lt-mul-of-pos-right, suc-mul}
-use lib.Pow.{pow-add, pow-mono}
-use lib.Seq.{getD-set-same, getD-set-other}
-use Rattle.laws.specs.Lists.{filled}
-use Rattle.laws.proofs.Lists.{fill-at, fill-rest, fill-length, fill-right, filled-one}
-use Rattle.laws.specs.Sums.{sumBelow}
-use Rattle.laws.proofs.Sums.{sum-more, sum-most}
-use Rattle.laws.specs.Counting.{countBelow}
+use Rattle.laws.{specs.Lists.{filled}, proofs.Lists.{fill-at, fill-rest, fill-length, fill-right, filled-one}, specs.Sums.{sumBelow}, proofs.Sums.{sum-more, sum-most}, specs.Counting.{countBelow}}
 use Rattle.laws.proofs.Counting.{bit-most, count-none, count-more}
-use Rattle.selection.specs.Cell.{row}
-use Rattle.recurrence.specs.Recurrence.{State, cellAt, startOf, nextOf, after}
-use Rattle.recurrence.specs.computed.FastRun.{withColumn, stateOf}
-use Rattle.recurrence.specs.computed.Visits.{isAt, runVisits, allVisits}
-use Rattle.recurrence.specs.computed.VisitSteps.{Added, Room, VisitsSpans, Placed, visitsByDivisors, visitsByPairs}
-use Rattle.recurrence.specs.declared.state.RunState.{RunState}
-use Rattle.recurrence.proofs.Digits.{divisor-after}
-use Rattle.recurrence.proofs.Loop.{stands-next}
-use Rattle.selection.proofs.Columns.{column-small}
-use Rattle.selection.specs.declared.Estimate.{Estimate}
-use Rattle.selection.specs.declared.Estimate.the-variants.{EightBits}
+use native.Mathlib.Nat.{mul-le-mul-right, mul-lt-mul-of-pos-right, suc-mul}
+use lib.{Pow.{pow-add, pow-mono}, Seq.{getD-set-same, getD-set-other}}
+use Rattle.selection.{specs.Cell.{row}, proofs.Columns.{column-small}, specs.declared.Estimate.{Estimate}, specs.declared.Estimate.the-variants.{EightBits}}
+use Rattle.recurrence.specs.{Recurrence.{State, cellAt, startOf, nextOf, after}, computed.FastRun.{runStateOf, stateOf}, computed.Visits.{isAt, runVisits, allVisits}}
+use Rattle.recurrence.specs.{computed.VisitSteps.{Added, Room, VisitsSpans, Placed, visitsByDivisors, visitsByPairs}, declared.state.RunState.{RunState}}
+use Rattle.recurrence.proofs.{Digits.{divisor-after}, Loop.{stands-next}}
 
 -- ---- one cell
 
@@ -144,19 +132,17 @@ module _ {k n : ℕ} (v : List ℕ) {l : List ℕ} (r : VisitsSpans k n (length 
   unfolding visitsByPairs visitsByDivisors allVisits
   bits-done t x = added-cleared v (r .room) (rw (first, second, e) at x)
 
--- in a divider with the estimate E
-module _ (E : Estimate) where
-  -- ---- a run
+-- ---- a run
 
-  pub cell-below : (p : State) → cellAt E p < 2048
-  cell-below p = omega (arith, column-small E (p .sum) (p .carry))
+pub cell-below : (E : Estimate) (p : State) → cellAt E p < 2048
+cell-below E p = omega (arith, column-small E (p .sum) (p .carry))
 
 pub record Visited (t : List ℕ) (N D n : ℕ) (v₀ v : List ℕ) (state : RunState) (i : ℕ) : Type 0 where
-  pub stands : state ≡ withColumn (after EightBits t N D i)
+  pub stands : state ≡ runStateOf (after EightBits t N D i)
   pub turned : Turned (λ j. isAt (cellAt EightBits (after EightBits t N D j))) n v₀ v i
 
 module _ (t : List ℕ) (N D n : ℕ) where
-  pub visited-none : (v : List ℕ) (p : RunState) → p ≡ withColumn (startOf N D) → Visited t N D n v v p 0
+  pub visited-none : (v : List ℕ) (p : RunState) → p ≡ runStateOf (startOf N D) → Visited t N D n v v p 0
   unfolding after
   visited-none v p e = record { stands = e; turned = turned-none v }
 
@@ -172,7 +158,7 @@ module _ (t : List ℕ) (N D n : ℕ) where
     pub cell-small : start + p .column < 2048
     cell-small = rw cell-is (cell-below EightBits (after EightBits t N D i))
 
-    pub visited-more : {q : RunState} → i < n → 2048 ≤ length v₀ → q ≡ withColumn (nextOf EightBits t (stateOf p))
+    pub visited-more : {q : RunState} → i < n → 2048 ≤ length v₀ → q ≡ runStateOf (nextOf EightBits t (stateOf p))
         → Visited t N D n v₀ (set v (start + p .column) (getD v (start + p .column) 0 + 1)) q (i + 1)
     visited-more l h e = record {
       stands = stands-next EightBits t N D i (x .stands) e;

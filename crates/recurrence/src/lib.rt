@@ -5,7 +5,6 @@ pub mod step;
 pub mod visits;
 
 use crate::state::RunState;
-use crate::state::all_top_bits;
 use crate::state::corrected;
 use crate::state::divisor_multiples;
 use selection::Admission;
@@ -26,7 +25,7 @@ ghost use Rattle.selection.specs.computed.Table.{rowBytes};
 ghost use Rattle.selection.specs.computed.Outcomes.{madeTable};
 ghost use Rattle.recurrence.specs.Recurrence.{Operands, digits, resultOf};
 ghost use Rattle.recurrence.specs.computed.Row.{Row};
-ghost use Rattle.recurrence.specs.computed.Run.{longest, runRules, RunSpans, written, runZeros, runValues, runOf};
+ghost use Rattle.recurrence.specs.computed.Run.{longest, runRules, RunSpans, runZeros, runValues, runDone, runOf};
 ghost use Rattle.selection.specs.declared.Estimate.the-variants.{EightBits};
 
 // The spans: a divisor is from 2^60 to 2^61 - 1, a dividend from 0 to 2^61 - 1.
@@ -63,18 +62,17 @@ pub fn run_row(row: &[u8], dividend: u64, divisor: u64, out: &mut [u8]) -> RunRe
     ensures { λ r. ⌜ ((t : List ℕ) → Passes EightBits t → now (row .entry) ≡ rowBytes t (Cell.row divisor) → (now (out .exit) ≡ digits EightBits t dividend divisor (length (now (out .entry)))) × (r ≡ resultOf EightBits t dividend divisor (length (now (out .entry))))) ⌝ }
 {
     let multiples = divisor_multiples(divisor);
-    let tops = all_top_bits(&multiples);
-    let mut state = RunState::new(dividend, 0, divisor);
+    let mut state = RunState::new(dividend, 0, divisor, &multiples);
     let mut i = 0;
     while i < out.len() {
-        state = state.next(row, &multiples, tops);
+        state = state.next(row, &multiples);
         out[i] = state.digit;
         i += 1;
     }
     corrected(state, i)
 }
 
-// The same, n digits into the buffer from a place on.
+// The answer, with n digits in the buffer from a place on.
 fn run_part(
     row: &[u8],
     dividend: u64,
@@ -82,52 +80,24 @@ fn run_part(
     n: usize,
     buffer: &mut [u8],
     place: usize,
-) -> RunResult
+) -> Ran
     requires { ⌜ (Row divisor (now row)) × (RunSpans dividend divisor n (length (now buffer)) place) ⌝ }
-    ensures { λ r. ⌜ ((t : List ℕ) → Passes EightBits t → now (row .entry) ≡ rowBytes t (Cell.row divisor) → (now (buffer .exit) ≡ written (now (buffer .entry)) place (digits EightBits t dividend divisor n) n) × (r ≡ resultOf EightBits t dividend divisor n)) ⌝ }
+    ensures { λ r. ⌜ ((t : List ℕ) → Passes EightBits t → now (row .entry) ≡ rowBytes t (Cell.row divisor) → record { answer = r; buffer = now (buffer .exit) } ≡ runDone t dividend divisor n (now (buffer .entry)) place) ⌝ }
 {
-    run_row(row, dividend, divisor, &mut buffer[place..place + n])
-}
-
-// The same through a whole table that passes.
-fn run_admitted(
-    table: &[u8],
-    dividend: u64,
-    divisor: u64,
-    n: usize,
-    buffer: &mut [u8],
-    place: usize,
-) -> RunResult
-    requires { ⌜ (Passes EightBits (now table)) × (RunSpans dividend divisor n (length (now buffer)) place) ⌝ }
-    ensures { λ r. ⌜ (now (buffer .exit) ≡ written (now (buffer .entry)) place (digits EightBits (now (table .entry)) dividend divisor n) n) × (r ≡ resultOf EightBits (now (table .entry)) dividend divisor n) ⌝ }
-{
-    let row = selection::table::row_of(table, divisor);
-    run_part(row, dividend, divisor, n, buffer, place)
+    values(run_row(row, dividend, divisor, &mut buffer[place..place + n]))
 }
 
 // The first refusal of the arguments alone.
 fn argument_refusal(dividend: u64, divisor: u64, n: usize, len: usize, place: usize) -> Admission
     ensures { λ r. ⌜ r ≡ firstRefusal (runRules dividend divisor n len place) ⌝ }
 {
-    if n == 0 {
+    if n == 0 || MOST_DIGITS < n {
         return refused(REFUSED_DIGITS);
     }
-    if MOST_DIGITS < n {
-        return refused(REFUSED_DIGITS);
-    }
-    if divisor < DIVISOR_LEAST {
+    if divisor < DIVISOR_LEAST || OPERAND_MOST < divisor || OPERAND_MOST < dividend {
         return refused(REFUSED_SPAN);
     }
-    if OPERAND_MOST < divisor {
-        return refused(REFUSED_SPAN);
-    }
-    if OPERAND_MOST < dividend {
-        return refused(REFUSED_SPAN);
-    }
-    if len < place {
-        return refused(REFUSED_ROOM);
-    }
-    if len - place < n {
+    if len < place || len - place < n {
         return refused(REFUSED_ROOM);
     }
     Admission::Admitted
@@ -172,14 +142,10 @@ pub fn run(
     let admission = selection::table::admit_after(arguments, table);
     match admission {
         Admission::Refused(f) => zeros(f),
-        Admission::Admitted => values(run_admitted(
-            table,
-            dividend,
-            divisor,
-            digits,
-            buffer,
-            place,
-        )),
+        Admission::Admitted => {
+            let row = selection::table::row_of(table, divisor);
+            run_part(row, dividend, divisor, digits, buffer, place)
+        }
     }
 }
 
@@ -192,7 +158,7 @@ pub fn run_kept(dividend: u64, divisor: u64, digits: usize, buffer: &mut [u8], p
         Admission::Refused(f) => zeros(f),
         Admission::Admitted => {
             let row = selection::kept::kept_row(divisor);
-            values(run_part(&row, dividend, divisor, digits, buffer, place))
+            run_part(&row, dividend, divisor, digits, buffer, place)
         }
     }
 }

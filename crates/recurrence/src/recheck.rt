@@ -11,7 +11,6 @@ use crate::DIVISOR_LEAST;
 use crate::LONGEST;
 use crate::OPERAND_MOST;
 use crate::state::RunState;
-use crate::state::all_top_bits;
 use crate::state::column_mask;
 use crate::state::divisor_multiples;
 use crate::state::masked_top_bits;
@@ -41,10 +40,9 @@ fn recheck_row(estimate: Estimate, row: &[u8], dividend: u64, divisor: u64, n: u
     ensures { λ r. ⌜ ((t : List ℕ) → now (row .entry) ≡ rowBytes t (Cell.row divisor) → r ≡ runMark estimate t dividend divisor n) ⌝ }
 {
     let multiples = divisor_multiples(divisor);
-    let tops = all_top_bits(&multiples);
     let mask = column_mask(estimate);
     let masked = masked_top_bits(&multiples, mask);
-    let mut state = RunState::new(dividend, 0, divisor);
+    let mut state = RunState::new(dividend, 0, divisor, &multiples);
     // The state's own column is that of eight bits; the estimate's goes beside it, found ahead in the same way.
     let mut column = state.column_for(estimate);
     let mut i: usize = 0;
@@ -57,7 +55,7 @@ fn recheck_row(estimate: Estimate, row: &[u8], dividend: u64, divisor: u64, n: u
             return 1;
         }
         column = state.column_after(byte, mask, masked);
-        state = state.step_by(byte, &multiples, tops);
+        state = state.step_by(byte, &multiples);
         i += 1;
     }
     0
@@ -76,19 +74,10 @@ pub fn run_mark(estimate: Estimate, table: &[u8], dividend: u64, divisor: u64, n
 fn refusal_of(table: usize, dividend: u64, divisor: u64, n: usize) -> Admission
     ensures { λ r. ⌜ r ≡ firstRefusal (affectedRunRules table dividend divisor n) ⌝ }
 {
-    if n == 0 {
+    if n == 0 || LONGEST < n {
         return refused(REFUSED_DIGITS);
     }
-    if LONGEST < n {
-        return refused(REFUSED_DIGITS);
-    }
-    if divisor < DIVISOR_LEAST {
-        return refused(REFUSED_SPAN);
-    }
-    if OPERAND_MOST < divisor {
-        return refused(REFUSED_SPAN);
-    }
-    if OPERAND_MOST < dividend {
+    if divisor < DIVISOR_LEAST || OPERAND_MOST < divisor || OPERAND_MOST < dividend {
         return refused(REFUSED_SPAN);
     }
     if table != TABLE_LENGTH {

@@ -13,7 +13,7 @@ ghost use Rattle.selection.specs.computed.Table.{rowBytes};
 ghost use Rattle.recurrence.specs.CarrySave.{lowestCarry};
 ghost use Rattle.recurrence.specs.Recurrence.{appended, stepBy, nextOf, stateFrom};
 ghost use Rattle.recurrence.specs.computed.Recheck.{leftBy};
-ghost use Rattle.recurrence.specs.computed.FastRun.{withColumn, stateOf, divisorMultiples, topBitsOf, allTopBits, maskOf, maskedTopBits, columnAhead, DigitBytes, Multiples, StepReady, renewed, resultFromWord};
+ghost use Rattle.recurrence.specs.computed.FastRun.{runStateOf, stateOf, divisorMultiples, topBitsOf, allTopBits, maskOf, maskedTopBits, columnAhead, DigitBytes, StepReady, renewed, resultFromWord};
 ghost use Rattle.selection.specs.declared.Estimate.the-variants.{EightBits};
 
 // The next column needs the bits 61 to 53 of a word: what is left of it by 2^62, without the bits below 2^53.
@@ -27,12 +27,13 @@ const TOP_BITS_OF_SEVEN: u64 = 0xffc0_0000_0000_0000;
 // The sign bit of a word.
 pub(crate) const SIGN: u64 = 0x8000_0000_0000_0000;
 
-// The state of a run: the partial remainder in carry-save form, the divisor, the column of the two words, the digit of the last step,
-// the value of the digits so far and that value less one (decremented), both modulo 2^64.
+// The state of a run: the partial remainder in carry-save form, the divisor, the top bits of its multiples, the column of the two words,
+// the digit of the last step, the value of the digits so far and that value less one (decremented), both modulo 2^64.
 pub(crate) struct RunState {
     pub(crate) sum: u64,
     pub(crate) carry: u64,
     divisor: u64,
+    tops: u64,
     pub(crate) column: u64,
     pub(crate) digit: u8,
     value: u64,
@@ -55,7 +56,7 @@ fn top_bits(multiple: u64) -> u64
 }
 
 // The top bits of the five multiples, nine bits each, the first at the word's top (so the last starts at bit 19).
-pub(crate) fn all_top_bits(m: &[u64; 5]) -> u64
+fn all_top_bits(m: &[u64; 5]) -> u64
     ensures { λ r. ⌜ r ≡ allTopBits (now (m .entry)) ⌝ }
 {
     let high = (top_bits(m[0]) * 512 + top_bits(m[1])) * 512 + top_bits(m[2]);
@@ -133,13 +134,15 @@ fn renew(k: u32, value: u64, decremented: u64) -> u64
 
 impl RunState {
     // No step is done: the digit is 0, and so is the value; one less is 2^64 - 1.
-    pub(crate) fn new(sum: u64, carry: u64, divisor: u64) -> RunState
-        ensures { λ r. ⌜ r ≡ withColumn (stateFrom sum carry divisor) ⌝ }
+    pub(crate) fn new(sum: u64, carry: u64, divisor: u64, multiples: &[u64; 5]) -> RunState
+        requires { ⌜ now multiples ≡ divisorMultiples divisor ⌝ }
+        ensures { λ r. ⌜ r ≡ runStateOf (stateFrom sum carry divisor) ⌝ }
     {
         RunState {
             sum,
             carry,
             divisor,
+            tops: all_top_bits(multiples),
             column: column_of(sum, carry),
             digit: 2,
             value: 0,
@@ -168,7 +171,7 @@ impl RunState {
 
     // What a digit leaves of the remainder, and one divisor more, modulo 2^64.
     pub(crate) fn left_by(self, digit: u8, multiples: &[u64; 5]) -> u64
-        requires { ⌜ (digit ≤ 4) × (now multiples ≡ divisorMultiples (self .divisor)) × (self .divisor < 2 ^ 61) ⌝ }
+        requires { ⌜ (digit ≤ 4) × (StepReady (now multiples) self) × (self .divisor < 2 ^ 61) ⌝ }
         ensures { λ r. ⌜ r ≡ leftBy digit (stateOf self) ⌝ }
     {
         let words = wrapping_add_u64(self.sum, self.carry);
@@ -180,16 +183,14 @@ impl RunState {
     }
 
     // One step by a digit byte. The next column comes from the top bits of the words and of the multiple, ahead of the next words.
-    pub(crate) fn step_by(self, digit: u8, multiples: &[u64; 5], tops: u64) -> RunState
-        requires { ⌜ (digit ≤ 4) × (Multiples (self .divisor) (now multiples) tops) ⌝ }
-        ensures { λ r. ⌜ r ≡ withColumn (stepBy digit (stateOf self)) ⌝ }
+    pub(crate) fn step_by(self, digit: u8, multiples: &[u64; 5]) -> RunState
+        requires { ⌜ (digit ≤ 4) × (StepReady (now multiples) self) ⌝ }
+        ensures { λ r. ⌜ r ≡ runStateOf (stepBy digit (stateOf self)) ⌝ }
     {
         let sum = self.sum;
         let carry = self.carry;
-        let divisor = self.divisor;
         // The next column first: the next digit waits for it, and for neither of the next words.
-        let words = wrapping_add_u64(sum % TOP_END & TOP_BITS, carry % TOP_END & TOP_BITS) << 2;
-        let column = wrapping_add_u64(words, tops << (9 * digit)) >> 57;
+        let column = self.column_after(digit, TOP_BITS, self.tops);
         // x is the inverted or plain multiple; two words that share no bit add up to the majority.
         let x = multiples[digit as usize];
         let half = sum ^ carry;
@@ -197,7 +198,8 @@ impl RunState {
         RunState {
             sum: (half ^ x) << 2,
             carry: ((majority << 1) + lowest_carry(digit)) << 2,
-            divisor,
+            divisor: self.divisor,
+            tops: self.tops,
             column,
             digit,
             value: renew(digit as u32 + 2, self.value, self.decremented),
@@ -206,12 +208,12 @@ impl RunState {
     }
 
     // One step, through every table that has these bytes in the divisor's row.
-    pub(crate) fn next(self, row: &[u8], multiples: &[u64; 5], tops: u64) -> RunState
-        requires { ⌜ StepReady (now row) (now multiples) tops self ⌝ }
-        ensures { λ r. ⌜ ((t : List ℕ) → now (row .entry) ≡ rowBytes t (Cell.row (self .divisor)) → r ≡ withColumn (nextOf EightBits t (stateOf self))) ⌝ }
+    pub(crate) fn next(self, row: &[u8], multiples: &[u64; 5]) -> RunState
+        requires { ⌜ (DigitBytes (now row)) × (StepReady (now multiples) self) ⌝ }
+        ensures { λ r. ⌜ ((t : List ℕ) → now (row .entry) ≡ rowBytes t (Cell.row (self .divisor)) → r ≡ runStateOf (nextOf EightBits t (stateOf self))) ⌝ }
     {
         let digit = digit_at(row, self.column as usize);
-        self.step_by(digit, multiples, tops)
+        self.step_by(digit, multiples)
     }
 }
 

@@ -13,7 +13,7 @@ ghost use Rattle.selection.specs.computed.Refusals.{firstRefusal};
 ghost use Rattle.selection.specs.Table.{Passes};
 ghost use Rattle.recurrence.specs.Recurrence.{nextOf, stateFrom};
 ghost use Rattle.recurrence.specs.computed.Step.{stepRules, stepZeros, stepValues, stepOf};
-ghost use Rattle.recurrence.specs.computed.FastRun.{withColumn, stateOf, distanceOf};
+ghost use Rattle.recurrence.specs.computed.FastRun.{runStateOf, stateOf, distanceOf};
 ghost use Rattle.selection.specs.declared.Estimate.the-variants.{EightBits};
 
 // The answer, as C sees it: the refusal (0: none) and its place, the digit, from -2 to 2, and the next two words, zeros where the step is refused.
@@ -39,10 +39,7 @@ fn distance(word: u64) -> u64
 fn refusal_of(sum: u64, carry: u64, divisor: u64) -> Admission
     ensures { λ r. ⌜ r ≡ firstRefusal (stepRules sum carry divisor) ⌝ }
 {
-    if divisor < crate::DIVISOR_LEAST {
-        return refused(REFUSED_SPAN);
-    }
-    if crate::OPERAND_MOST < divisor {
+    if divisor < crate::DIVISOR_LEAST || crate::OPERAND_MOST < divisor {
         return refused(REFUSED_SPAN);
     }
     if 8 * divisor / 3 < distance(wrapping_add_u64(sum, carry)) {
@@ -54,12 +51,11 @@ fn refusal_of(sum: u64, carry: u64, divisor: u64) -> Admission
 // One step through a table that passes.
 fn admitted(sum: u64, carry: u64, divisor: u64, table: &[u8]) -> RunState
     requires { ⌜ (Passes EightBits (now table)) × (divisor < 2 ^ 61) ⌝ }
-    ensures { λ r. ⌜ r ≡ withColumn (nextOf EightBits (now (table .entry)) (stateFrom sum carry divisor)) ⌝ }
+    ensures { λ r. ⌜ r ≡ runStateOf (nextOf EightBits (now (table .entry)) (stateFrom sum carry divisor)) ⌝ }
 {
     let multiples = crate::state::divisor_multiples(divisor);
-    let tops = crate::state::all_top_bits(&multiples);
     let row = selection::table::row_of(table, divisor);
-    RunState::new(sum, carry, divisor).next(row, &multiples, tops)
+    RunState::new(sum, carry, divisor, &multiples).next(row, &multiples)
 }
 
 // A refused step.

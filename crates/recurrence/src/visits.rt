@@ -21,7 +21,6 @@ ghost use Rattle.recurrence.specs.computed.VisitSteps.{Added, Room, Lent
 ghost use Rattle.selection.specs.declared.Estimate.the-variants.{EightBits};
 use crate::MOST_DIGITS;
 use crate::state::RunState;
-use crate::state::all_top_bits;
 use crate::state::divisor_multiples;
 
 // How many significant bits an operand may have.
@@ -33,14 +32,13 @@ fn visit_row(row: &[u8], start: usize, dividend: u64, divisor: u64, n: usize, vi
     ensures { λ r. ⌜ ((t : List ℕ) → now (row .entry) ≡ rowBytes t (Cell.row divisor) → Added (runVisits t dividend divisor n) (now (visits .entry)) (now (visits .exit))) ⌝ }
 {
     let multiples = divisor_multiples(divisor);
-    let tops = all_top_bits(&multiples);
-    let mut state = RunState::new(dividend, 0, divisor);
+    let mut state = RunState::new(dividend, 0, divisor, &multiples);
     let mut i: usize = 0;
     while i < n {
         let cell = start + (state.column as usize);
         let met = visits[cell];
         visits[cell] = met + 1;
-        state = state.next(row, &multiples, tops);
+        state = state.next(row, &multiples);
         i += 1;
     }
 }
@@ -106,16 +104,10 @@ fn visit_all(table: &[u8], bits: u64, digits: usize, visits: &mut [u32])
 fn refusal_of(bits: u64, digits: usize, len: usize) -> Admission
     ensures { λ r. ⌜ r ≡ firstRefusal (visitsRules bits digits len) ⌝ }
 {
-    if digits == 0 {
+    if digits == 0 || MOST_DIGITS < digits {
         return refused(REFUSED_DIGITS);
     }
-    if MOST_DIGITS < digits {
-        return refused(REFUSED_DIGITS);
-    }
-    if bits == 0 {
-        return refused(REFUSED_BITS);
-    }
-    if MOST_BITS < bits {
+    if bits == 0 || MOST_BITS < bits {
         return refused(REFUSED_BITS);
     }
     if len < TABLE_LENGTH {

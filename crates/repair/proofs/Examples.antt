@@ -1,18 +1,11 @@
 -- The whole text of a repair, worked.
-use Rattle.laws.proofs.Basics.{_≡_, refl, ap, _∙_, List, _++_, append-nil, ⊎-elim, _≢_, ℕ, zero, suc, _≤_, _<_, arith, eq-eqb, length, getD, set, length-set}
+use Rattle.laws.{proofs.Basics.{_≡_, refl, ap, _∙_, List, _++_, append-nil, ⊎-elim, _≢_, ℕ, zero, suc, _≤_, _<_, arith, eq-eqb, length, getD, set, length-set}, specs.Lists.{listFrom}}
 use native.Mathlib.Nat.{eq-or-lt-of-le}
 use lib.Seq.{getD-set-same, getD-set-other}
-use Rattle.laws.specs.Lists.{listFrom}
-use Rattle.selection.specs.computed.Allowed.{allowsOf}
-use Rattle.selection.specs.Answer.{refusal}
-use Rattle.selection.specs.computed.Outcomes.{madeOf, madeTable}
-use Rattle.selection.specs.computed.RepairDemand.{readBack, lent}
-use Rattle.selection.specs.computed.Repair.{RepairOutcome}
-use Rattle.selection.proofs.MadeTables.{kept-passes}
-use Rattle.selection.proofs.RepairDemand.{repair-demand}
+use Rattle.selection.specs.{computed.Allowed.{allowsOf}, Answer.{refusal}, computed.Outcomes.{madeOf, madeTable}, computed.RepairDemand.{readBack, lent}, computed.Repair.{RepairOutcome}}
+use Rattle.selection.{proofs.MadeTables.{kept-passes}, proofs.RepairDemand.{repair-demand}, specs.declared.Estimate.the-variants.{EightBits}}
 use Rattle.printing.specs.Text.{ascii, decimalUpto, decimalOf, refusalText}
 use Rattle.repair.specs.Changes.{cellText, cellsUpto, changesText, WholeExample}
-use Rattle.selection.specs.declared.Estimate.the-variants.{EightBits}
 
 -- cells from m on that are not changed have no line
 same-cells : (t u : List ℕ) (m n : ℕ) → m ≤ n → ((k : ℕ) → m ≤ k → k < n → getD t k 0 ≡ getD u k 0) → cellsUpto t u n ≡ cellsUpto t u m

@@ -1,23 +1,12 @@
 -- What is written is the call's repair and its text; of an input that is read in part, as of all of it.
 use Rattle.laws.proofs.Basics.{_≡_, refl, sym, ap, subst, _∙_, List, [], _++_, ⊎-elim, _≢_, ℕ, _+_, _<_, add-one, arith, length, getD, take, length-take, replicate, length-replicate}
+use Rattle.laws.{specs.Lists.{listFrom}, proofs.Lists.{list-length, fill-all}, proofs.Division.{le-or-lt}, specs.Counting.{countBelow}, proofs.Comparisons.{equal}}
 use lib.Seq.{take-all}
-use Rattle.laws.specs.Lists.{listFrom}
-use Rattle.laws.proofs.Lists.{list-length, fill-all}
-use Rattle.laws.proofs.Division.{le-or-lt}
-use Rattle.laws.specs.Counting.{countBelow}
-use Rattle.selection.proofs.RefusalNames.{refusal, firstRefusal}
-use Rattle.selection.specs.declared.Refusal.{Refusal}
-use Rattle.selection.specs.declared.Admission.the-variants.{Admitted}
-use Rattle.selection.specs.computed.Allowed.{isFaulty}
-use Rattle.selection.specs.Table.{Passes}
-use Rattle.selection.specs.computed.Outcomes.{repairedByte, repairOf}
-use Rattle.selection.specs.computed.Repair.{repairRules, RepairOutcome}
-use Rattle.laws.proofs.Comparisons.{equal}
-use Rattle.selection.proofs.RepairAnswers.{repair-admits, length-refused, repair-told}
-use Rattle.selection.proofs.RepairDemand.{repair-demand}
+use Rattle.selection.{proofs.RefusalNames.{refusal, firstRefusal}, specs.declared.Refusal.{Refusal}, specs.declared.Admission.the-variants.{Admitted}, specs.computed.Allowed.{isFaulty}}
+use Rattle.selection.specs.{Table.{Passes}, computed.Outcomes.{repairedByte, repairOf}, computed.Repair.{repairRules, RepairOutcome}}
+use Rattle.selection.{proofs.RepairAnswers.{repair-admits, length-refused, repair-told}, proofs.RepairDemand.{repair-demand}, specs.declared.Estimate.{Estimate}}
 use Rattle.printing.specs.Text.{decimalUpto, decimalOf, refusalText}
 use Rattle.repair.specs.Changes.{cellText, cellsUpto, changesText, Writes, WritesRead, LineExample}
-use Rattle.selection.specs.declared.Estimate.{Estimate}
 
 -- one cell more
 pub cells-more : (t u : List ℕ) (k : ℕ) → cellsUpto t u k ++ cellText k (getD t k 0) (getD u k 0) ≡ cellsUpto t u (k + 1)
@@ -29,7 +18,6 @@ pub line-example : LineExample
 unfolding decimalOf decimalUpto
 line-example = record { changed = refl; same = refl }
 
--- in a divider with the estimate E
 module _ (E : Estimate) where
   -- the call, by the table alone
   module _ (t rs cs : List ℕ) (h : length t ≡ 2048) (r : length rs ≡ 2048) (c : length cs ≡ 2048) where

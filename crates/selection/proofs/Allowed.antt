@@ -1,18 +1,10 @@
 -- The test of a cell says which digits are allowed, and which cells of a table are bad.
-use Rattle.laws.proofs.Basics.{_≡_, refl, ap, Bool, true, false, not, cond, List, _⊎_, inl, inr, ⊎-elim, ℕ, _+_, _*_, _/_, _%_, _≤_, _<_, ltb, ℤ, getD}
-use Rattle.laws.proofs.Tests.{Decides, decides-yes, decides-no}
-use Rattle.selection.specs.Cell.{Allows, Against, digit}
-use Rattle.selection.specs.computed.Cell.{IsCell, CellChecked}
-use Rattle.selection.specs.Table.{Table, BadAt}
-use Rattle.selection.specs.computed.CellTest.{RowOf, multiplesOf, greatestByte, allowsBy, foundAt, cellVerdictOf}
-use Rattle.selection.specs.computed.CellTest.Finding.{NoWitness}
-use Rattle.selection.specs.computed.Allowed.{allowsOf, isBad, isBadIn}
-use Rattle.selection.specs.declared.cell.RowMultiples.{RowMultiples}
-use Rattle.selection.proofs.BiasedPoints.{test-checked, not-allowed}
-use Rattle.selection.proofs.Tables.{cell-at, cell-row, cell-column}
-use Rattle.selection.specs.declared.Estimate.{Estimate}
+use Rattle.laws.proofs.{Basics.{_≡_, refl, ap, Bool, true, false, not, cond, List, _⊎_, inl, inr, ⊎-elim, ℕ, _+_, _*_, _/_, _%_, _≤_, _<_, ltb, ℤ, getD}, Tests.{Decides, decides-yes, decides-no}}
+use Rattle.selection.specs.{Cell.{Allows, Against, digit}, computed.Cell.{IsCell, CellChecked}, Table.{Table, BadAt}}
+use Rattle.selection.specs.computed.{CellTest.{RowOf, multiplesOf, greatestByte, allowsBy, foundAt, cellVerdictOf}, CellTest.Finding.{NoWitness}, Allowed.{allowsOf, isBad, isBadIn}}
+use Rattle.selection.specs.declared.{cell.RowMultiples.{RowMultiples}, Estimate.{Estimate}}
+use Rattle.selection.proofs.{BiasedPoints.{test-checked, not-allowed}, Tables.{cell-at, cell-row, cell-column}}
 
--- in a divider with the estimate E
 module _ (E : Estimate) where
   -- x tells of the digit of b whether it is allowed or there is a witness against it
   abbrev pub Told : Bool → ℕ → ℕ → ℕ → Type 0

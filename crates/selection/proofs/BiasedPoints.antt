@@ -1,26 +1,12 @@
 -- The specification's points over the integers, and those over natural numbers, are the same: P is W - 2^63.
-use Rattle.laws.proofs.Basics.{_≡_, sym, ap, _∙_, _⊎_, inl, inr, ⊎-elim, _↔_, ℕ, _+_, _*_, _-_, _%_, _^_, _≤_, _<_, arith, ltb, ltb→lt, nltb→le, ℤ, pos, _-ℤ_, _*ℤ_}
-use mir.Syntax.{w64}
-use mir.Val.{SFits}
-use Rattle.laws.proofs.Tests.{by-cond}
-use Rattle.laws.proofs.Diff.{diff, diffs, diff-sub, diff-eq}
-use Rattle.laws.proofs.Division.{le-or-lt}
-use Rattle.laws.proofs.Words.{same-mod}
-use Rattle.selection.specs.Word.{signed, Within}
-use Rattle.selection.specs.Cell.{Point, Keeps, Allows, Against, LeastWitness, digit}
-use Rattle.selection.specs.computed.Cell.{IsCell, cellRules, CellChecked, CellMeaning}
-use Rattle.selection.specs.computed.CellTest.{Finding, multiplesOf, testOf, cellVerdictOf}
-use Rattle.selection.specs.computed.CellTest.Finding.{NoWitness, LeastAt}
-use Rattle.selection.specs.computed.Answer.{answerBy}
-use Rattle.selection.specs.computed.Refusals.{Wrongs, rank, IsFirstRefusal}
-use Rattle.selection.specs.computed.Outcomes.{cellOf}
-use Rattle.selection.specs.declared.CellVerdict.the-variants.{Refused}
-use Rattle.selection.proofs.Rules.{WellFormed, by-first}
-use Rattle.selection.proofs.RuleByRule.{none-clear, clear-none, clear-admits}
-use Rattle.selection.proofs.BreakingPoints.{BiasedPoint, Low, High, Breaks, IsLeast}
-use Rattle.selection.proofs.TestIsSearch.{test-right}
-use Rattle.selection.proofs.Search.{span-most}
-use Rattle.selection.specs.declared.Estimate.{Estimate}
+use Rattle.laws.proofs.{Basics.{_≡_, sym, ap, _∙_, _⊎_, inl, inr, ⊎-elim, _↔_, ℕ, _+_, _*_, _-_, _%_, _^_, _≤_, _<_, arith, ltb, ltb→lt, nltb→le, ℤ, pos, _-ℤ_, _*ℤ_}, Tests.{by-cond}}
+use Rattle.laws.proofs.{Diff.{diff, diffs, diff-sub, diff-eq}, Division.{le-or-lt}, Words.{same-mod}}
+use mir.{Syntax.{w64}, Val.{SFits}}
+use Rattle.selection.specs.{Word.{signed, Within}, Cell.{Point, Keeps, Allows, Against, digit}, computed.Cell.{IsCell, cellRules, CellChecked, CellMeaning}}
+use Rattle.selection.specs.computed.{CellTest.{Finding, multiplesOf, testOf, cellVerdictOf}, CellTest.Finding.{NoWitness, LeastAt}, Answer.{answerBy}, Refusals.{Wrongs, rank, IsFirstRefusal}}
+use Rattle.selection.specs.{computed.Outcomes.{cellOf}, declared.CellVerdict.the-variants.{Refused}, declared.Estimate.{Estimate}}
+use Rattle.selection.proofs.{Rules.{WellFormed, by-first}, RuleByRule.{none-clear, clear-none, clear-admits}, BreakingPoints.{BiasedPoint, Low, High, Breaks, IsLeast}}
+use Rattle.selection.proofs.{TestIsSearch.{test-right}, Search.{span-most}}
 
 -- a word read as signed is that word with its top bit turned, less 2^63
 pub signed-diff : (n : ℕ) → signed n ≡ diff ((n + 2 ^ 63) % 2 ^ 64) (2 ^ 63)
@@ -81,7 +67,6 @@ cell-rules r c b = record { sound = (tt, λ _. (tt, λ _. tt)); in-order = tt }
 pub known-not-refused : {r c b n p : ℕ} {X : Type 0} → IsCell r c b → IsFirstRefusal (Wrongs (cellRules r c b)) n p → X
 known-not-refused {r} {c} {b} k u = absurd (clear-none (cellRules r c b) ((k .row, k .column), (k .byte, tt)) _ _ (u .holds))
 
--- in a divider with the estimate E
 module _ (E : Estimate) where
   module _ {r c b : ℕ} (known : IsCell r c b) where
     breaks : {D : ℕ} {P : ℤ} → Against E r c (digit b) D P → (W : ℕ) × (P ≡ diff W (2 ^ 63)) × Breaks E r c b D W
@@ -105,17 +90,16 @@ module _ (E : Estimate) where
         let q = of-point E (known .row) (known .column) p in
         rw (q .is) (⊎-elim (λ k. k) (λ k. absurd (n D _ (against (record { point = q .point; side = k })))) (sides b D (q .W)))
 
-    least-witness : (d w : ℕ) → IsLeast (Breaks E r c b) (LeastAt d w) → LeastWitness E r c (digit b) d (diff w (2 ^ 63))
-    least-witness d w s =
-        record {
-          against = against (s .0);
-          divisor-least = λ D P a. let k = breaks a in s .1 D (k .0) (k .2);
-          remainder-least = λ P a. let k = breaks a in rw (k .1) (simp diffs (omega (arith, s .2 (k .0) (k .2))));
-        }
-
     result-means : (h : Finding) → IsLeast (Breaks E r c b) h → CellMeaning E r c b (cellVerdictOf h)
     result-means NoWitness s = (known, allows-unless (λ D P a. let k = breaks a in s D (k .0) (k .2)))
-    result-means (LeastAt d w) s = (known, rw (diff-sub w (2 ^ 63)) (least-witness d w s))
+    result-means (LeastAt d w) s = (
+      known,
+      rw (diff-sub w (2 ^ 63)) (record {
+        against = against (s .0);
+        divisor-least = λ D P a. let k = breaks a in s .1 D (k .0) (k .2);
+        remainder-least = λ P a. let k = breaks a in rw (k .1) (simp diffs (omega (arith, s .2 (k .0) (k .2))));
+      }),
+    )
 
     -- so the test's verdict is the specification's
     pub test-checked : CellChecked E r c b (cellVerdictOf (testOf (multiplesOf E r) c b))

@@ -1,9 +1,6 @@
 -- The points of a cell that break a digit, over natural numbers: W is P + 2^63, b is the digit plus 2.
 use Rattle.laws.proofs.Basics.{_⊎_, ℕ, _+_, _*_, _^_, _≤_, _<_}
-use Rattle.selection.specs.Cell.{spanOf}
-use Rattle.selection.specs.computed.CellTest.{Finding}
-use Rattle.selection.specs.computed.CellTest.Finding.{NoWitness, LeastAt}
-use Rattle.selection.specs.declared.Estimate.{Estimate}
+use Rattle.selection.specs.{Cell.{spanOf}, computed.CellTest.{Finding}, computed.CellTest.Finding.{NoWitness, LeastAt}, declared.Estimate.{Estimate}}
 
 -- 3(P - qD) is below -2D; above 2D
 pub record Low (b D W : ℕ) : Type 0 where
@@ -17,7 +14,6 @@ abbrev pub IsLeast : (ℕ → ℕ → Type 0) → Finding → Type 0
 IsLeast B NoWitness = (D W : ℕ) → B D W → ⊥
 IsLeast B (LeastAt d w) = B d w × ((D W : ℕ) → B D W → d ≤ D) × ((W : ℕ) → B d W → w ≤ W)
 
--- in a divider with the estimate E
 module _ (E : Estimate) where
   -- a point of a cell
   pub record BiasedPoint (r c D W : ℕ) : Type 0 where

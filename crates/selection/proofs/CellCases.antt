@@ -1,16 +1,9 @@
 -- Bench cases 1 to 7: the cells. antt computes the five digits of a cell and the limits of a row.
-use Rattle.laws.proofs.Basics.{_≡_, refl, ap, Bool, true, false, _||_, List, [], _∷_, _↔_, inl, inr, ⊎-elim, ℕ, _+_, _*_, _^_, _≤_, arith, ℤ, pos, negsuc, T, leb, eqb, leb→le, eqb-true, eqb-false, lit≤}
-use Rattle.laws.proofs.Tests.{upto, upto-at, alike, alike-eq, Decides, decides-yes, decides-no}
-use Rattle.laws.proofs.Diff.{diff-eq}
-use Rattle.selection.specs.Cell.{OneOf, AllowedDigits, LeastWitness, digit}
-use Rattle.selection.specs.Maker.{AreLimits}
-use Rattle.selection.specs.computed.Allowed.{allowsOf}
-use Rattle.selection.specs.computed.Outcomes.{limitsOf}
-use Rattle.selection.proofs.BiasedPoints.{digit-diff, cell-checked}
-use Rattle.selection.proofs.Allowed.{allows-decides}
-use Rattle.selection.proofs.Making.{limits-right}
-use Rattle.selection.specs.declared.Estimate.{Estimate}
+use Rattle.laws.proofs.Basics.{_≡_, ap, Bool, false, _||_, List, [], _∷_, ⊎-elim, ℕ, _+_, _*_, _^_, arith, ℤ, pos, negsuc, T, leb, eqb, leb→le, eqb-true, eqb-false, lit≤}
+use Rattle.laws.proofs.{Tests.{upto, upto-at, alike, alike-eq, either, Decides, decides-no}, Diff.{diff-eq}}
+use Rattle.selection.specs.{Cell.{OneOf, AllowedDigits, LeastWitness, digit}, Maker.{AreLimits}, computed.Allowed.{allowsOf}, computed.Outcomes.{limitsOf}, declared.Estimate.{Estimate}}
 use Rattle.selection.specs.declared.Estimate.the-variants.{SevenBits, EightBits}
+use Rattle.selection.proofs.{ConditionTests.{decides-or}, BiasedPoints.{digit-diff, cell-checked}, Allowed.{allows-decides}, Making.{limits-right}}
 
 -- the digits of a list of bytes, and whether it holds a byte
 abbrev digits : List ℕ → List ℤ
@@ -23,23 +16,19 @@ listed b (a ∷ bs) = eqb b a || listed b bs
 
 listed-decides : (b : ℕ) (bs : List ℕ) → Decides (OneOf (digit b) (digits bs)) (listed b bs)
 listed-decides b [] = decides-no (λ z. z)
-listed-decides b (a ∷ bs) = go (eqb b a) refl (listed-decides b bs)
-  where
-    go : (x : Bool) → eqb b a ≡ x → Decides (OneOf (digit b) (digits bs)) (listed b bs) → Decides (OneOf (digit b) (digits (a ∷ bs))) (x || listed b bs)
-    go true e d = decides-yes (inl (ap digit (eqb-true b a e)))
-    go false e d =
-        record { yes = λ t. inr (d .yes t); no = λ f. ⊎-elim (λ h. eqb-false b a e (omega (arith, diff-eq b 2 a 2 .0 (rw (digit-diff, digit-diff) at h)))) (d .no f) }
+listed-decides b (a ∷ bs) =
+    let head : Decides (digit b ≡ digit a) (eqb b a) = record { yes = λ e. ap digit (eqb-true b a e); no = λ e h. eqb-false b a e (omega (arith, diff-eq b 2 a 2 .0 (rw (digit-diff, digit-diff) at h))) } in
+    decides-or (eqb b a) (listed b bs) head (λ _. listed-decides b bs)
 
 -- antt computes the five tests of a cell
 cell : (E : Estimate) (r c : ℕ) (bs : List ℕ) → T (leb r 15) → T (leb c 127) → T (upto (λ b. alike (allowsOf E r c b) (listed b bs)) 5) → AllowedDigits E r c (digits bs)
-cell E r c bs hr hc t = record { exactly = λ b h. go (allowsOf E r c b) (allows-decides E (record { row = leb→le r 15 hr; column = leb→le c 127 hc; byte = h })) (same b h) }
-  where
-    same : (b : ℕ) → b ≤ 4 → Decides (OneOf (digit b) (digits bs)) (allowsOf E r c b)
-    same b h = rw (alike-eq (allowsOf E r c b) (listed b bs) (upto-at (λ (n : ℕ). alike (allowsOf E r c n) (listed n bs)) 5 t b (omega arith))) (listed-decides b bs)
-
-    go : {P Q : Type 0} (x : Bool) → Decides P x → Decides Q x → P ↔ Q
-    go true p q = ((λ a. q .yes refl), λ a. p .yes refl)
-    go false p q = ((λ a. absurd (p .no refl a)), λ a. absurd (q .no refl a))
+cell E r c bs hr hc t = record {
+  exactly = λ b h.
+      let p = allows-decides E (record { row = leb→le r 15 hr; column = leb→le c 127 hc; byte = h }) in
+      let same = alike-eq (allowsOf E r c b) (listed b bs) (upto-at (λ (n : ℕ). alike (allowsOf E r c n) (listed n bs)) 5 t b (omega arith)) in
+      let q : Decides (OneOf (digit b) (digits bs)) (allowsOf E r c b) = rw same (listed-decides b bs) in
+      ⊎-elim (λ e. ((λ a. q .yes e), λ a. p .yes e)) (λ e. ((λ a. absurd (p .no e a)), λ a. absurd (q .no e a))) (either (allowsOf E r c b));
+}
 
 pub case-1 : AllowedDigits EightBits 0 75 (pos 1 ∷ []) × LeastWitness EightBits 0 75 (pos 2) (33 * 2 ^ 55 + 1) (pos (11 * 2 ^ 57))
 unfolding allowsOf digit

@@ -1,13 +1,9 @@
 -- The row of a divisor; the column of a sum word and a carry word, and what their truncated estimate leaves out.
-use Rattle.laws.proofs.Basics.{_≡_, refl, sym, _∙_, _↔_, ℕ, _+_, _*_, _-_, _/_, _%_, _^_, _≤_, _<_, min, arith, ltb, ltb→lt, nltb→le, ℤ, pos, negℤ, _+ℤ_, _-ℤ_, _*ℤ_, _≤ℤ_}
-use Rattle.laws.proofs.Tests.{by-cond}
-use Rattle.laws.proofs.Diff.{diff, diffs, by-diff, diff-sub, diff-eq}
-use Rattle.laws.proofs.Words.{same-mod}
-use Rattle.selection.specs.Word.{signed}
-use Rattle.selection.specs.Cell.{InRow, InColumn, spanOf, row, column, estimate, truncationError}
-use Rattle.selection.proofs.BiasedPoints.{signed-diff, signed-same}
-use Rattle.selection.specs.declared.Estimate.{Estimate}
+use Rattle.laws.proofs.{Basics.{_≡_, refl, sym, _∙_, _↔_, ℕ, _+_, _*_, _-_, _/_, _%_, _^_, _≤_, _<_, min, arith, ltb, ltb→lt, nltb→le, ℤ, pos, negℤ, _+ℤ_, _-ℤ_, _*ℤ_, _≤ℤ_}, Tests.{by-cond}}
+use Rattle.laws.proofs.{Diff.{diff, diffs, by-diff, diff-sub, diff-eq}, Words.{same-mod}}
+use Rattle.selection.specs.{Word.{readSigned, signed}, Cell.{InRow, InColumn, spanOf, row, column, estimate, truncationError}, declared.Estimate.{Estimate}}
 use Rattle.selection.specs.declared.Estimate.the-variants.{SevenBits, EightBits}
+use Rattle.selection.proofs.BiasedPoints.{signed-diff, signed-same}
 
 -- a divisor in its span lies in its row, which is one of sixteen
 -- § 2.2 The row of D is the four bits after its leading one.
@@ -20,16 +16,15 @@ column-small SevenBits s k = omega arith
 column-small EightBits s k = omega arith
 
 -- it is the estimate plus 64
+read-up : (n c : ℕ) → c ≡ (n + 64) % 128 → pos c ≡ readSigned 64 n +ℤ pos 64
+read-up n c e =
+    by-cond (λ z. pos c ≡ z +ℤ pos 64) (ltb (n % 128) 64) _ _
+    (λ t. simp diffs (omega (arith, ltb→lt))) (λ t. rw (diff-sub (n % 128) 128) (simp diffs (omega (arith, nltb→le))))
+
 pub column-estimate : (E : Estimate) (s k : ℕ) → pos (column E s k) ≡ estimate E s k +ℤ pos 64
 unfolding estimate
-column-estimate SevenBits s k =
-    let n = (s / 2 ^ 57 + k / 2 ^ 57) % 128 in
-    by-cond (λ z. pos (column SevenBits s k) ≡ z +ℤ pos 64) (ltb (n % 128) 64) _ _
-    (λ t. simp diffs (omega (arith, ltb→lt))) (λ t. rw (diff-sub (n % 128) 128) (simp diffs (omega (arith, nltb→le))))
-column-estimate EightBits s k =
-    let n = (s / 2 ^ 56 + k / 2 ^ 56) % 256 / 2 in
-    by-cond (λ z. pos (column EightBits s k) ≡ z +ℤ pos 64) (ltb (n % 128) 64) _ _
-    (λ t. simp diffs (omega (arith, ltb→lt))) (λ t. rw (diff-sub (n % 128) 128) (simp diffs (omega (arith, nltb→le))))
+column-estimate SevenBits s k = read-up ((s / 2 ^ 57 + k / 2 ^ 57) % 128) _ (omega arith)
+column-estimate EightBits s k = read-up ((s / 2 ^ 56 + k / 2 ^ 56) % 256 / 2) _ (omega arith)
 
 -- P is t·2^57 + e modulo 2^64, read as signed, for the e that the estimate leaves out of the two words
 pub truncation-error : (E : Estimate) (s k : ℕ) → signed (s + k) ≡ signed ((column E s k + 64) * 2 ^ 57 + truncationError E s k)

@@ -1,15 +1,8 @@
 -- The calls for a number of bits: 7 and 8 are the two estimates, and every other number is refused, before all else.
 use Rattle.laws.proofs.Basics.{_≡_, sym, ap, _∙_, List, _++_, _⊎_, inl, inr, ⊎-elim, refl, ℕ, _<_, T}
-use Rattle.selection.specs.Answer.{refusal}
-use Rattle.selection.specs.computed.Answer.{refusalOf, firstOf, answerBy}
-use Rattle.selection.specs.computed.Refusals.{Rule, Wrongs, firstRefusal, rank, IsFirstRefusal, RefusedBy, Refuses}
-use Rattle.selection.specs.computed.Bits.{bitsRules, estimateOf, forBits}
-use Rattle.selection.specs.declared.Refusal.{Refusal}
-use Rattle.selection.specs.declared.Admission.{Admission}
-use Rattle.selection.specs.declared.Admission.the-variants.{Admitted, Refused}
-use Rattle.selection.specs.declared.Estimate.{Estimate}
-use Rattle.selection.proofs.Rules.{WellFormed, ranked, rules-meet, rules-append, first-is, refused-by, refused-one}
-use Rattle.selection.proofs.RuleByRule.{refused-at}
+use Rattle.selection.specs.{Answer.{refusal}, computed.Answer.{refusalOf, firstOf, answerBy}, computed.Refusals.{Rule, Wrongs, firstRefusal, rank, IsFirstRefusal, RefusedBy, Refuses}}
+use Rattle.selection.specs.{computed.Bits.{bitsRules, forBits}, declared.Refusal.{Refusal}, declared.Admission.the-variants.{Admitted, Refused}, declared.Estimate.{Estimate}}
+use Rattle.selection.proofs.{Rules.{WellFormed, ranked, rules-meet, rules-append, first-is, refused-by, refused-one}, RuleByRule.{refused-at}}
 
 module _ (bits : ℕ) where
   bits-rules : WellFormed (bitsRules bits)
@@ -18,14 +11,6 @@ module _ (bits : ℕ) where
 
   pub bits-refused : {X : Type 0} (zeros : Refusal → X) (f : Estimate → X) → (bits < 7) ⊎ (8 < bits) → forBits zeros f bits ≡ zeros (refusal 17 0)
   bits-refused zeros f h = ap (answerBy zeros _) (refused-at bits-rules 0 0 (refl, h))
-
-  -- what the code of a call asks: by the refusal v of the number, and by the estimate
-  module _ {X : Type 0} (zeros : Refusal → X) (f : Estimate → X) {v : Admission} (e : v ≡ firstRefusal (bitsRules bits)) where
-    pub by-refusal : {g : Refusal} → v ≡ Refused g → zeros g ≡ forBits zeros f bits
-    by-refusal h = ap (answerBy zeros (f (estimateOf bits))) (sym h ∙ e)
-
-    pub by-estimate : {E : Estimate} {x : X} → v ≡ Admitted → E ≡ estimateOf bits → x ≡ f E → x ≡ forBits zeros f bits
-    by-estimate h k g = g ∙ ap f k ∙ ap (answerBy zeros (f (estimateOf bits))) (sym h ∙ e)
 
   -- ---- the rules of a call after that of its number of bits
 
@@ -37,11 +22,11 @@ module _ (bits : ℕ) where
     -- the first refusal of both is 17, or no number is refused and it is that of the call's rules
     pub bits-first : {n p : ℕ} → IsFirstRefusal (Wrongs (bitsRules bits ++ rs)) n p
         → (firstRefusal (bitsRules bits) ≡ Refused (refusal n p)) ⊎ ((firstRefusal (bitsRules bits) ≡ Admitted) × IsFirstRefusal (Wrongs rs) n p)
-    bits-first {n} {p} x = go (firstRefusal (bitsRules bits)) (sym (rules-append (bitsRules bits) rs) ∙ first-is both-rules n p x)
-      where
-        go : (v : Admission) → firstOf v (firstRefusal rs) ≡ Refused (refusal n p) → (v ≡ Refused (refusal n p)) ⊎ ((v ≡ Admitted) × IsFirstRefusal (Wrongs rs) n p)
-        go Admitted e = inr (refl, rules-meet c (Refused (refusal n p)) e)
-        go (Refused f) e = inl e
+    bits-first {n} {p} x =
+        (elim (firstRefusal (bitsRules bits)) as (λ v. firstOf v (firstRefusal rs) ≡ Refused (refusal n p) → (v ≡ Refused (refusal n p)) ⊎ ((v ≡ Admitted) × IsFirstRefusal (Wrongs rs) n p)) [
+          | Admitted ↦ λ e. inr (refl, rules-meet c (Refused (refusal n p)) e)
+          | Refused f ↦ λ e. inl e
+        ]) (sym (rules-append (bitsRules bits) rs) ∙ first-is both-rules n p x)
 
     -- the answer of the call is x
     module _ {X : Type 0} (zeros : Refusal → X) (x : X) where
@@ -51,11 +36,9 @@ module _ (bits : ℕ) where
 
       module _ (refused : X → Refusal) (zero : (g : Refusal) → refused (zeros g) ≡ g) where
         pub bits-refused-by : RefusedBy (Wrongs rs) (refused x) → RefusedBy (Wrongs (bitsRules bits ++ rs)) (refused (answerBy zeros x (firstRefusal (bitsRules bits))))
-        bits-refused-by b = rw (go (firstRefusal (bitsRules bits)) ∙ ap refusalOf (sym (rules-append (bitsRules bits) rs))) (refused-by both-rules)
-          where
-            go : (v : Admission) → refused (answerBy zeros x v) ≡ refusalOf (firstOf v (firstRefusal rs))
-            go Admitted = refused-one c b (refused-by c)
-            go (Refused g) = zero g
+        bits-refused-by b =
+            let same = elim (firstRefusal (bitsRules bits)) as (λ v. refused (answerBy zeros x v) ≡ refusalOf (firstOf v (firstRefusal rs))) [ Admitted ↦ refused-one c b (refused-by c) | Refused g ↦ zero g ] in
+            rw (same ∙ ap refusalOf (sym (rules-append (bitsRules bits) rs))) (refused-by both-rules)
 
         pub bits-refuses : Refuses (Wrongs rs) refused zeros x → Refuses (Wrongs (bitsRules bits ++ rs)) refused zeros (answerBy zeros x (firstRefusal (bitsRules bits)))
         bits-refuses r = record { by = bits-refused-by (r .by); besides = λ n p. bits-besides n p (r .besides n p) }

@@ -1,14 +1,8 @@
 -- The kept table holds the made digits: one test that antt computes over all cells, and one law that carries it to each entry.
-use Rattle.laws.proofs.Basics.{_≡_, Bool, List, ℕ, _/_, _%_, _<_, arith, T, eqb, eqb→eq, length, getD}
-use Rattle.selection.specs.Maker.{MadeTable}
-use Rattle.selection.specs.computed.Outcomes.{madeAt}
-use Rattle.selection.specs.Table.{Passes}
-use Rattle.selection.proofs.Tables.{table-of}
-use Rattle.laws.proofs.Tests.{every, every-at}
-use Rattle.selection.proofs.Making.{made-right}
-use Rattle.selection.specs.declared.Estimate.{Estimate}
+use Rattle.laws.proofs.{Basics.{_≡_, Bool, List, ℕ, _/_, _%_, _<_, arith, T, eqb, eqb→eq, length, getD}, Tests.{every, every-at}}
+use Rattle.selection.specs.{Maker.{MadeTable}, computed.Outcomes.{madeAt}, Table.{Passes}, declared.Estimate.{Estimate}}
+use Rattle.selection.proofs.{Tables.{table-of}, Making.{made-right}}
 
--- in a divider with the estimate E
 module _ (E : Estimate) where
   -- a list of made bytes is the made table
   pub made-of : {t : List ℕ} → length t ≡ 2048 → ((k : ℕ) → k < 2048 → getD t k 0 ≡ madeAt E k) → MadeTable E t

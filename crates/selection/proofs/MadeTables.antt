@@ -1,20 +1,10 @@
 -- The computed made table, the maker's outcome and the limits of a row.
-use Rattle.laws.proofs.Basics.{_≡_, refl, ap, _∙_, List, ℕ, _/_, _%_, _≤_, _<_, arith, length, le-ltb}
-use Rattle.laws.proofs.Lists.{list-length, list-at}
-use Rattle.selection.specs.Maker.{Made, MadeTable}
-use Rattle.selection.specs.computed.Maker.{limitsZeros, Limited, MakeOutcome, makeRefused, Makes}
-use Rattle.selection.specs.Answer.{refusal}
-use Rattle.selection.proofs.Rules.{admits, refuses}
-use Rattle.selection.proofs.RuleByRule.{none-clear}
-use Rattle.laws.specs.Lists.{filled}
-use Rattle.selection.specs.computed.Outcomes.{madeAt, rowLimitsOf, madeTable, makeOf}
-use Rattle.selection.specs.Table.{Passes}
-use Rattle.selection.proofs.Making.{made-right, limits-right}
-use Rattle.selection.proofs.KeptLaws.{made-of, made-passes}
+use Rattle.laws.{proofs.Basics.{_≡_, refl, ap, _∙_, List, ℕ, _/_, _%_, _≤_, _<_, arith, length, le-ltb}, proofs.Lists.{list-length, list-at}, specs.Lists.{filled}}
+use Rattle.selection.specs.{Maker.{Made, MadeTable}, computed.Maker.{limitsZeros, Limited, MakeOutcome, makeRefused, Makes}, Answer.{refusal}}
+use Rattle.selection.specs.{computed.Outcomes.{madeAt, rowLimitsOf, madeTable, makeOf}, Table.{Passes}, declared.Estimate.{Estimate}}
+use Rattle.selection.proofs.{Rules.{admits, refuses}, RuleByRule.{none-clear}, Making.{made-right, limits-right}, KeptLaws.{made-of, made-passes}}
 use Rattle.selection.proofs.UniqueMade.{byte-one, made-one, limits-rules, make-rules}
-use Rattle.selection.specs.declared.Estimate.{Estimate}
 
--- in a divider with the estimate E
 module _ (E : Estimate) where
   -- the computed table is the made table
   pub made-table-is : MadeTable E (madeTable E)

@@ -1,50 +1,35 @@
 -- The made digits and their limits, at all cells by one test that antt computes.
 use Rattle.laws.proofs.Basics.{_≡_, refl, Bool, true, cond, List, _||_, inl, inr, ⊎-elim, ℕ, _+_, _≤_, _<_, arith, T, ltb, leb, eqb, eqb→eq, ltb→lt, leb→le, getD}
-use mir.Facts.{or-yes}
 use Rattle.laws.proofs.Tests.{both, both-left, both-right, upto, upto-at, is-true}
-use Rattle.selection.proofs.DigitBytes.{up-to-four}
-use Rattle.selection.specs.Maker.{Made, AreLimits, distance, stepAt}
-use Rattle.selection.specs.computed.Allowed.{allowsOf}
-use Rattle.selection.specs.computed.Outcomes.{madeOf, limitsOf}
-use Rattle.selection.proofs.BiasedPoints.{not-allowed}
-use Rattle.selection.proofs.Allowed.{tells, allows-decides}
-use Rattle.selection.specs.declared.Estimate.{Estimate}
+use mir.Facts.{or-yes}
+use Rattle.selection.proofs.{DigitBytes.{up-to-four}, BiasedPoints.{not-allowed}, Allowed.{tells, allows-decides}, Search.{span-least, span-most}}
+use Rattle.selection.specs.{Maker.{Made, AreLimits, distance, stepAt}, computed.Allowed.{allowsOf}, computed.Outcomes.{madeOf, limitsOf}, declared.Estimate.{Estimate}}
 use Rattle.selection.specs.declared.Estimate.the-variants.{SevenBits, EightBits}
-use Rattle.selection.proofs.Search.{span-least, span-most}
-
--- ---- the made digit
 
 -- if the digit of byte a is allowed, it is m, or is farther from zero than m
 abbrev farther : Bool → ℕ → ℕ → Bool
 farther allowed m a = cond allowed (eqb a m || ltb (distance m) (distance a)) true
 
--- the made byte is a digit's that is allowed, and the nearest to zero
+-- the made byte is a digit's that is allowed, and the nearest to zero; and the limits of its row give it
 nearest : Estimate → ℕ → ℕ → Bool
-nearest E r c = let m = madeOf E r c in both (leb m 4) (both (allowsOf E r c m) (upto (λ a. farther (allowsOf E r c a) m a) 5))
+nearest E r c = let m = madeOf E r c in both (leb m 4) (both (eqb (stepAt (limitsOf E r) c) m) (both (allowsOf E r c m) (upto (λ a. farther (allowsOf E r c a) m a) 5)))
 
 all-nearest : (E : Estimate) → T (upto (λ r. upto (nearest E r) 128) 16)
-unfolding nearest madeOf allowsOf
+unfolding nearest limitsOf madeOf allowsOf
 all-nearest SevenBits = tt
 all-nearest EightBits = tt
 
--- the limits of a row
-stepped : Estimate → ℕ → ℕ → Bool
-stepped E r c = eqb (stepAt (limitsOf E r) c) (madeOf E r c)
-
-all-stepped : (E : Estimate) → T (upto (λ r. upto (stepped E r) 128) 16)
-unfolding stepped limitsOf madeOf allowsOf
-all-stepped SevenBits = tt
-all-stepped EightBits = tt
-
--- in a divider with the estimate E
 module _ (E : Estimate) where
+  is-nearest : (r c : ℕ) → r ≤ 15 → c ≤ 127 → T (nearest E r c)
+  is-nearest r c hr hc = upto-at (nearest E r) 128 (upto-at (λ (k : ℕ). upto (nearest E k) 128) 16 (all-nearest E) r (omega arith)) c (omega arith)
+
   -- § 5.1 The made digit is the allowed one nearest zero.
   pub made-right : (r c : ℕ) → r ≤ 15 → c ≤ 127 → Made E r c (madeOf E r c)
   unfolding nearest
   made-right r c hr hc =
       let m = madeOf E r c in
-      let t = upto-at (nearest E r) 128 (upto-at (λ (k : ℕ). upto (nearest E k) 128) 16 (all-nearest E) r (omega arith)) c (omega arith) in
-      let u = both-right (leb m 4) _ t in
+      let t = is-nearest r c hr hc in
+      let u = both-right (eqb (stepAt (limitsOf E r) c) m) _ (both-right (leb m 4) _ t) in
       let byte = leb→le m 4 (both-left (leb m 4) _ t) in
       record {
         byte = byte;
@@ -57,11 +42,9 @@ module _ (E : Estimate) where
             (tells E (record { row = hr; column = hc; byte = h }));
       }
 
-  -- ---- the limits of a row
-
   -- § 5.3 A row's limits are the six columns where its made digits change.
   pub limits-right : (r : ℕ) → r ≤ 15 → AreLimits E r (limitsOf E r)
-  unfolding stepped limitsOf
+  unfolding nearest limitsOf
   limits-right r hr =
       let least = span-least E in
       let most = span-most E in
@@ -69,7 +52,9 @@ module _ (E : Estimate) where
         six = refl;
         rises = λ i h. up-to-four (λ i. getD (limitsOf E r) i 0 < getD (limitsOf E r) (i + 1) 0) (omega arith) (omega arith) (omega arith) (omega arith) (omega arith) i (omega arith);
         within = omega arith;
-        steps = λ c h. rw (eqb→eq (stepAt (limitsOf E r) c) (madeOf E r c) (upto-at (stepped E r) 128 (upto-at (λ (k : ℕ). upto (stepped E k) 128) 16 (all-stepped E) r (omega arith)) c (omega arith))) (made-right r c hr h);
+        steps = λ c h.
+            let t = both-right (leb (madeOf E r c) 4) _ (is-nearest r c hr h) in
+            rw (eqb→eq (stepAt (limitsOf E r) c) (madeOf E r c) (both-left (eqb (stepAt (limitsOf E r) c) (madeOf E r c)) _ t)) (made-right r c hr h);
       }
 
   pub limits-answer : (r : ℕ) {l : List ℕ} → r ≤ 15 → l ≡ limitsOf E r → (l ≡ limitsOf E r) × AreLimits E r l

@@ -1,15 +1,9 @@
 -- What one rule gives: it refuses at its one place, or it is past.
-use Rattle.laws.proofs.Basics.{_≡_, refl, sym, ap, _∙_, Bool, true, false, cond, _⊎_, inl, inr, ⊎-elim, ℕ, _≤_, _<_, arith, lt-ltb, le-ltb}
+use Rattle.laws.proofs.{Basics.{_≡_, refl, sym, ap, _∙_, Bool, true, false, _⊎_, inl, inr, ⊎-elim, ℕ, _≤_, _<_, arith, lt-ltb, le-ltb}, Comparisons.{not-below}, Tests.{either, Decides}}
+use Rattle.laws.{proofs.Search.{first-below}, specs.Search.{First, firstFrom}}
 use native.Mathlib.Nat.{le-antisymm}
-use Rattle.laws.proofs.Comparisons.{not-below}
-use Rattle.laws.proofs.Tests.{Decides}
-use Rattle.laws.proofs.Search.{first-below}
 use Rattle.selection.proofs.ConditionTests.{holds-decides, Fails, fails}
-use Rattle.selection.specs.Answer.{refusal}
-use Rattle.selection.specs.computed.Refusals.{Holds, holds, Rule, numberAt, numberFirst, numberOf, Wrong, given}
-use Rattle.laws.specs.Search.{First, firstFrom}
-use Rattle.selection.specs.declared.Admission.{Admission}
-use Rattle.selection.specs.declared.Admission.the-variants.{Admitted, Refused}
+use Rattle.selection.specs.{Answer.{refusal}, computed.Refusals.{holds, Rule, numberAt, numberFirst, numberOf, Wrong, given}, declared.Admission.the-variants.{Admitted, Refused}}
 
 pub first-one : {P : ℕ → Type 0} {i j : ℕ} → First P i → First P j → i ≡ j
 first-one x y = le-antisymm (not-below (λ l. x .before _ l (y .here))) (not-below (λ l. y .before _ l (x .here)))
@@ -41,11 +35,10 @@ wrong-one (numberAt k p c) i j x y = x .0 ∙ sym (y .0)
 wrong-one (numberFirst k P f m) i j x y = first-one (x .1) (y .1)
 
 pub decided : (r : Rule) → Tells r → ((p : ℕ) × Wrong r p × (given r ≡ Refused (refusal (numberOf r) p))) ⊎ (Past r × (given r ≡ Admitted))
-decided (numberAt k p c) t = go (holds c) (holds-decides c)
-  where
-    go : (x : Bool) → Decides (Holds c) x → let v : Admission = cond x (Refused (refusal k p)) Admitted in ((q : ℕ) × ((q ≡ p) × Holds c) × (v ≡ Refused (refusal k q))) ⊎ (Fails c × (v ≡ Admitted))
-    go true d = inl (p, (refl, d .yes refl), refl)
-    go false d = inr (fails c .0 (d .no refl), refl)
+decided (numberAt k p c) t = ⊎-elim
+    (λ (e : holds c ≡ true). inl (p, (refl, holds-decides c .yes e), rw e refl))
+    (λ (e : holds c ≡ false). inr (fails c .0 (holds-decides c .no e), rw e refl))
+    (either (holds c))
 decided (numberFirst k P f m) t = ⊎-elim
     (λ x. inr (x .1, rw (le-ltb (firstFrom f 0 m) m (omega (arith, x .0))) refl))
     (λ x. inl (firstFrom f 0 m, x, rw (lt-ltb (firstFrom f 0 m) m (x .0)) refl))

@@ -6,6 +6,6 @@ unfoldable pub use Rattle.selection.specs.computed.Refusals.{rank}
 unfoldable pub use Rattle.selection.specs.computed.Table.{tableRules}
 pub use Rattle.selection.proofs.ConditionTests.{holds-decides}
 pub use Rattle.selection.proofs.OneRule.{found, not-found}
-pub use Rattle.selection.proofs.Rules.{WellFormed, first-is, clear, admits, refused-by, either-way, refused-one, refuses-one, refuses}
+pub use Rattle.selection.proofs.Rules.{WellFormed, first-is, clear, admits, refused-by, refused-one, refuses-one, refuses}
 pub use Rattle.selection.proofs.RuleByRule.{none-clear, cleared, clear-admits, refused-at}
 pub use Rattle.selection.proofs.TableRefusals.{lent, passed-last}

@@ -1,22 +1,10 @@
 -- Refused exactly when a point leaves the range, and a single cell's verdict: demand 3's words on the check.
-use Rattle.laws.proofs.Basics.{refl, sym, _↔_, List, ℕ, _+_, _*_, _/_, _%_, _<_, arith, ℤ, pos, _-ℤ_, _*ℤ_, getD}
-use Rattle.laws.proofs.Diff.{diffs, by-diff}
-use Rattle.laws.proofs.Counting.{tally-as, tally-nothing}
-use Rattle.selection.specs.Word.{Within}
-use Rattle.selection.specs.computed.Answer.{cellNumbers, outcomeNumbers, reportNumbers}
-use Rattle.selection.specs.Cell.{Against, LeastWitness, digit}
-use Rattle.selection.specs.computed.Cell.{IsCell, CellChecked}
-use Rattle.selection.specs.Table.{Table, BadAt, Passes}
-use Rattle.selection.specs.computed.Table.{Checked, ReportMeaning}
-use Rattle.selection.specs.Demand.{Leaves, SomeLeaves, RefusedExactly, CellTold}
-use Rattle.selection.specs.declared.table.Outcome.{Outcome}
-use Rattle.selection.specs.declared.table.Outcome.the-variants.{Passed, Bad, Refused}
-use Rattle.selection.specs.declared.table.TableVerdict.{TableVerdict}
-use Rattle.selection.specs.declared.CellVerdict.{CellVerdict}
+use Rattle.laws.proofs.{Basics.{refl, sym, _↔_, List, ℕ, _+_, _*_, _/_, _%_, _<_, arith, ℤ, pos, _-ℤ_, _*ℤ_, getD}, Diff.{diffs, by-diff}, Counting.{tally-as, tally-nothing}}
+use Rattle.selection.specs.{Word.{Within}, computed.Answer.{cellNumbers, outcomeNumbers, reportNumbers}, Cell.{Against, LeastWitness, digit}, computed.Cell.{IsCell, CellChecked}}
+use Rattle.selection.specs.{Table.{Table, BadAt, Passes}, computed.Table.{Checked, ReportMeaning}, Demand.{Leaves, SomeLeaves, RefusedExactly, CellTold}, declared.table.Outcome.{Outcome}}
+use Rattle.selection.specs.declared.{table.Outcome.the-variants.{Passed, Bad, Refused}, table.TableVerdict.{TableVerdict}, CellVerdict.{CellVerdict}, Estimate.{Estimate}}
 use Rattle.selection.specs.declared.CellVerdict.the-variants as C
-use Rattle.selection.proofs.BiasedPoints.{not-allowed, known-not-refused}
-use Rattle.selection.proofs.Tables.{no-table, cell-row, cell-column}
-use Rattle.selection.specs.declared.Estimate.{Estimate}
+use Rattle.selection.proofs.{BiasedPoints.{not-allowed, known-not-refused}, Tables.{no-table, cell-row, cell-column}}
 
 -- -2D ≤ 3z ≤ 2D exactly if -8D ≤ 3·4z ≤ 8D
 four : (D : ℕ) (z : ℤ) → Within 2 D (pos 3 *ℤ z) ↔ Within 8 D (pos 3 *ℤ (pos 4 *ℤ z))
@@ -27,7 +15,6 @@ four D =
       λ w. record { low = simp diffs (omega (arith, simp diffs at (w .low))); high = simp diffs (omega (arith, simp diffs at (w .high))) },
     ))
 
--- in a divider with the estimate E
 module _ (E : Estimate) where
   module _ {t : List ℕ} {k : ℕ} where
     -- a witness is a point that leaves

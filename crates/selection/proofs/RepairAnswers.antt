@@ -1,14 +1,9 @@
 -- The outcome of the repair: its refusals, that the computed outcome is the specification's, and that there is no other.
-use Rattle.laws.proofs.Basics.{_≡_, refl, ap, List, ℕ, _≤_, length}
-use Rattle.laws.proofs.Lists.{fill-at, fill-kept, kept-one}
+use Rattle.laws.proofs.{Basics.{_≡_, refl, ap, List, ℕ, _≤_, length}, Lists.{fill-at, fill-kept, kept-one}, Counting.{count-tally, tally-one}}
 use Rattle.selection.proofs.RefusalNames.{refusal, answerBy, firstRefusal, rank, WellFormed, refuses-one, refuses, cleared, clear-admits, refused-at}
-use Rattle.laws.proofs.Counting.{count-tally, tally-one}
-use Rattle.selection.specs.declared.Admission.the-variants.{Admitted}
-use Rattle.selection.specs.computed.Allowed.{isFaulty}
-use Rattle.selection.specs.computed.Outcomes.{repairedByte, changeMark, repairOf}
-use Rattle.selection.specs.computed.Repair.{RepairedTable, repairRules, RepairOutcome, repairRefused, RepairAccepts, Repairs}
 use Rattle.selection.proofs.RepairCells.{cell-repaired, changed-decides, repaired-one}
-use Rattle.selection.specs.declared.Estimate.{Estimate}
+use Rattle.selection.specs.{declared.Admission.the-variants.{Admitted}, computed.Allowed.{isFaulty}, computed.Outcomes.{repairedByte, changeMark, repairOf}}
+use Rattle.selection.specs.{computed.Repair.{RepairedTable, repairRules, RepairOutcome, repairRefused, RepairAccepts, Repairs}, declared.Estimate.{Estimate}}
 
 -- ---- refusals
 
@@ -24,7 +19,6 @@ module _ (len r c : ℕ) where
   pub repair-admits : RepairAccepts len r c → firstRefusal (repairRules len r c) ≡ Admitted
   repair-admits a = clear-admits repair-rules ((a .repaired-room, a .changed-room), (a .size, tt))
 
--- in a divider with the estimate E
 module _ (E : Estimate) where
   -- ---- the call
 

@@ -1,30 +1,16 @@
 -- The repair, cell by cell: the computed one is the specification's; and what is claimed of every repair.
-use Rattle.laws.proofs.Basics.{_≡_, refl, sym, _∙_, Bool, true, false, cond, List, _⊎_, inl, inr, ⊎-elim, ℕ, _/_, _%_, _≤_, _<_, arith, length, getD, take, length-take}
-use Rattle.laws.specs.Counting.{Tally}
-use Rattle.laws.proofs.Tests.{Decides, less-decides}
-use Rattle.laws.proofs.Counting.{count-tally, tally-most, tally-nothing, tally-some}
+use Rattle.laws.{proofs.Basics.{_≡_, refl, sym, _∙_, true, false, List, _⊎_, inl, inr, ⊎-elim, ℕ, _/_, _%_, _≤_, _<_, arith, length, getD, take, length-take}, specs.Counting.{Tally}}
+use Rattle.laws.proofs.{Tests.{either, Decides, less-decides}, Counting.{count-tally, tally-most, tally-nothing, tally-some}, Comparisons.{not-below, equal}}
 use lib.Seq.{getD-take, ext-getD}
-use Rattle.selection.specs.Cell.{Allows, digit}
-use Rattle.selection.specs.Table.{Passes}
-use Rattle.selection.specs.computed.Allowed.{aboveFour, isBad, isFaulty}
-use Rattle.selection.specs.computed.Outcomes.{madeAt, repairedByte, changeMark}
-use Rattle.selection.specs.Repair.{FaultyAt, DifferAt}
-use Rattle.selection.specs.computed.Repair.{RepairedAt, RepairedTable, RepairClaim}
-use Rattle.selection.specs.computed.Refusals.{differ, holds}
-use Rattle.selection.proofs.ConditionTests.{decides-or, holds-or-not, holds-decides}
-use Rattle.selection.proofs.BiasedPoints.{not-allowed, allows-unless}
-use Rattle.selection.proofs.Allowed.{cell-decides}
-use Rattle.laws.proofs.Comparisons.{not-below, equal}
-use Rattle.selection.proofs.Making.{made-right}
-use Rattle.selection.proofs.Tables.{table-of}
+use Rattle.selection.specs.{Cell.{Allows, digit}, Table.{Passes}, computed.Allowed.{aboveFour, isBad, isFaulty}, computed.Outcomes.{repairedByte, changeMark}, Repair.{FaultyAt, DifferAt}}
+use Rattle.selection.specs.{computed.Repair.{RepairedAt, RepairedTable, RepairClaim}, computed.Refusals.{differ, holds}, declared.Estimate.{Estimate}}
+use Rattle.selection.proofs.{ConditionTests.{decides-or, holds-decides}, BiasedPoints.{not-allowed, allows-unless}, Allowed.{cell-decides}, Making.{made-right}, Tables.{table-of}}
 use Rattle.selection.proofs.UniqueMade.{byte-one}
-use Rattle.selection.specs.declared.Estimate.{Estimate}
 
 -- the tally of the cells in which two tables differ
 pub differ-tally : (t u : List ℕ) → (n : ℕ) × Tally (DifferAt t u) 2048 n
 differ-tally t u = (_, count-tally (λ k. holds (differ (getD t k 0) (getD u k 0))) 2048 (λ k h. holds-decides (differ (getD t k 0) (getD u k 0))))
 
--- in a divider with the estimate E
 module _ (E : Estimate) where
   -- ---- a cell
 
@@ -34,7 +20,7 @@ module _ (E : Estimate) where
     faulty-decides = decides-or (aboveFour t k) (isBad E t k) (less-decides 4 (getD t k 0)) (λ n. cell-decides E t k (record { row = omega arith; column = omega arith; byte = not-below n }))
 
     faulty : FaultyAt E t k ⊎ (FaultyAt E t k → ⊥)
-    faulty = holds-or-not (isFaulty E t k) faulty-decides
+    faulty = ⊎-elim (λ e. inl (faulty-decides .yes e)) (λ e. inr (faulty-decides .no e)) (either (isFaulty E t k))
 
     -- it is not where it holds an allowed digit, and only there
     pub not-faulty : {b : ℕ} → b ≤ 4 → Allows E (k / 128) (k % 128) (digit b) → getD t k 0 ≡ b → FaultyAt E t k → ⊥
@@ -48,13 +34,10 @@ module _ (E : Estimate) where
     -- the computed repair is the one
     pub cell-repaired : RepairedAt E t k (repairedByte E t k) (changeMark E t k)
     unfolding repairedByte changeMark
-    cell-repaired = go (isFaulty E t k) faulty-decides
-      where
-        go : (x : Bool) → Decides (FaultyAt E t k) x → RepairedAt E t k (cond x (madeAt E k) (getD t k 0)) (cond x 1 0)
-        go true d =
-            let m = made-right E (k / 128) (k % 128) (omega arith) (omega arith) in
-            record { made = λ w. m; copied = λ n. absurd (n (d .yes refl)); marked = λ n. refl; unmarked = λ e. absurd (not-faulty (m .byte) (m .allowed) e (d .yes refl)) }
-        go false d = record { made = λ w. absurd (d .no refl w); copied = λ n. refl; marked = λ n. absurd (n refl); unmarked = λ e. refl }
+    cell-repaired = let m = made-right E (k / 128) (k % 128) (omega arith) (omega arith) in ⊎-elim
+        (λ (e : isFaulty E t k ≡ true). let w = faulty-decides .yes e in rw e (record { made = λ w. m; copied = λ n. absurd (n w); marked = λ n. refl; unmarked = λ q. absurd (not-faulty (m .byte) (m .allowed) q w) }))
+        (λ (e : isFaulty E t k ≡ false). rw e (record { made = λ w. absurd (faulty-decides .no e w); copied = λ n. refl; marked = λ n. absurd (n refl); unmarked = λ q. refl }))
+        (either (isFaulty E t k))
 
     module _ {b m : ℕ} (r : RepairedAt E t k b m) where
       -- what stands there is an allowed digit

@@ -1,19 +1,9 @@
 -- The code's two loops over a row: where each stands before column c, and what one turn does.
-use Rattle.laws.proofs.Basics.{_≡_, refl, ap, subst, _∙_, Bool, true, false, not, cond, _||_, List, ℕ, _+_, _*_, _-_, _≤_, _<_, arith, ltb, eqb, length, getD, set, length-set, length-append, length-drop, sym}
-use Rattle.laws.specs.Lists.{filled}
-use Rattle.laws.proofs.Lists.{list-length, fill-more, fill-length, fill-at}
-use Rattle.laws.specs.Counting.{countBelow}
-use Rattle.laws.proofs.Sums.{sum-more}
-use Rattle.selection.specs.computed.Allowed.{isFaulty}
-use Rattle.selection.specs.Maker.{AreLimits, stepAt}
-use Rattle.selection.specs.computed.CellTest.{RowOf, allowsBy}
-use Rattle.selection.specs.computed.Outcomes.{madeAt, repairedByte, changeMark}
-use Rattle.selection.specs.computed.RepairRows.{FillsRow}
-use Rattle.selection.specs.declared.cell.RowMultiples.{RowMultiples}
-use Rattle.selection.proofs.Allowed.{bad-in-row}
-use Rattle.selection.proofs.Tables.{cell-row, cell-column}
-use Rattle.selection.proofs.MadeTables.{made-at}
-use Rattle.selection.specs.declared.Estimate.{Estimate}
+use Rattle.laws.proofs.Basics.{_≡_, refl, ap, _∙_, Bool, true, false, not, cond, _||_, ⊎-elim, List, ℕ, _+_, _*_, _≤_, _<_, arith, ltb, eqb, length, getD, set, length-set, length-append, length-drop, sym}
+use Rattle.laws.{proofs.Tests.{either}, specs.Lists.{filled}, proofs.Lists.{list-length, fill-more, fill-length, fill-at}, specs.Counting.{countBelow}, proofs.Sums.{sum-more}}
+use Rattle.selection.specs.{computed.Allowed.{isFaulty}, Maker.{AreLimits, stepAt}, computed.CellTest.{RowOf, allowsBy}, computed.Outcomes.{repairedByte, changeMark}}
+use Rattle.selection.specs.{computed.RepairRows.{FillsRow}, declared.cell.RowMultiples.{RowMultiples}, declared.Estimate.{Estimate}}
+use Rattle.selection.proofs.{Allowed.{bad-in-row}, Tables.{cell-row, cell-column}, MadeTables.{made-at}}
 
 -- ---- the loops
 
@@ -42,16 +32,11 @@ module _ (f : ℕ → ℕ) (r : ℕ) (a₀ : List ℕ) where
 
 -- ---- from row to row
 
--- of an estimate that is known by another name
-pub rows-by : (f : Estimate → ℕ → ℕ) {x y : Estimate} (i : ℕ) {a b : List ℕ} → x ≡ y → FillsRow (f x) i a b → FillsRow (f y) i a b
-rows-by f i {a} {b} e g = subst (λ (z : Estimate). FillsRow (f z) i a b) e g
+-- a row more, of an estimate and a row that are known by other names
+pub rows-more : (f : Estimate → ℕ → ℕ) (o : List ℕ) (r : ℕ) {a b : List ℕ} {E x : Estimate} {i : ℕ} → x ≡ E → i ≡ r → a ≡ filled (f E) (128 * r) o → FillsRow (f x) i a b → b ≡ filled (f E) (128 * (r + 1)) o
+rows-more f o r {E = E} same row e g = let n : 128 * r + 128 ≡ 128 * (r + 1) = omega arith in (rw (same, row) at g) o e ∙ ap (λ (j : ℕ). filled (f E) j o) n
 
 module _ (f : ℕ → ℕ) (o : List ℕ) (r : ℕ) {b : List ℕ} where
-  pub rows-more : {a : List ℕ} {i : ℕ} → a ≡ filled f (128 * r) o → FillsRow f i a b → i ≡ r → b ≡ filled f (128 * (r + 1)) o
-  rows-more {a} e g h =
-      let n : 128 * r + 128 ≡ 128 * (r + 1) = omega arith in
-      subst (λ (j : ℕ). FillsRow f j a b) h g o e ∙ ap (λ (j : ℕ). filled f j o) n
-
   pub rows-size : 2048 ≤ length o → r ≤ 16 → b ≡ filled f (128 * r) o → length b ≡ length o
   rows-size room h e = ap length e ∙ fill-length f o (128 * r) (omega arith)
 
@@ -59,15 +44,13 @@ module _ (f : ℕ → ℕ) (o : List ℕ) (r : ℕ) {b : List ℕ} where
   pub row-at : b ≡ filled f (128 * (r + 1)) o → (c : ℕ) → c < 128 → getD b (128 * r + c) 0 ≡ f (128 * r + c)
   row-at e c h = rw e (fill-at f o 0 (128 * (r + 1)) (128 * r + c) (omega arith))
 
--- in a divider with the estimate E
 module _ (E : Estimate) where
   pub byte-is : (t : List ℕ) {r : ℕ} {l : List ℕ} (c : ℕ) {n b : ℕ} → r ≤ 15 → c ≤ 127 → AreLimits E r l → n ≡ changeMark E t (128 * r + c) → b ≡ cond (eqb n 0) (getD t (128 * r + c) 0) (stepAt l c) → b ≡ repairedByte E t (128 * r + c)
   unfolding changeMark repairedByte
-  byte-is t {r} {l} c {n} {b} hr hc g e f = go (isFaulty E t (128 * r + c)) (f ∙ rw e refl)
-    where
-      go : (x : Bool) → b ≡ cond (eqb (cond {A = ℕ} x 1 0) 0) (getD t (128 * r + c) 0) (stepAt l c) → b ≡ cond x (madeAt E (128 * r + c)) (getD t (128 * r + c) 0)
-      go true k = k ∙ made-at E (omega arith) (rw (cell-row r c hc, cell-column r c hc) (g .steps c hc))
-      go false k = k
+  byte-is t {r} c hr hc g e f = f ∙ ⊎-elim
+      (λ (x : isFaulty E t (128 * r + c) ≡ true). rw (e, x) (made-at E (omega arith) (rw (cell-row r c hc, cell-column r c hc) (g .steps c hc))))
+      (λ (x : isFaulty E t (128 * r + c) ≡ false). rw (e, x) refl)
+      (either (isFaulty E t (128 * r + c)))
 
   -- the marks that are 1
   pub count-mark : (t : List ℕ) (r i : ℕ) {count n : ℕ} → count ≡ countBelow (λ c. isFaulty E t (128 * r + c)) i → n ≡ changeMark E t (128 * r + i) → count + n ≡ countBelow (λ c. isFaulty E t (128 * r + c)) (i + 1)

@@ -1,43 +1,24 @@
 -- The computed report is the check's answer in the specification's words, and a table is admitted exactly if it passes.
 use Rattle.laws.proofs.Basics.{_≡_, refl, sym, subst, ap, _∙_, List, [], _∷_, ℕ, _+_, _*_, _/_, _%_, _≤_, _<_, arith, ltb, ltb→lt, nltb→le, lt-ltb, length, getD}
+use Rattle.laws.{proofs.Tests.{by-cond, Decides, less-decides}, specs.Search.{First, firstFrom}, specs.Counting.{countBelow}, proofs.Counting.{count-tally}, proofs.Comparisons.{equal}}
 use native.Mathlib.Nat.{not-le-of-lt}
-use Rattle.laws.proofs.Tests.{by-cond, Decides, less-decides}
-use Rattle.laws.specs.Search.{First, firstFrom}
-use Rattle.laws.specs.Counting.{countBelow}
-use Rattle.laws.proofs.Counting.{count-tally}
-use Rattle.selection.specs.computed.Refusals.{numberFirst, firstRefusal, rank}
-use Rattle.selection.specs.Cell.{Allows, digit}
-use Rattle.selection.specs.computed.Cell.{CellChecked}
-use Rattle.selection.specs.Table.{Table, BadAt, Passes}
-use Rattle.selection.specs.computed.Table.{formRules, Checked, ReportMeaning, tableRules}
-use Rattle.selection.specs.computed.Allowed.{aboveFour, isBad}
-use Rattle.selection.specs.computed.Outcomes.{cellOf, badReport, reportAt, passedReport, refusedReport, tableReport, reportOf}
-use Rattle.selection.specs.Answer.{refusal, reportZeros}
-use Rattle.selection.specs.computed.Answer.{reportNumbers, admission, admissionOf, firstOf, answerBy}
-use Rattle.selection.specs.declared.Admission.{Admission}
+use Rattle.selection.specs.{computed.Refusals.{numberFirst, firstRefusal, rank}, Cell.{Allows, digit}, computed.Cell.{CellChecked}, Table.{Table, BadAt, Passes}}
+use Rattle.selection.specs.computed.{Table.{formRules, Checked, ReportMeaning, tableRules}, Allowed.{aboveFour, isBad}}
+use Rattle.selection.specs.{computed.Outcomes.{cellOf, badReport, reportAt, passedReport, refusedReport, tableReport, reportOf}, Answer.{refusal, reportZeros}}
+use Rattle.selection.specs.{computed.Answer.{reportNumbers, admission, admissionOf, firstOf, answerBy}, declared.Admission.{Admission}, declared.CellVerdict.{CellVerdict}}
+use Rattle.selection.specs.declared.{CellVerdict.the-variants.{Allowed, Disallowed, Refused}, table.Outcome.{Outcome}, table.TableVerdict.{TableVerdict}, table.BadCell.{BadCell}}
+use Rattle.selection.specs.declared.Estimate.{Estimate}
 use Rattle.selection.specs.declared.Admission.the-variants as A
-use Rattle.selection.specs.declared.CellVerdict.{CellVerdict}
-use Rattle.selection.specs.declared.CellVerdict.the-variants.{Allowed, Disallowed, Refused}
-use Rattle.selection.specs.declared.table.Outcome.{Outcome}
 use Rattle.selection.specs.declared.table.Outcome.the-variants as O
-use Rattle.selection.specs.declared.table.TableVerdict.{TableVerdict}
-use Rattle.selection.specs.declared.table.BadCell.{BadCell}
-use Rattle.selection.proofs.BiasedPoints.{not-allowed, known-not-refused, allows-unless, cell-checked}
-use Rattle.selection.proofs.Allowed.{bad-decides}
-use Rattle.selection.proofs.Tables.{table-of, cell-at, cell-row, cell-column, first-bad-of}
-use Rattle.selection.proofs.OneRule.{found, not-found, past}
-use Rattle.laws.proofs.Comparisons.{equal}
-use Rattle.selection.proofs.Rules.{WellFormed, by-first, first-is, rules-append}
-use Rattle.selection.proofs.RuleByRule.{none-clear, cleared, clear-admits, refused-at}
+use Rattle.selection.proofs.{BiasedPoints.{not-allowed, known-not-refused, allows-unless, cell-checked}, Allowed.{bad-decides}, Tables.{table-of, cell-at, cell-row, cell-column, first-bad-of}}
+use Rattle.selection.proofs.{OneRule.{found, not-found, past}, Rules.{WellFormed, by-first, first-is, rules-append}, RuleByRule.{none-clear, cleared, clear-admits, refused-at}}
 use Rattle.selection.proofs.UniqueReport.{checked-one}
 pub use Rattle.selection.proofs.UniqueReport.{form-rules}
-use Rattle.selection.specs.declared.Estimate.{Estimate}
 
 -- 2,048 bytes in which no byte above 4 is found are a table
 pub is-table : (t : List ℕ) → length t ≡ 2048 → 2048 ≤ firstFrom (aboveFour t) 0 2048 → Table t
 is-table t e h = table-of t e (not-found (aboveFour t) 2048 (λ k l. less-decides 4 (getD t k 0)) h)
 
--- in a divider with the estimate E
 module _ (E : Estimate) where
   module _ (t : List ℕ) where
     -- and they pass if no cell is bad
@@ -59,12 +40,8 @@ module _ (E : Estimate) where
   report-in n t r c h e = rw (cell-row r c h, cell-column r c h) (ap (badReport n r c) e)
 
   -- the report of the table, by its first bad cell
-  module _ (t : List ℕ) where
-    pub report-first : (r c n : ℕ) → r ≤ 15 → c ≤ 127 → firstFrom (isBad E t) 0 2048 ≡ 128 * r + c → n ≡ countBelow (isBad E t) 2048 → reportAt E n t (128 * r + c) ≡ tableReport E t
-    report-first r c n hr hc e f = rw (e, f, lt-ltb (128 * r + c) 2048 (omega arith)) refl
-
-    pub report-none : firstFrom (isBad E t) 0 2048 ≡ 2048 → passedReport ≡ tableReport E t
-    report-none e = rw e refl
+  pub report-first : (t : List ℕ) (r c n : ℕ) → r ≤ 15 → c ≤ 127 → firstFrom (isBad E t) 0 2048 ≡ 128 * r + c → n ≡ countBelow (isBad E t) 2048 → reportAt E n t (128 * r + c) ≡ tableReport E t
+  report-first t r c n hr hc e f = rw (e, f, lt-ltb (128 * r + c) 2048 (omega arith)) refl
 
   -- the computed report is the check's answer
   -- § 4.1 The check counts the bad cells and says passed, or shows the first with its witness.

@@ -1,10 +1,7 @@
 -- What a call refuses, rule by rule: nothing, or by the rule before which all others are past. Once for every list of rules.
 use Rattle.laws.proofs.Basics.{_≡_, refl, List, [], _∷_, inl, inr, ⊎-elim, ℕ, zero, suc}
-use Rattle.selection.proofs.OneRule.{Past, past, past-not, refuses-at, past-admits}
-use Rattle.selection.proofs.Rules.{Sound, WellFormed, clear, admits}
-use Rattle.selection.specs.Answer.{refusal}
-use Rattle.selection.specs.computed.Refusals.{Rule, numberOf, Wrong, Wrongs, firstRefusal}
-use Rattle.selection.specs.declared.Admission.the-variants.{Admitted, Refused}
+use Rattle.selection.proofs.{OneRule.{Past, past, past-not, refuses-at, past-admits}, Rules.{Sound, WellFormed, clear, admits}}
+use Rattle.selection.specs.{Answer.{refusal}, computed.Refusals.{Rule, numberOf, Wrong, Wrongs, firstRefusal}, declared.Admission.the-variants.{Admitted, Refused}}
 
 -- no rule refuses
 abbrev pub Clear : List Rule → Type 0

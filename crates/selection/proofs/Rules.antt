@@ -1,13 +1,10 @@
 -- What a list of rules gives is the first refusal, by rank, of those whose condition holds.
-use Rattle.laws.proofs.Basics.{_≡_, refl, sym, ap, subst, _∙_, Bool, true, List, [], _∷_, _++_, _⊎_, inl, inr, ⊎-elim, ℕ, zero, suc, _+_, _<_, arith, T, ltb, ltb→lt}
+use Rattle.laws.proofs.Basics.{_≡_, refl, sym, ap, subst, _∙_, Bool, true, List, [], _∷_, _++_, inl, inr, ⊎-elim, ℕ, zero, suc, _+_, _<_, arith, T, ltb, ltb→lt}
 use Rattle.laws.proofs.Tests.{both, both-left, both-right, upto, upto-at}
 use Rattle.selection.proofs.OneRule.{Tells, past-not, decided, refuses-at, past, past-admits}
-use Rattle.selection.specs.Answer.{refusal}
-use Rattle.selection.specs.computed.Answer.{refusalOf, firstOf, answerBy}
-use Rattle.selection.specs.computed.Refusals.{Rule, numberOf, Wrong, given, Wrongs, firstRefusal, rank, IsFirstRefusal, RefusedBy, Refuses}
-use Rattle.selection.specs.declared.Refusal.{Refusal}
-use Rattle.selection.specs.declared.Admission.{Admission}
-use Rattle.selection.specs.declared.Admission.the-variants.{Admitted, Refused}
+use Rattle.selection.specs.{Answer.{refusal}, computed.Answer.{refusalOf, firstOf, answerBy}}
+use Rattle.selection.specs.{computed.Refusals.{Rule, numberOf, Wrong, given, Wrongs, firstRefusal, rank, IsFirstRefusal, RefusedBy, Refuses}, declared.Refusal.{Refusal}}
+use Rattle.selection.specs.declared.{Admission.{Admission}, Admission.the-variants.{Admitted, Refused}}
 
 -- ---- a list of rules
 
@@ -90,9 +87,6 @@ module _ {rs : List Rule} (c : WellFormed rs) where
   pub admits : ((n p : ℕ) → Wrongs rs n p → ⊥) → firstRefusal rs ≡ Admitted
   admits a = by-first (λ v. v ≡ Admitted) (λ m. refl) (λ f m. absurd (a _ _ (m .holds)))
 
-  pub either-way : {P : Type 0} → (firstRefusal rs ≡ Admitted → P) → ((n p : ℕ) → IsFirstRefusal (Wrongs rs) n p → P) → P
-  either-way {P} a b = by-first (λ v. P) (λ m. a (admits m)) (λ f. b _ _)
-
   positive : (n p : ℕ) → IsFirstRefusal (Wrongs rs) n p → 0 < n
   unfolding rank
   positive zero p x = absurd (omega (arith, after 0 rs (c .in-order) zero p (x .holds)))
@@ -109,14 +103,14 @@ module _ {rs : List Rule} (c : WellFormed rs) where
 
   -- no other refusal is by these rules
   pub refused-one : {f g : Refusal} → RefusedBy (Wrongs rs) f → RefusedBy (Wrongs rs) g → f ≡ g
-  refused-one x y = either-way
-      (λ e. x .none .1 (clear e) ∙ sym (y .none .1 (clear e)))
-      (λ n p m. x .exactly n p (positive n p m) .1 m ∙ sym (y .exactly n p (positive n p m) .1 m))
+  refused-one {f} {g} x y = by-first (λ v. f ≡ g)
+      (λ m. x .none .1 m ∙ sym (y .none .1 m))
+      (λ h m. x .exactly _ _ (positive _ _ m) .1 m ∙ sym (y .exactly _ _ (positive _ _ m) .1 m))
 
   -- and no other answer, where two with the same refusal are equal if nothing is refused
   pub refuses-one : {X : Type 0} {refused : X → Refusal} {zeros : Refusal → X} {x y : X} → Refuses (Wrongs rs) refused zeros x → Refuses (Wrongs rs) refused zeros y
       → (firstRefusal rs ≡ Admitted → refused x ≡ refused y → x ≡ y) → x ≡ y
-  refuses-one x y a = either-way (λ e. a e (refused-one (x .by) (y .by))) (λ n p m. x .besides n p m ∙ sym (y .besides n p m))
+  refuses-one {x = u} {y = v} x y a = by-first (λ w. u ≡ v) (λ m. a (admits m) (refused-one (x .by) (y .by))) (λ f m. x .besides _ _ m ∙ sym (y .besides _ _ m))
 
   -- an answer by the first refusal refuses so, with zeros besides
   pub refuses : {X : Type 0} (refused : X → Refusal) (zeros : Refusal → X) (done : X) → refused done ≡ refusal 0 0 → ((f : Refusal) → refused (zeros f) ≡ f)

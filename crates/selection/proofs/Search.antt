@@ -1,14 +1,9 @@
 -- The search of a cell from below and from above, each from its own least divisor: a second computation of what the test of a cell finds. Only laws cite it: `search-right` says what it
 -- finds, `tested` that the test finds the same in every cell.
-use Rattle.laws.proofs.Basics.{_≡_, refl, cond, _⊎_, inl, inr, ⊎-elim, ℕ, _+_, _*_, _-_, _^_, _≤_, _<_, min, arith, ltb, ltb→lt, nltb→le}
-use Rattle.laws.proofs.Tests.{by-cond}
-use Rattle.selection.proofs.DigitBytes.{up-to-four}
-use Rattle.selection.specs.Cell.{spanOf}
-use Rattle.selection.specs.computed.CellTest.{Finding, above, under, leastPast, leastDivisor, lowDivisor, highDivisor, reach, lowAt, highAt}
-use Rattle.selection.specs.computed.CellTest.Finding.{NoWitness, LeastAt}
-use Rattle.selection.proofs.BreakingPoints.{Low, High, PointWith, Breaks, IsLeast}
-use Rattle.selection.specs.declared.Estimate.{Estimate}
-use Rattle.selection.specs.declared.Estimate.the-variants.{SevenBits, EightBits}
+use Rattle.laws.proofs.{Basics.{_≡_, refl, cond, _⊎_, inl, inr, ⊎-elim, ℕ, _+_, _*_, _-_, _^_, _≤_, _<_, min, arith, ltb, ltb→lt, nltb→le}, Tests.{by-cond}}
+use Rattle.selection.proofs.{DigitBytes.{up-to-four}, BreakingPoints.{Low, High, PointWith, Breaks, IsLeast}}
+use Rattle.selection.specs.{Cell.{spanOf}, computed.CellTest.{Finding, above, under, leastPast, leastDivisor, lowDivisor, highDivisor, reach, lowAt, highAt}}
+use Rattle.selection.specs.{computed.CellTest.Finding.{NoWitness, LeastAt}, declared.Estimate.{Estimate}, declared.Estimate.the-variants.{SevenBits, EightBits}}
 
 -- the remainder w at the divisor d, if d is the row's and x is below y
 abbrev pub foundIf : ℕ → ℕ → ℕ → ℕ → ℕ → Finding

@@ -1,19 +1,9 @@
 -- What a call makes of its arguments' refusal and the table's.
 use Rattle.laws.proofs.Basics.{_≡_, refl, sym, ap, _∙_, List, _++_, ℕ, arith, T}
-use Rattle.selection.specs.computed.Answer.{firstOf, answerBy}
-use Rattle.selection.specs.computed.Table.{tableRules}
-use Rattle.selection.specs.Table.{Passes}
-use Rattle.selection.specs.computed.Outcomes.{madeTable}
-use Rattle.selection.specs.computed.Refusals.{Rule, firstRefusal}
-use Rattle.selection.specs.declared.Refusal.{Refusal}
-use Rattle.selection.specs.declared.Admission.{Admission}
-use Rattle.selection.specs.declared.Admission.the-variants.{Admitted, Refused}
-use Rattle.selection.proofs.Rules.{WellFormed, ranked, rules-append, sound-append}
-use Rattle.selection.proofs.MadeTables.{kept-passes}
-use Rattle.selection.proofs.Reports.{admitted-passes, passes-admitted, admission-rules, table-rules}
-use Rattle.selection.specs.declared.Estimate.{Estimate}
+use Rattle.selection.specs.{computed.Answer.{firstOf, answerBy}, computed.Table.{tableRules}, Table.{Passes}, computed.Outcomes.{madeTable}, computed.Refusals.{Rule, firstRefusal}}
+use Rattle.selection.specs.declared.{Refusal.{Refusal}, Admission.{Admission}, Admission.the-variants.{Admitted, Refused}, Estimate.{Estimate}}
+use Rattle.selection.proofs.{Rules.{WellFormed, ranked, rules-append, sound-append}, MadeTables.{kept-passes}, Reports.{admitted-passes, passes-admitted, admission-rules, table-rules}}
 
--- in a divider with the estimate E
 module _ (E : Estimate) where
   -- the table's rules after a call's own
   pub lent : (rs : List Rule) (t : List ℕ) → WellFormed rs → T (ranked 0 (rs ++ tableRules E t)) → WellFormed (rs ++ tableRules E t)
@@ -27,11 +17,8 @@ module _ (E : Estimate) where
 
   -- of a call that has admitted its arguments, of refusal v, and the table t
   pub admitted-both : (t : List ℕ) {v a : Admission} → a ≡ firstOf v (firstRefusal (tableRules E t)) → a ≡ Admitted → (v ≡ Admitted) × Passes E t
-  admitted-both t {v} e g = let k = both v (firstRefusal (tableRules E t)) (sym e ∙ g) in (k .0, admitted-passes E (admission-rules E t ∙ k .1))
-    where
-      both : (v w : Admission) → firstOf v w ≡ Admitted → (v ≡ Admitted) × (w ≡ Admitted)
-      both Admitted w e = (refl, e)
-      both (Refused f) w e = absurd (let z : _≡_ {A = ℕ} 0 1 = cc in omega arith)
+  admitted-both t {v = Admitted} e g = (refl, admitted-passes E (admission-rules E t ∙ sym e ∙ g))
+  admitted-both t {v = Refused f} e g = absurd (let z : _≡_ {A = ℕ} 0 1 = cc in omega arith)
 
   -- the first refusal of a call with a lent table, and of one over the kept table
   pub first-lent : (rs : List Rule) (t : List ℕ) {a w u : Admission} → w ≡ firstOf a (firstRefusal (tableRules E t)) → a ≡ firstRefusal rs → w ≡ u → firstRefusal (rs ++ tableRules E t) ≡ u
@@ -43,8 +30,5 @@ module _ (E : Estimate) where
   -- what is refused is the same through every table that passes, and so is what is read off the answer by h if it is so where nothing is refused
   pub same-through : {X Y : Type 0} (h : X → Y) (zeros : Refusal → X) {x y : X} {t u : List ℕ} → Passes E t → Passes E u → (rs : List Rule) → (firstRefusal rs ≡ Admitted → h x ≡ h y)
       → h (answerBy zeros x (firstRefusal (rs ++ tableRules E t))) ≡ h (answerBy zeros y (firstRefusal (rs ++ tableRules E u)))
-  same-through h zeros {x} {y} p q rs e = rw (passed-last p rs, passed-last q rs) (go (firstRefusal rs) e)
-    where
-      go : (v : Admission) → (v ≡ Admitted → h x ≡ h y) → h (answerBy zeros x v) ≡ h (answerBy zeros y v)
-      go Admitted e = e refl
-      go (Refused f) e = refl
+  same-through h zeros {x} {y} p q rs e = rw (passed-last p rs, passed-last q rs)
+      ((elim (firstRefusal rs) as (λ v. (v ≡ Admitted → h x ≡ h y) → h (answerBy zeros x v) ≡ h (answerBy zeros y v)) [ Admitted ↦ λ k. k refl | Refused f ↦ λ k. refl ]) e)

@@ -1,13 +1,7 @@
 -- Tables, and a table's index as a row and a column.
-use Rattle.laws.proofs.Basics.{_≡_, subst, List, ⊎-elim, ℕ, _+_, _*_, _/_, _%_, _≤_, _<_, arith, ℤ, length, getD, List·getD-eq-default}
-use Rattle.laws.specs.Search.{First}
-use Rattle.laws.proofs.Comparisons.{not-below}
+use Rattle.laws.{proofs.Basics.{_≡_, List, ⊎-elim, ℕ, _+_, _*_, _/_, _%_, _≤_, _<_, arith, ℤ, length, getD, List·getD-eq-default}, specs.Search.{First}, proofs.Comparisons.{not-below}}
 use Rattle.laws.proofs.Division.{le-or-lt}
-use Rattle.selection.specs.Cell.{LeastWitness, digit}
-use Rattle.selection.specs.computed.Cell.{IsCell}
-use Rattle.selection.specs.Table.{Table, BadAt}
-use Rattle.selection.specs.computed.Table.{FirstBad, NoTable}
-use Rattle.selection.specs.declared.Estimate.{Estimate}
+use Rattle.selection.specs.{Cell.{LeastWitness, digit}, computed.Cell.{IsCell}, Table.{Table, BadAt}, computed.Table.{FirstBad, NoTable}, declared.Estimate.{Estimate}}
 
 -- 2,048 bytes of which none is above 4 are a table
 pub table-of : (t : List ℕ) → length t ≡ 2048 → ((k : ℕ) → k < 2048 → 4 < getD t k 0 → ⊥) → Table t
@@ -32,15 +26,7 @@ cell-column r c h = omega arith
 pub cell-at : {t : List ℕ} → Table t → (k : ℕ) → k < 2048 → IsCell (k / 128) (k % 128) (getD t k 0)
 cell-at a k h = record { row = omega arith; column = omega arith; byte = a .digits k }
 
--- in a divider with the estimate E
 module _ (E : Estimate) where
   -- index f as a cell
   pub first-bad-of : {t : List ℕ} {f D : ℕ} {P : ℤ} → f < 2048 → First (BadAt E t) f → LeastWitness E (f / 128) (f % 128) (digit (getD t f 0)) D P → FirstBad E t (f / 128) (f % 128) D P
-  first-bad-of {t} {f} {D} {P} h b w =
-      let e : f ≡ 128 * (f / 128) + f % 128 = omega arith in
-      record {
-        row = omega arith;
-        column = omega arith;
-        first = subst (First (BadAt E t)) e b;
-        witness = subst (λ (k : ℕ). LeastWitness E (f / 128) (f % 128) (digit (getD t k 0)) D P) e w;
-      }
+  first-bad-of {f = f} h b w = let e : 128 * (f / 128) + f % 128 ≡ f = omega arith in record { row = omega arith; column = omega arith; first = rw e b; witness = rw e w }

@@ -1,14 +1,9 @@
 -- The test of a cell by its row's multiples finds what the search finds: one test that antt computes over all cells and bytes, and one law that carries it to each.
 -- So it is right, and given a row's multiples it gives the verdict of the single cell.
-use Rattle.laws.proofs.Basics.{_≡_, refl, sym, subst, ap₂, Bool, true, false, ℕ, arith, T, eqb, eqb→eq}
-use Rattle.laws.proofs.Tests.{upto, upto-at, both, both-left, both-right}
-use Rattle.selection.specs.computed.Cell.{IsCell}
-use Rattle.selection.specs.computed.CellTest.{Finding, multiplesOf, testOf}
-use Rattle.selection.specs.computed.CellTest.Finding.{NoWitness, LeastAt}
-use Rattle.selection.proofs.Search.{searchOf, search-right}
-use Rattle.selection.proofs.BreakingPoints.{Breaks, IsLeast}
-use Rattle.selection.specs.declared.Estimate.{Estimate}
+use Rattle.laws.proofs.{Basics.{_≡_, refl, sym, subst, ap₂, Bool, true, false, ℕ, arith, T, eqb, eqb→eq}, Tests.{upto, upto-at, both, both-left, both-right}}
+use Rattle.selection.specs.{computed.Cell.{IsCell}, computed.CellTest.{Finding, multiplesOf, testOf}, computed.CellTest.Finding.{NoWitness, LeastAt}, declared.Estimate.{Estimate}}
 use Rattle.selection.specs.declared.Estimate.the-variants.{SevenBits, EightBits}
+use Rattle.selection.proofs.{Search.{searchOf, search-right}, BreakingPoints.{Breaks, IsLeast}}
 
 abbrev same : Finding → Finding → Bool
 same NoWitness NoWitness = true
@@ -31,7 +26,6 @@ unfolding agree
 all-agree SevenBits = tt
 all-agree EightBits = tt
 
--- in a divider with the estimate E
 module _ (E : Estimate) where
   pub tested : {r c b : ℕ} → IsCell r c b → testOf (multiplesOf E r) c b ≡ searchOf E r c b
   unfolding agree

@@ -1,17 +1,10 @@
 -- The single-cell call has one answer: the reported witness is one, and so is the refusal.
-use Rattle.laws.proofs.Basics.{_≡_, refl, sym, ap, _∙_, ℕ, _^_, _≤_, arith, ℤ, _≤ℤ_}
+use Rattle.laws.proofs.{Basics.{_≡_, refl, sym, ap, _∙_, ℕ, _^_, _≤_, arith, ℤ, _≤ℤ_}, Diff.{diff, diffs, diff-eq}}
 use native.Mathlib.Nat.{le-antisymm}
-use Rattle.laws.proofs.Diff.{diff, diffs, diff-eq}
-use Rattle.selection.specs.Cell.{LeastWitness}
-use Rattle.selection.specs.computed.Cell.{CellChecked}
-use Rattle.selection.specs.declared.Witness.{Witness}
-use Rattle.selection.specs.declared.CellVerdict.{CellVerdict}
+use Rattle.selection.specs.{Cell.{LeastWitness}, computed.Cell.{CellChecked}, declared.Witness.{Witness}, declared.CellVerdict.{CellVerdict}, declared.Estimate.{Estimate}}
 use Rattle.selection.specs.declared.CellVerdict.the-variants as C
-use Rattle.selection.proofs.BiasedPoints.{of-point, cell-rules, known-not-refused, not-allowed}
-use Rattle.selection.proofs.Rules.{refusal-one}
-use Rattle.selection.specs.declared.Estimate.{Estimate}
+use Rattle.selection.proofs.{BiasedPoints.{of-point, cell-rules, known-not-refused, not-allowed}, Rules.{refusal-one}}
 
--- in a divider with the estimate E
 module _ (E : Estimate) where
   module _ {r c : ℕ} {q : ℤ} (hr : r ≤ 15) (hc : c ≤ 127) where
     pub one-witness : (v w : Witness) → LeastWitness E r c q (v .divisor) (v .remainder) → LeastWitness E r c q (w .divisor) (w .remainder) → v ≡ w

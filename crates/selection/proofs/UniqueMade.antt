@@ -1,15 +1,11 @@
 -- The made byte of a cell, the made table, the limits of a row and the maker's outcome are each one.
 use Rattle.laws.proofs.Basics.{_≡_, refl, sym, ap, _∙_, not, cond, List, [], _∷_, _++_, ⊎-elim, ℕ, zero, suc, _≤_, _<_, add-one, arith, T-not, eqb, eqb-refl, ltb, length, getD, drop, lt-ltb, le-ltb}
+use Rattle.laws.proofs.{Comparisons.{not-below}, Tests.{upto-at}}
 use native.Mathlib.Nat.{le-antisymm, le-of-suc-le-suc, eq-or-lt-of-le}
 use lib.Seq.{ext-getD}
-use Rattle.laws.proofs.Comparisons.{not-below}
-use Rattle.laws.proofs.Tests.{upto-at}
-use Rattle.selection.specs.Maker.{Made, MadeTable, AreLimits}
-use Rattle.selection.specs.computed.Maker.{limitsRules, makeRules, Limited, MakeOutcome, Makes}
-use Rattle.selection.specs.computed.Refusals.{rank}
-use Rattle.selection.proofs.Rules.{WellFormed, clear, refuses-one}
-use Rattle.selection.specs.declared.maker.Limits.{Limits}
+use Rattle.selection.specs.{Maker.{Made, MadeTable, AreLimits}, computed.Maker.{limitsRules, makeRules, Limited, MakeOutcome, Makes}, computed.Refusals.{rank}, declared.maker.Limits.{Limits}}
 use Rattle.selection.specs.declared.Estimate.{Estimate}
+use Rattle.selection.proofs.Rules.{WellFormed, clear, refuses-one}
 
 -- ---- the limits of a row
 
@@ -42,7 +38,6 @@ pub make-rules : (len : ℕ) → WellFormed (makeRules len)
 unfolding rank
 make-rules len = record { sound = (tt, λ _. tt); in-order = tt }
 
--- in a divider with the estimate E
 module _ (E : Estimate) where
   pub byte-one : {r c a b : ℕ} → Made E r c a → Made E r c b → a ≡ b
   byte-one {a = a} {b = b} m n =

@@ -1,27 +1,14 @@
 -- The check has one answer to each table: one count, one first bad cell, one witness.
-use Rattle.laws.proofs.Basics.{_≡_, refl, sym, ap, _∙_, List, ℕ, _+_, _*_, arith, ℤ, getD}
-use Rattle.laws.proofs.Tests.{less-decides}
-use Rattle.laws.proofs.Counting.{tally-one}
-use Rattle.selection.specs.Cell.{LeastWitness, digit}
-use Rattle.selection.specs.computed.Table.{FirstBad, formRules, Checked, ReportMeaning}
-use Rattle.selection.specs.Table.{Passes}
-use Rattle.selection.specs.declared.table.Outcome.{Outcome}
-use Rattle.selection.specs.declared.table.Outcome.the-variants.{Passed, Bad, Refused}
-use Rattle.selection.specs.declared.table.TableVerdict.{TableVerdict}
-use Rattle.selection.specs.declared.table.BadCell.{BadCell}
-use Rattle.selection.specs.computed.Refusals.{rank}
-use Rattle.selection.proofs.OneRule.{first-one}
-use Rattle.selection.proofs.Rules.{WellFormed, refusal-one}
-use Rattle.selection.proofs.Tables.{no-table}
-use Rattle.selection.proofs.BiasedPoints.{not-allowed}
-use Rattle.selection.proofs.UniqueCell.{one-witness}
+use Rattle.laws.proofs.{Basics.{_≡_, refl, sym, ap, _∙_, List, ℕ, _+_, _*_, arith, ℤ, getD}, Tests.{less-decides}, Counting.{tally-one}}
+use Rattle.selection.specs.{Cell.{LeastWitness, digit}, computed.Table.{FirstBad, formRules, Checked, ReportMeaning}, Table.{Passes}, declared.table.Outcome.{Outcome}}
+use Rattle.selection.specs.{declared.table.Outcome.the-variants.{Passed, Bad, Refused}, declared.table.TableVerdict.{TableVerdict}, declared.table.BadCell.{BadCell}, computed.Refusals.{rank}}
 use Rattle.selection.specs.declared.Estimate.{Estimate}
+use Rattle.selection.proofs.{OneRule.{first-one}, Rules.{WellFormed, refusal-one}, Tables.{no-table}, BiasedPoints.{not-allowed}, UniqueCell.{one-witness}}
 
 pub form-rules : (t : List ℕ) → WellFormed (formRules t)
 unfolding rank
 form-rules t = record { sound = (tt, λ _. ((λ k h. less-decides 4 (getD t k 0)), λ _. tt)); in-order = tt }
 
--- in a divider with the estimate E
 module _ (E : Estimate) where
   bad-one : {t : List ℕ} (a b : BadCell) → FirstBad E t (a .row) (a .column) (a .witness .divisor) (a .witness .remainder)
       → FirstBad E t (b .row) (b .column) (b .witness .divisor) (b .witness .remainder) → a ≡ b

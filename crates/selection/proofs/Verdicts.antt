@@ -1,25 +1,13 @@
 -- What the answers to a table and to a cell tell a caller, by their cases.
 use Rattle.laws.proofs.Basics.{_≡_, refl, sym, subst, _∙_, List, ℕ, _≤_}
-use Rattle.selection.specs.computed.Answer.{cellNumbers, cellZeros}
-use Rattle.selection.proofs.RefusalNames.{refusal, answerBy, Wrongs, firstRefusal, Refuses, refuses}
-use Rattle.selection.specs.declared.Refusal.{Refusal}
-use Rattle.selection.specs.declared.Admission.{Admission}
-use Rattle.selection.specs.computed.Cell.{cellRules, CellMeaning}
-use Rattle.selection.specs.computed.CellTest.{Finding, multiplesOf, testOf, cellVerdictOf}
-use Rattle.selection.specs.computed.CellTest.Finding.{NoWitness, LeastAt}
-use Rattle.selection.specs.computed.Outcomes.{cellOf, reportOf}
-use Rattle.selection.specs.Table.{Table}
+use Rattle.selection.specs.{computed.Answer.{cellNumbers, cellZeros}, declared.Refusal.{Refusal}, computed.Cell.{cellRules, CellMeaning}, computed.CellTest.{multiplesOf, testOf, cellVerdictOf}}
+use Rattle.selection.specs.{computed.CellTest.Finding.{NoWitness, LeastAt}, computed.Outcomes.{cellOf, reportOf}, Table.{Table}, declared.CellVerdict.{CellVerdict}}
+use Rattle.selection.specs.declared.{table.BadCell.{BadCell}, table.TableVerdict.{TableVerdict}, Estimate.{Estimate}}
+use Rattle.selection.proofs.{RefusalNames.{refusal, answerBy, Wrongs, firstRefusal, Refuses, refuses}, BiasedPoints.{cell-rules, cell-checked, known-not-refused}, Reports.{report-means}}
 use Rattle.selection.specs.declared.Admission.the-variants as A
-use Rattle.selection.specs.declared.CellVerdict.{CellVerdict}
 use Rattle.selection.specs.declared.CellVerdict.the-variants as C
-use Rattle.selection.specs.declared.table.BadCell.{BadCell}
 use Rattle.selection.specs.declared.table.Outcome.the-variants as O
-use Rattle.selection.specs.declared.table.TableVerdict.{TableVerdict}
-use Rattle.selection.proofs.BiasedPoints.{cell-rules, cell-checked, known-not-refused}
-use Rattle.selection.proofs.Reports.{report-means}
-use Rattle.selection.specs.declared.Estimate.{Estimate}
 
--- in a divider with the estimate E
 module _ (E : Estimate) where
   -- the check's answer, by its case
   pub passed-table : (t : List ℕ) {a : TableVerdict} → a ≡ reportOf E t → a .outcome ≡ O.Passed → Table t
@@ -38,13 +26,8 @@ module _ (E : Estimate) where
 
   -- a single cell refuses by its rules, with zeros besides
   pub cell-refuses : (r c b : ℕ) → Refuses (Wrongs (cellRules r c b)) (λ x. x .refusal) cellZeros (cellNumbers (cellOf E r c b))
-  cell-refuses r c b = subst (Refuses (Wrongs (cellRules r c b)) (λ x. x .refusal) cellZeros) (sym (numbers (firstRefusal (cellRules r c b))))
-      (refuses (cell-rules r c b) (λ x. x .refusal) cellZeros (cellNumbers (cellVerdictOf (testOf (multiplesOf E r) c b))) (none (testOf (multiplesOf E r) c b)) (λ f. refl) refl)
-    where
-      numbers : (v : Admission) → cellNumbers (answerBy C.Refused (cellVerdictOf (testOf (multiplesOf E r) c b)) v) ≡ answerBy cellZeros (cellNumbers (cellVerdictOf (testOf (multiplesOf E r) c b))) v
-      numbers A.Admitted = refl
-      numbers (A.Refused f) = refl
-
-      none : (h : Finding) → cellNumbers (cellVerdictOf h) .refusal ≡ refusal 0 0
-      none NoWitness = refl
-      none (LeastAt d w) = refl
+  cell-refuses r c b =
+      let v = cellVerdictOf (testOf (multiplesOf E r) c b) in
+      let numbers = elim (firstRefusal (cellRules r c b)) as (λ a. cellNumbers (answerBy C.Refused v a) ≡ answerBy cellZeros (cellNumbers v) a) [ A.Admitted ↦ refl | A.Refused f ↦ refl ] in
+      let none = elim (testOf (multiplesOf E r) c b) as (λ h. cellNumbers (cellVerdictOf h) .refusal ≡ refusal 0 0) [ NoWitness ↦ refl | LeastAt d w ↦ refl ] in
+      subst (Refuses (Wrongs (cellRules r c b)) (λ x. x .refusal) cellZeros) (sym numbers) (refuses (cell-rules r c b) (λ x. x .refusal) cellZeros (cellNumbers v) none (λ f. refl) refl)

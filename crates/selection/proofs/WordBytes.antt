@@ -1,6 +1,5 @@
 -- Words are written out byte by byte, eight stores a turn: the turns of `bytes_of`'s loop.
-use Rattle.laws.proofs.Basics.{_≡_, ap, _∙_, List, [], _∷_, ℕ, suc, _+_, _*_, _/_, _%_, _^_, _≤_, _<_, arith, length, getD, set}
-use Rattle.laws.specs.Lists.{listFrom, filled}
+use Rattle.laws.{proofs.Basics.{_≡_, ap, _∙_, List, [], _∷_, ℕ, suc, _+_, _*_, _/_, _%_, _^_, _≤_, _<_, arith, length, getD, set}, specs.Lists.{listFrom, filled}}
 use Rattle.laws.proofs.Lists.{list-at, fill-more, fill-all}
 use Rattle.selection.specs.computed.WordBytes.{byteOf, wordsBytes}
 

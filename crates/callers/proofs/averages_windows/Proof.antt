@@ -1,11 +1,7 @@
--- `averages_windows` meets its contract: the law of the answer that the export's contract names.
 use Rattle.laws.proofs.Basics.{needs}
 use Rattle.demands.proofs.OfExposure.{averages-windows}
 use Rattle.callers.proofs.averages_windows.Statement.{statement}
 use Rattle.callers.proofs.averages_windows.Tie as tie
 
-returns : tie.Need-returns
-returns c = averages-windows (c .before .before .before .before .quendaric-average-windows .ensures)
-
 pub averages-windows-spec : {M : Type 1} → statement M
-averages-windows-spec = tie.close (tie.spec (λ c κs. search needs) (λ c. search needs) (λ c. search needs) returns)
+averages-windows-spec = tie.close (tie.spec (λ c κs. search needs) (λ c. search needs) (λ c. search needs) (λ c. averages-windows (c .before .before .before .before .quendaric-average-windows .ensures)))

@@ -1,11 +1,7 @@
--- `divides_binary64` meets its contract: the law of the answer that the export's contract names.
 use Rattle.laws.proofs.Basics.{needs}
 use Rattle.demands.proofs.OfDivision.{divides-binary64}
 use Rattle.callers.proofs.divides_binary64.Statement.{statement}
 use Rattle.callers.proofs.divides_binary64.Tie as tie
 
-returns : tie.Need-returns
-returns c = divides-binary64 (c .quendaric-divide-binary64 .ensures)
-
 pub divides-binary64-spec : {M : Type 1} → statement M
-divides-binary64-spec = tie.close (tie.spec (λ c κs. search needs) returns)
+divides-binary64-spec = tie.close (tie.spec (λ c κs. search needs) (λ c. divides-binary64 (c .quendaric-divide-binary64 .ensures)))

@@ -1,11 +1,7 @@
--- `divides_packed` meets its contract: the law of the answer that the export's contract names.
 use Rattle.laws.proofs.Basics.{needs}
 use Rattle.demands.proofs.OfDivision.{divides-packed}
 use Rattle.callers.proofs.divides_packed.Statement.{statement}
 use Rattle.callers.proofs.divides_packed.Tie as tie
 
-returns : tie.Need-returns
-returns c = divides-packed (c .quendaric-divide-packed .ensures)
-
 pub divides-packed-spec : {M : Type 1} → statement M
-divides-packed-spec = tie.close (tie.spec (λ c κs. search needs) returns)
+divides-packed-spec = tie.close (tie.spec (λ c κs. search needs) (λ c. divides-packed (c .quendaric-divide-packed .ensures)))

@@ -1,11 +1,7 @@
--- `divides_samples` meets its contract: the law of the answer that the export's contract names.
 use Rattle.laws.proofs.Basics.{needs}
 use Rattle.demands.proofs.OfDivision.{divides-samples}
 use Rattle.callers.proofs.divides_samples.Statement.{statement}
 use Rattle.callers.proofs.divides_samples.Tie as tie
 
-returns : tie.Need-returns
-returns c = divides-samples (c .before .before .quendaric-divide-samples .ensures)
-
 pub divides-samples-spec : {M : Type 1} → statement M
-divides-samples-spec = tie.close (tie.spec (λ c κs. search needs) (λ c. search needs) returns)
+divides-samples-spec = tie.close (tie.spec (λ c κs. search needs) (λ c. search needs) (λ c. divides-samples (c .before .before .quendaric-divide-samples .ensures)))

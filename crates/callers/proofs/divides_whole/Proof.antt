@@ -1,11 +1,7 @@
--- `divides_whole` meets its contract: the law of the answer that the export's contract names.
 use Rattle.laws.proofs.Basics.{needs}
 use Rattle.demands.proofs.OfDivision.{divides-whole}
 use Rattle.callers.proofs.divides_whole.Statement.{statement}
 use Rattle.callers.proofs.divides_whole.Tie as tie
 
-returns : tie.Need-returns
-returns c = divides-whole (c .quendaric-divide-whole .ensures)
-
 pub divides-whole-spec : {M : Type 1} → statement M
-divides-whole-spec = tie.close (tie.spec (λ c κs. search needs) returns)
+divides-whole-spec = tie.close (tie.spec (λ c κs. search needs) (λ c. divides-whole (c .quendaric-divide-whole .ensures)))

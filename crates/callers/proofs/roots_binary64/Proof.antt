@@ -1,11 +1,7 @@
--- `roots_binary64` meets its contract: the law of the answer that the export's contract names.
 use Rattle.laws.proofs.Basics.{needs}
 use Rattle.demands.proofs.OfDivision.{roots-binary64}
 use Rattle.callers.proofs.roots_binary64.Statement.{statement}
 use Rattle.callers.proofs.roots_binary64.Tie as tie
 
-returns : tie.Need-returns
-returns c = roots-binary64 (c .quendaric-root-binary64 .ensures)
-
 pub roots-binary64-spec : {M : Type 1} → statement M
-roots-binary64-spec = tie.close (tie.spec (λ c κs. search needs) returns)
+roots-binary64-spec = tie.close (tie.spec (λ c κs. search needs) (λ c. roots-binary64 (c .quendaric-root-binary64 .ensures)))

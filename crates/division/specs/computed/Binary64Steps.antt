@@ -40,7 +40,7 @@ roundedQuotient direction s w up down =
 module _ (E : Estimate) where
   -- the quotient of two significands through the table t, 28 digits, with its sticky bit
   unfoldable pub ratioThrough : List ℕ → ℕ → ℕ → ℕ
-  ratioThrough t a b = let r = resultOf E t (a * 256) (b * 256) 28 in 2 * r .quotient + min 1 (r .remainder)
+  ratioThrough t a b = let r = resultOf E t a b 28 in 2 * r .quotient + min 1 (r .remainder)
 
   -- the quotient of two significands with their exponents
   abbrev pub scaledThrough : List ℕ → ℕ → Bool → Scaled → Scaled → Binary64Result
@@ -51,8 +51,8 @@ module _ (E : Estimate) where
   abbrev pub binary64Through : List ℕ → ℕ → ℕ → ℕ → Binary64Result
   binary64Through t direction a b = orRounded (scaledThrough t direction (signOf a b) (significandOf a) (significandOf b)) (byClass a b)
 
--- r is that quotient through every table that passes and has these bytes for the row of b * 256, and it has 55 or 56 bits
+-- r is that quotient through every table that passes and has these bytes for the row of b, and it has 55 or 56 bits
 pub record RatioOf (bytes : List ℕ) (a b r : ℕ) : Type 0 where
-  pub through : (t : List ℕ) → Passes EightBits t → bytes ≡ rowBytes t (row (b * 256)) → r ≡ ratioThrough EightBits t a b
+  pub through : (t : List ℕ) → Passes EightBits t → bytes ≡ rowBytes t (row b) → r ≡ ratioThrough EightBits t a b
   pub low : 2 ^ 54 ≤ r
   pub high : r < 2 ^ 56

@@ -19,7 +19,7 @@ pub record DigitsTaken (m k : ℕ) (x : RootState) : Type 0 where
   pub placed : x .twice ≡ digits * (2 * x .unit)
   pub value : x .twice * x .twice + 4 * (x .unit * x .rest) ≡ 4 * m
   pub left : x .rest < x .twice + x .unit
-  pub room : x .twice + 2 * x .unit ≤ 2 ^ 61
+  pub room : x .twice + 2 * x .unit ≤ 2 ^ 63
 
 -- the whole root of a below 2^60 has 30 bits
 unfoldable pub wholeRoot : ℕ → ℕ

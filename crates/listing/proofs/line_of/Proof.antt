@@ -3,8 +3,7 @@ use Rattle.laws.proofs.Basics.{_/_, _%_, arith, getD, now, needs}
 use borrow.Author.Needs.{sfits-of}
 use mir.Facts.{toZ-ofZ}
 use Rattle.selection.proofs.Verdicts.{never-refused}
-use Rattle.listing.proofs.Lines.{told-line}
-use Rattle.listing.proofs.line_of.Statement.{statement}
+use Rattle.listing.proofs.{Lines.{told-line}, line_of.Statement.{statement}}
 use Rattle.listing.proofs.line_of.Tie as tie
 
 returns-2 : tie.Need-returns-2

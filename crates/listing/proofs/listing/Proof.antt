@@ -1,8 +1,7 @@
 -- `listing::listing` meets its contract: what the check passes or calls bad is a table, and its text is the listing; so is the refusal's.
 use Rattle.laws.proofs.Basics.{arith, needs}
 use Rattle.selection.proofs.Verdicts.{passed-table, bad-table}
-use Rattle.listing.proofs.Listings.{printed}
-use Rattle.listing.proofs.listing.Statement.{statement}
+use Rattle.listing.proofs.{Listings.{printed}, listing.Statement.{statement}}
 use Rattle.listing.proofs.listing.Tie as tie
 
 pub listing-spec : {M : Type 1} → statement M

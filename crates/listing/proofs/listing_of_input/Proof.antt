@@ -1,7 +1,6 @@
 -- `listing::listing_of_input` meets its contract: there is room for more than a table, so that what was read settles what is printed.
 use Rattle.laws.proofs.Basics.{arith, needs}
-use Rattle.listing.proofs.Listings.{lists-read}
-use Rattle.listing.proofs.listing_of_input.Statement.{statement}
+use Rattle.listing.proofs.{Listings.{lists-read}, listing_of_input.Statement.{statement}}
 use Rattle.listing.proofs.listing_of_input.Tie as tie
 
 pub listing-of-input-spec : {M : Type 1} → statement M

@@ -1,8 +1,6 @@
 -- `maker::made` meets its contract: nothing of the 2,048 zeros is left.
 use Rattle.laws.proofs.Basics.{_≡_, ap, _∙_, List, append-nil, ℕ, arith, length, drop-of-length-le, replicate, length-replicate, needs}
-use Rattle.selection.specs.computed.Outcomes.{madeTable, makeOf}
-use Rattle.selection.specs.computed.Maker.{MakeOutcome}
-use Rattle.selection.specs.declared.Estimate.{Estimate}
+use Rattle.selection.specs.{computed.Outcomes.{madeTable, makeOf}, computed.Maker.{MakeOutcome}, declared.Estimate.{Estimate}}
 use Rattle.maker.proofs.made.Statement.{statement}
 use Rattle.maker.proofs.made.Tie as tie
 

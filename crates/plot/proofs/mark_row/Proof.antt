@@ -1,7 +1,6 @@
 -- `plot::mark_row` is safe and ends: a stretch of bad cells ends no earlier than it starts, and its cells are drawn.
 use Rattle.laws.proofs.Basics.{_-_, _≤_, arith, needs}
-use Rattle.plot.proofs.BadCells.{bad-drawn}
-use Rattle.plot.proofs.mark_row.Statement.{statement}
+use Rattle.plot.proofs.{BadCells.{bad-drawn}, mark_row.Statement.{statement}}
 use Rattle.plot.proofs.mark_row.Tie as tie
 
 pub mark-row-spec : {M : Type 1} → statement M

@@ -1,10 +1,7 @@
 -- `printing::magnitude` meets its contract: a number below zero is -n - 1, and then n fits and so does n + 1.
 use Rattle.laws.proofs.Basics.{_≡_, refl, sym, _∙_, ℕ, zero, suc, _+_, _^_, _<_, add-one, arith, ℤ, pos, negsuc, negℤ, natAbs, negℤ-negℤ, _+ℤ_, _-ℤ_, +ℤ-one, +ℤ-idl, needs}
-use mir.Facts.{toZ-ofZ, fits-natAbs}
-use mir.Syntax.{w64}
-use mir.Val.{SFits}
-use Rattle.printing.proofs.Signs.{held, negative, positive}
-use Rattle.printing.proofs.magnitude.Statement.{statement}
+use mir.{Facts.{toZ-ofZ, fits-natAbs}, Syntax.{w64}, Val.{SFits}}
+use Rattle.printing.proofs.{Signs.{held, negative, positive}, magnitude.Statement.{statement}}
 use Rattle.printing.proofs.magnitude.Tie as tie
 
 -- z is -n - 1: one is added, the sign is changed, and one is added again

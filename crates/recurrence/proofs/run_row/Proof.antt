@@ -1,32 +1,23 @@
-use Rattle.laws.proofs.Basics.{needs, _≡_, sym, _∙_, arith, ℕ, _-_, _<_, List, length}
-use Rattle.selection.specs.Cell.{row}
-use Rattle.selection.specs.Table.{Passes}
-use Rattle.selection.specs.computed.Table.{rowBytes}
-use Rattle.laws.proofs.Lists.{fill-none}
+use Rattle.laws.proofs.{Basics.{needs, _≡_, sym, _∙_, arith, ℕ, _-_, _<_, List, length}, Lists.{fill-none}}
+use Rattle.selection.specs.{Cell.{row}, Table.{Passes}, computed.Table.{rowBytes}, declared.Estimate.the-variants.{EightBits}}
 use Rattle.recurrence.specs.Recurrence.{after}
-use Rattle.recurrence.proofs.Digits.{divisor-after}
-use Rattle.recurrence.proofs.Invariant.{invariant-after}
-use Rattle.recurrence.proofs.Pair.{pair-after}
-use Rattle.recurrence.proofs.Correction.{result-from-word}
-use Rattle.recurrence.proofs.Loop.{Reached, stands-divisor, move, reached-length, done}
-use Rattle.recurrence.proofs.Rows.{step-ready}
-use Rattle.recurrence.proofs.run_row.Statement.{statement}
+use Rattle.recurrence.proofs.{Digits.{divisor-after}, Invariant.{invariant-after}, Pair.{pair-after}, Correction.{result-from-word}}
+use Rattle.recurrence.proofs.{Loop.{Reached, stands-divisor, stands-ready, move, reached-length, done}, Rows.{row-digits}, run_row.Statement.{statement}}
 use Rattle.recurrence.proofs.run_row.Tie as tie
-use Rattle.selection.specs.declared.Estimate.the-variants.{EightBits}
 
 abbrev Inv-loop : tie.InvT-loop
-Inv-loop bytes dividend divisor out₀ multiples tops state₀ i₀ out state i =
+Inv-loop bytes dividend divisor out₀ multiples state₀ i₀ out state i =
     (t : List ℕ) → Passes EightBits t → bytes ≡ rowBytes t (row divisor) → Reached t dividend divisor out₀ out state i
 
 abbrev μ-loop : tie.MeasureT-loop
-μ-loop bytes dividend divisor out₀ multiples tops state₀ i₀ out state i = length out₀ - i
+μ-loop bytes dividend divisor out₀ multiples state₀ i₀ out state i = length out₀ - i
 
 loop-holds : tie.Need-loop-holds Inv-loop μ-loop
 unfolding after
 loop-holds c t ok is = record { within = omega arith; stands = c .new .ensures; wrote = sym (fill-none _ _) }
 
 abbrev start : tie.At-loop Inv-loop μ-loop → tie.Start Inv-loop μ-loop
-start l = let multiples = l .before .before .before .before in multiples .before .before .before
+start l = let multiples = l .before .before .before in multiples .before .before .before
 
 -- where the loop stands, through the table that the caller has
 reached : (l : tie.At-loop Inv-loop μ-loop) →
@@ -36,10 +27,8 @@ reached l = let g = start l .pre .0 in l .loop .inv (g .table) (g .passes) (g .i
 next-requires : tie.Need-next-requires Inv-loop μ-loop
 next-requires c κs =
     let l = c .before .before in
-    let tops = l .before .before in
     let s = start l in
-    step-ready (after EightBits (s .pre .0 .table) (s .args .dividend) (s .args .divisor) (l .loop .i)) (s .pre .1 .most) (s .pre .0) (reached l .stands)
-    (divisor-after EightBits _ _ _ (l .loop .i)) (tops .before .before .divisor-multiples .ensures) (tops .all-top-bits .ensures)
+    (row-digits (s .pre .1 .most) (s .pre .0), stands-ready EightBits _ _ _ _ (reached l .stands) (l .before .before .before .divisor-multiples .ensures))
 
 -- one turn: what the call of next gives
 loop-again : tie.Need-loop-again Inv-loop μ-loop
@@ -69,7 +58,7 @@ returns c t ok is =
 pub run-row-spec : {M : Type 1} → statement M
 run-row-spec =
     tie.close (tie.spec Inv-loop μ-loop (λ c κs. c .before .before .pre .1 .most)
-    (λ c κs. search needs) (λ c κs. search needs) loop-holds next-requires
+    (λ c κs. search needs) loop-holds next-requires
     (λ c. c .before .before .loop-test .taken) (λ c. let w = c .before .before in omega (arith, turn w, start (w .before) .pre))
     (λ c. omega (arith, turn (c .before .before))) loop-again
     (λ c κs. rw (reached (c .before) .stands, divisor-after EightBits) (start (c .before) .pre .1 .most)) (λ c. reached-length (reached (c .before .before))) returns)

@@ -14,13 +14,6 @@ use Rattle.recurrence.specs.declared.RunResult.{RunResult}
 use Rattle.selection.specs.declared.Estimate.{Estimate}
 use Rattle.selection.specs.declared.Estimate.the-variants.{SevenBits, EightBits}
 
--- a state with its column, and without it
-abbrev pub withColumn : State → RunState
-withColumn p = record { sum = p .sum; carry = p .carry; divisor = p .divisor; column = column EightBits (p .sum) (p .carry); digit = p .digit; value = p .value; decremented = p .decremented }
-
-abbrev pub stateOf : RunState → State
-stateOf p = record { sum = p .sum; carry = p .carry; divisor = p .divisor; digit = p .digit; value = p .value; decremented = p .decremented }
-
 -- the multiple of the divisor for each digit byte
 abbrev pub divisorMultiples : ℕ → List ℕ
 divisorMultiples D = 2 * D ∷ D ∷ 0 ∷ (2 ^ 64 - 1 - D) ∷ (2 ^ 64 - 1 - 2 * D) ∷ []
@@ -33,6 +26,14 @@ topBitsOf x = (x / 2 ^ 53 + 256) % 512
 abbrev pub allTopBits : List ℕ → ℕ
 allTopBits ms =
     ((((topBitsOf (getD ms 0 0) * 512 + topBitsOf (getD ms 1 0)) * 512 + topBitsOf (getD ms 2 0)) * 512 + topBitsOf (getD ms 3 0)) * 512 + topBitsOf (getD ms 4 0)) * 2 ^ 19
+
+-- a state with its column and the top bits of its divisor's multiples, and without them
+abbrev pub runStateOf : State → RunState
+runStateOf p =
+    record { sum = p .sum; carry = p .carry; divisor = p .divisor; tops = allTopBits (divisorMultiples (p .divisor)); column = column EightBits (p .sum) (p .carry); digit = p .digit; value = p .value; decremented = p .decremented }
+
+abbrev pub stateOf : RunState → State
+stateOf p = record { sum = p .sum; carry = p .carry; divisor = p .divisor; digit = p .digit; value = p .value; decremented = p .decremented }
 
 -- the bits of a word that the next column of a divider with the estimate E needs, before the word is moved up by two bits
 abbrev pub maskOf : Estimate → ℕ
@@ -55,15 +56,10 @@ pub record DigitBytes (bytes : List ℕ) : Type 0 where
   pub size : length bytes ≡ 128
   pub small : (c : ℕ) → c < 128 → getD bytes c 0 ≤ 4
 
--- ms are the multiples of the divisor D, and tops are their top bits
-pub record Multiples (D : ℕ) (ms : List ℕ) (tops : ℕ) : Type 0 where
-  pub each : ms ≡ divisorMultiples D
-  pub top-bits : tops ≡ allTopBits ms
-
--- what a step asks of the row's bytes, the multiples, their top bits and the state
-pub record StepReady (bytes ms : List ℕ) (tops : ℕ) (p : RunState) : Type 0 where
-  pub digits : DigitBytes bytes
-  pub multiples : Multiples (p .divisor) ms tops
+-- what a step asks of the state and the multiples that it is lent
+pub record StepReady (ms : List ℕ) (p : RunState) : Type 0 where
+  pub multiples : ms ≡ divisorMultiples (p .divisor)
+  pub tops : p .tops ≡ allTopBits ms
   pub current : p .column ≡ column EightBits (p .sum) (p .carry)
 
 -- one of the pair v, u renewed, u the decremented one: with k = 4 + q the value, with k = 3 + q the decremented value. For k below 4 it is u with the bits k, else v with the bits k − 4

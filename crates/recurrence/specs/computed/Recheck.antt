@@ -11,14 +11,14 @@ use Rattle.selection.specs.Answer.{refusal}
 use Rattle.selection.specs.computed.Answer.{answerBy}
 use Rattle.selection.specs.computed.Bits.{forBits}
 use Rattle.selection.specs.Cell.{row}
-use Rattle.selection.specs.computed.Refusals.{Rule, below, same, differ, eitherOf, number, firstRefusal, Wrongs, Refuses}
+use Rattle.selection.specs.computed.Refusals.{Rule, below, differ, eitherOf, number, firstRefusal, Wrongs, Refuses}
 use Rattle.selection.specs.Repair.{FaultyAt}
 use Rattle.selection.specs.computed.Table.{rowBytes}
 use Rattle.selection.specs.declared.Estimate.{Estimate}
 use Rattle.selection.specs.declared.Refusal.{Refusal}
 use Rattle.recurrence.specs.CarrySave.{multiple, lowestCarry}
 use Rattle.recurrence.specs.Recurrence.{State, Operands, residue, cellAt, after, digits, value, endRemainder, correctedQuotient, correctedRemainder, resultOf}
-use Rattle.recurrence.specs.computed.Run.{longest, divisorOutside}
+use Rattle.recurrence.specs.computed.Run.{longest, digitsOutside, divisorOutside}
 use Rattle.recurrence.specs.declared.RunResult.{RunResult}
 use Rattle.recurrence.specs.declared.recheck.AffectedMark.{AffectedMark}
 
@@ -99,7 +99,7 @@ module _ (E : Estimate) where
 -- § 17.6 Affected records are refused under these rules.
 unfoldable pub affectedRunRules : ℕ → ℕ → ℕ → ℕ → List Rule
 affectedRunRules len N D n =
-    number 2 (eitherOf (same n 0) (below longest n))
+    number 2 (digitsOutside longest n)
     ∷ number 3 (eitherOf (divisorOutside D) (below (2 ^ 61 - 1) N))
     ∷ number 8 (differ len 2048)
     ∷ []

@@ -22,9 +22,9 @@ longest = 31
 abbrev pub mostDigits : ℕ
 mostDigits = 28
 
--- a number of digits that a caller may not ask for: 0, or above the most
-abbrev pub digitsOutside : ℕ → Condition
-digitsOutside n = eitherOf (same n 0) (below mostDigits n)
+-- a number of digits that may not be asked for: 0, or above the most
+abbrev pub digitsOutside : ℕ → ℕ → Condition
+digitsOutside most n = eitherOf (same n 0) (below most n)
 
 -- a divisor outside its span, from 2^60 to 2^61 - 1
 abbrev pub divisorOutside : ℕ → Condition
@@ -34,12 +34,12 @@ divisorOutside D = eitherOf (below D (2 ^ 60)) (below (2 ^ 61 - 1) D)
 -- § 18.1 Each condition has a number and a place.
 unfoldable pub runRules : ℕ → ℕ → ℕ → ℕ → ℕ → List Rule
 runRules N D n len place =
-    number 2 (digitsOutside n)
+    number 2 (digitsOutside mostDigits n)
     ∷ number 3 (eitherOf (divisorOutside D) (below (2 ^ 61 - 1) N))
     ∷ number 7 (tooShort len (place + n))
     ∷ []
 
--- what `run_part` and `run_admitted` ask: up to `longest` digits, more than a caller may ask for, and room for them
+-- what `run_part` asks: up to `longest` digits, more than a caller may ask for, and room for them
 pub record RunSpans (N D n len place : ℕ) : Type 0 where
   pub operands : Operands N D
   pub some : 1 ≤ n
@@ -67,8 +67,10 @@ pub record RunOutcome : Type 0 where
 abbrev pub runRefused : List ℕ → Refusal → RunOutcome
 runRefused b f = record { answer = runZeros f; buffer = b }
 
+-- not refused
+abbrev pub runDone : List ℕ → ℕ → ℕ → ℕ → List ℕ → ℕ → RunOutcome
+runDone t N D n b place = record { answer = runValues (resultOf EightBits t N D n); buffer = written b place (digits EightBits t N D n) n }
+
 -- the outcome, where the buffer held b: after the arguments' refusals the table's, 8, 9, 10
 abbrev pub runOf : List ℕ → ℕ → ℕ → ℕ → List ℕ → ℕ → RunOutcome
-runOf t N D n b place =
-    answerBy (runRefused b) (record { answer = runValues (resultOf EightBits t N D n); buffer = written b place (digits EightBits t N D n) n })
-    (firstRefusal (runRules N D n (length b) place ++ tableRules EightBits t))
+runOf t N D n b place = answerBy (runRefused b) (runDone t N D n b place) (firstRefusal (runRules N D n (length b) place ++ tableRules EightBits t))

@@ -16,7 +16,7 @@ use Rattle.selection.specs.Table.{Passes}
 use Rattle.selection.specs.computed.Table.{tableRules}
 use Rattle.selection.specs.declared.Refusal.{Refusal}
 use Rattle.recurrence.specs.Recurrence.{cellAt, after}
-use Rattle.recurrence.specs.computed.Run.{digitsOutside}
+use Rattle.recurrence.specs.computed.Run.{mostDigits, digitsOutside}
 use Rattle.selection.specs.declared.Estimate.the-variants.{EightBits}
 
 -- ---- the counts
@@ -65,7 +65,7 @@ pub record VisitsClaim (t : List ℕ) (k n : ℕ) : Type 0 where
 -- § 15.3 Visits are refused under these rules.
 unfoldable pub visitsRules : ℕ → ℕ → ℕ → List Rule
 visitsRules k n len =
-    number 2 (digitsOutside n)
+    number 2 (digitsOutside mostDigits n)
     ∷ number 16 (eitherOf (same k 0) (below 6 k))
     ∷ number 7 (tooShort len 2048)
     ∷ []

@@ -2,8 +2,7 @@
 use Rattle.laws.proofs.Basics.{_≡_, refl, _+_, _*_, _-_, _≤_, arith}
 use Rattle.printing.proofs.Texts.{Growing, growing-more, appended-none}
 use Rattle.repair.specs.Changes.{cellsUpto}
-use Rattle.repair.proofs.Writing.{cells-more}
-use Rattle.repair.proofs.append_cells.Statement.{statement}
+use Rattle.repair.proofs.{Writing.{cells-more}, append_cells.Statement.{statement}}
 use Rattle.repair.proofs.append_cells.Tie as tie
 
 abbrev Inv-loop : tie.InvT-loop
@@ -21,11 +20,7 @@ loop-again c =
     let cell = c .before .before in
     (omega arith, growing-more (cell .before .before .before .before .before .loop .inv .1) (cell .append-cell .ensures .0) (cells-more _ _ _) (omega arith) (omega arith))
 
-returns : tie.Need-returns Inv-loop μ-loop
-returns c = let e : c .before .loop .k ≡ 2048 = omega arith in (rw e at (c .before .loop .inv .1 .text), omega arith)
-
 pub append-cells-spec : {M : Type 1} → statement M
 append-cells-spec =
-    tie.close (tie.spec Inv-loop μ-loop loop-holds (λ c. omega arith) (λ c. omega arith)
-    (λ c κs. omega arith) (λ c. omega arith) (λ c. omega arith) loop-again
-    (λ c. c .before .loop .inv .1 .size) returns)
+    tie.close (tie.spec Inv-loop μ-loop loop-holds (λ c. omega arith) (λ c. omega arith) (λ c κs. omega arith) (λ c. omega arith) (λ c. omega arith) loop-again
+    (λ c. c .before .loop .inv .1 .size) (λ c. let e : c .before .loop .k ≡ 2048 = omega arith in (rw e at (c .before .loop .inv .1 .text), omega arith)))

@@ -2,8 +2,7 @@
 use Rattle.laws.proofs.Basics.{ℕ, arith, replicate, length-replicate, needs}
 use lib.Seq.{take-all}
 use Rattle.printing.proofs.Texts.{appended-size, appended-take, counts}
-use Rattle.repair.proofs.Writing.{Called, sizes, writes-table, writes-refusal}
-use Rattle.repair.proofs.repair.Statement.{statement}
+use Rattle.repair.proofs.{Writing.{Called, sizes, writes-table, writes-refusal}, repair.Statement.{statement}}
 use Rattle.repair.proofs.repair.Tie as tie
 
 abbrev start : tie.After-repair-table → tie.Start

@@ -1,7 +1,6 @@
 -- `repair::repair_input` meets its contract: there is room for more than a table, so that what was read settles what is written.
 use Rattle.laws.proofs.Basics.{arith, needs}
-use Rattle.repair.proofs.Writing.{writes-read}
-use Rattle.repair.proofs.repair_input.Statement.{statement}
+use Rattle.repair.proofs.{Writing.{writes-read}, repair_input.Statement.{statement}}
 use Rattle.repair.proofs.repair_input.Tie as tie
 
 pub repair-input-spec : {M : Type 1} → statement M

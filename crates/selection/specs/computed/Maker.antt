@@ -1,7 +1,7 @@
 -- The maker's calls: what they refuse, and their answers: the specification, section 5.
 use mathlib.Core.Path.{_≡_}
 use mathlib.Core.List.{List, [], _∷_, _++_}
-use Prim.Native.Nat.{ℕ, _+_}
+use Prim.Native.Nat.{ℕ}
 use lib.ListN.{length, drop}
 use Rattle.selection.specs.computed.Refusals.{Rule, tooShort, below, number, Wrongs, Refuses}
 use Rattle.selection.specs.declared.Refusal.{Refusal}

@@ -1,7 +1,5 @@
 -- `vectors::count_lines` meets its contract: after k lines, so many of them differ.
-use Rattle.laws.proofs.Basics.{_≡_, sym, ap, _∙_, ⊎-elim, _-_, _≤_, arith, needs}
-use Rattle.laws.specs.Counting.{countBelow}
-use Rattle.laws.proofs.Counting.{count-start, count-one, count-other, count-most}
+use Rattle.laws.{proofs.Basics.{_≡_, sym, ap, _∙_, ⊎-elim, _-_, _≤_, arith, needs}, specs.Counting.{countBelow}, proofs.Counting.{count-start, count-one, count-other, count-most}}
 use Rattle.vectors.specs.Vectors.{lineDiffers, differsAt, linesIn, countsOf}
 use Rattle.vectors.proofs.count_lines.Statement.{statement}
 use Rattle.vectors.proofs.count_lines.Tie as tie

@@ -1,6 +1,5 @@
 -- `vectors::differs` meets its contract: the unit's answer is the one that the contracts of division and root name.
-use Rattle.laws.proofs.Basics.{needs}
-use Rattle.laws.proofs.Tests.{tests}
+use Rattle.laws.proofs.{Basics.{needs}, Tests.{tests}}
 use Rattle.vectors.proofs.differs.Statement.{statement}
 use Rattle.vectors.proofs.differs.Tie as tie
 

@@ -25,13 +25,11 @@ one-more : {v d n : ℕ} (s : List ℕ) (at i : ℕ) → Spelled s at n v i → 
 unfolding hexOf
 one-more s at i p h e l = record { read = omega arith; spells = rw (p .spells, e, add-one i); small = rw (add-one i, pow-succ' 16 i) (omega (arith, p .small)) }
 
-returns : tie.Need-returns Inv-loop μ-loop
-returns c = let e : c .before .loop .i ≡ c .before .before .before .args .n = omega arith in (rw e at (c .before .loop .inv .spells), rw e at (c .before .loop .inv .small))
-
 pub hex-spec : {M : Type 1} → statement M
 unfolding hexOf
 hex-spec =
     tie.close (tie.spec Inv-loop μ-loop (λ c. record { read = omega arith; spells = refl; small = omega arith })
     (λ c. omega (arith, room _ (c .before .loop .inv .small) (omega arith))) (λ c. omega arith) (λ c. omega arith) (λ c κs. search needs)
     (λ c. omega (arith, room _ (c .before .before .before .loop .inv .small) (omega arith))) (λ c. omega arith) (λ c. omega arith)
-    (λ c. one-more _ _ _ (c .before .before .before .loop .inv) (omega arith) (c .nibble .ensures .0) (c .nibble .ensures .1)) returns)
+    (λ c. one-more _ _ _ (c .before .before .before .loop .inv) (omega arith) (c .nibble .ensures .0) (c .nibble .ensures .1))
+    (λ c. let e : c .before .loop .i ≡ c .before .before .before .args .n = omega arith in (rw e at (c .before .loop .inv .spells), rw e at (c .before .loop .inv .small))))

@@ -1,7 +1,6 @@
 -- `vectors::line_differs` meets its contract, test by test.
-use Rattle.laws.proofs.Basics.{ap, _∙_, needs, eq-eqb}
+use Rattle.laws.proofs.{Basics.{ap, _∙_, needs, eq-eqb}, Tests.{tests}}
 use borrow.Author.Tests.{not-true, not-false}
-use Rattle.laws.proofs.Tests.{tests}
 use Rattle.vectors.specs.Vectors.{differsIn}
 use Rattle.vectors.proofs.line_differs.Statement.{statement}
 use Rattle.vectors.proofs.line_differs.Tie as tie

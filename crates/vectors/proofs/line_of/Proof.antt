@@ -7,10 +7,8 @@ use Rattle.vectors.proofs.line_of.Tie as tie
 rest-is : (s : List ℕ) (n : ℕ) → take (length s - n) (drop n s) ≡ drop n s
 rest-is s n = take-all (length s - n) (drop n s) (omega (arith, length-drop n s))
 
-returns : tie.Need-returns
-returns c = let a = c .before .before .args in rest-is (a .bytes .now) (56 * a .k) ∙ sym (take-all 56 _ (simp length-drop (omega arith)))
-
 pub line-of-spec : {M : Type 1} → statement M
 line-of-spec =
-    tie.close (tie.spec (λ c. search needs) (λ c. search needs) (λ c. search needs)
-    (λ c. search needs) returns (λ c. simp (length-take, length-drop) (omega arith)) (λ c. rw rest-is))
+    tie.close (tie.spec (λ c. search needs) (λ c. search needs) (λ c. search needs) (λ c. search needs)
+    (λ c. let a = c .before .before .args in rest-is (a .bytes .now) (56 * a .k) ∙ sym (take-all 56 _ (simp length-drop (omega arith))))
+    (λ c. simp (length-take, length-drop) (omega arith)) (λ c. rw rest-is))

@@ -1,6 +1,5 @@
 -- `vectors::nibble` meets its contract, case by case.
-use Rattle.laws.proofs.Basics.{arith, needs}
-use Rattle.laws.proofs.Tests.{tests}
+use Rattle.laws.proofs.{Basics.{arith, needs}, Tests.{tests}}
 use Rattle.vectors.proofs.nibble.Statement.{statement}
 use Rattle.vectors.proofs.nibble.Tie as tie
 

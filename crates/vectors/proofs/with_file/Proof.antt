@@ -1,11 +1,7 @@
 -- `vectors::with_file` meets its contract: nothing, or one line more. What is told of a file is small.
-use Rattle.laws.proofs.Basics.{_≡_, refl, sym, subst, _∙_, Bool, true, false, cond, List, ℕ, _≤_, arith, leb, length, take, length-take, needs, leb-false}
-use Rattle.laws.proofs.Counting.{count-most}
+use Rattle.laws.proofs.{Basics.{_≡_, refl, sym, subst, _∙_, Bool, true, false, cond, List, ℕ, _≤_, arith, leb, length, take, length-take, needs, leb-false}, Counting.{count-most}}
 use Rattle.printing.proofs.Texts.{appended-none}
-use Rattle.vectors.specs.Vectors.{Ran, countsOf, differsAt, linesIn}
-use Rattle.vectors.specs.declared.Counts.{Counts}
-use Rattle.vectors.specs.declared.FileRun.{FileRun}
-use Rattle.vectors.specs.declared.FileRun.the-variants.{Unread, Counted}
+use Rattle.vectors.specs.{Vectors.{Ran, countsOf, differsAt, linesIn}, declared.Counts.{Counts}, declared.FileRun.{FileRun}, declared.FileRun.the-variants.{Unread, Counted}}
 use Rattle.vectors.proofs.with_file.Statement.{statement}
 use Rattle.vectors.proofs.with_file.Tie as tie
 

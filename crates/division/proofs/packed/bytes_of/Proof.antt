@@ -1,7 +1,6 @@
 -- `bytes_of` meets its contract: two digits a byte, the last byte first.
 use Rattle.laws.proofs.Basics.{arith, needs}
-use Rattle.division.proofs.PackedBytes.{SetFrom, set-none, set-more, set-all}
-use Rattle.division.proofs.packed.bytes_of.Statement.{statement}
+use Rattle.division.proofs.{PackedBytes.{SetFrom, set-none, set-more, set-all}, packed.bytes_of.Statement.{statement}}
 use Rattle.division.proofs.packed.bytes_of.Tie as tie
 
 abbrev Inv-loop : tie.InvT-loop

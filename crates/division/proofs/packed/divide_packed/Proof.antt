@@ -1,7 +1,6 @@
 -- `divide_packed` meets its contract: 15, then 5, or else the division of the two numbers.
 use Rattle.laws.proofs.Basics.{sym, _∙_, arith, needs}
-use Rattle.division.proofs.PackedCalls.{byte-refused, zero-refused, none-refused}
-use Rattle.division.proofs.packed.divide_packed.Statement.{statement}
+use Rattle.division.proofs.{PackedCalls.{byte-refused, zero-refused, none-refused}, packed.divide_packed.Statement.{statement}}
 use Rattle.division.proofs.packed.divide_packed.Tie as tie
 
 returns : tie.Need-returns

@@ -1,7 +1,5 @@
 -- `first_above_9` meets its contract: no half byte is above 9 before the index that it gives.
-use Rattle.laws.proofs.Basics.{_≤_, _-_, _≡_, refl, sym, _∙_, arith, needs}
-use Rattle.laws.specs.Search.{firstFrom}
-use Rattle.laws.proofs.Search.{first-here, first-on, first-end}
+use Rattle.laws.{proofs.Basics.{_≤_, _-_, _≡_, refl, sym, _∙_, arith, needs}, specs.Search.{firstFrom}, proofs.Search.{first-here, first-on, first-end}}
 use Rattle.division.specs.computed.Packed.{operandByte, isAbove9, firstAbove9}
 use Rattle.division.proofs.packed.first_above_9.Statement.{statement}
 use Rattle.division.proofs.packed.first_above_9.Tie as tie

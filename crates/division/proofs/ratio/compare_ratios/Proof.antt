@@ -1,7 +1,6 @@
 -- `compare_ratios` meets its contract: the first refusal, or else the order.
 use Rattle.laws.proofs.Basics.{sym, _∙_, needs}
-use Rattle.division.proofs.RatioCalls.{ratios-spans}
-use Rattle.division.proofs.ratio.compare_ratios.Statement.{statement}
+use Rattle.division.proofs.{RatioCalls.{ratios-spans}, ratio.compare_ratios.Statement.{statement}}
 use Rattle.division.proofs.ratio.compare_ratios.Tie as tie
 
 pub compare-ratios-spec : {M : Type 1} → statement M

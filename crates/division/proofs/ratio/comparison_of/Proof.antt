@@ -2,8 +2,7 @@
 use native.Mathlib.Nat.{pos-of-ne-zero}
 use Rattle.laws.proofs.Basics.{_≡_, refl, sym, _∙_, _+_, _*_, arith, needs}
 use Rattle.division.specs.computed.Ratios.{Ratios, Round, comparisonOf}
-use Rattle.division.proofs.Ratios.{code-round, round-again, round-falls}
-use Rattle.division.proofs.ratio.comparison_of.Statement.{statement}
+use Rattle.division.proofs.{Ratios.{code-round, round-next}, ratio.comparison_of.Statement.{statement}}
 use Rattle.division.proofs.ratio.comparison_of.Tie as tie
 
 abbrev Inv-loop : tie.InvT-loop
@@ -20,16 +19,12 @@ turn c = code-round _ _ _ _ _ _ (c .before .before .loop .inv .0) (c .before .di
 abbrev both : tie.Else2 Inv-loop μ-loop → tie.After-divide-kept2 Inv-loop μ-loop
 both c = let e = c .before .before .before in e .before .before .before
 
-loop-less : tie.Need-loop-less Inv-loop μ-loop
-loop-less c =
-    let k = both (c .before .before .before .before) in
-    omega (arith, round-falls _ _ _ _ _ _ (k .before .before .loop .inv .0) (k .before .divide-kept .ensures) (k .divide-kept2 .ensures) (c .before .before .if3 .left) (c .if5 .left))
-
+-- the next ratios, whose divisors have a smaller sum, compare alike
 loop-again : tie.Need-loop-again Inv-loop μ-loop
 loop-again c =
     let k = both (c .before .before .before .before) in
     let i = k .before .before .loop .inv in (
-      round-again _ _ _ _ _ _ (i .0) (k .before .divide-kept .ensures) (k .divide-kept2 .ensures) (c .before .before .if3 .left) (c .if5 .left),
+      round-next _ _ _ _ _ _ (i .0) (k .before .divide-kept .ensures) (k .divide-kept2 .ensures) (c .before .before .if3 .left) (c .if5 .left) .0,
       turn k .next (omega arith) (pos-of-ne-zero (c .before .before .if3 .left)) (pos-of-ne-zero (c .if5 .left)) ∙ i .1,
     )
 
@@ -41,4 +36,5 @@ comparison-of-spec =
     (λ c. let k = both (c .before .before .before .before) in sym (turn k .both-end (omega arith) (c .before .before .if3 .taken) (c .if4 .taken)) ∙ k .before .before .loop .inv .1)
     (λ c. let k = both (c .before .before .before .before) in sym (turn k .first-ends (omega arith) (c .before .before .if3 .taken) (pos-of-ne-zero (c .if4 .left))) ∙ k .before .before .loop .inv .1)
     (λ c. let k = both (c .before .before .before .before) in sym (turn k .second-ends (omega arith) (pos-of-ne-zero (c .before .before .if3 .left)) (c .if5 .taken)) ∙ k .before .before .loop .inv .1)
-    loop-less loop-again)
+    (λ c. let k = both (c .before .before .before .before) in omega (arith, round-next _ _ _ _ _ _ (k .before .before .loop .inv .0) (k .before .divide-kept .ensures) (k .divide-kept2 .ensures) (c .before .before .if3 .left) (c .if5 .left)))
+    loop-again)

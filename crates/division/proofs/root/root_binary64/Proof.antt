@@ -1,7 +1,6 @@
 -- `root_binary64` meets its contract: only the direction can be refused.
 use Rattle.laws.proofs.Basics.{sym, _∙_, needs}
-use Rattle.division.proofs.DivisionCalls.{direction-span}
-use Rattle.division.proofs.root.root_binary64.Statement.{statement}
+use Rattle.division.proofs.{DivisionCalls.{direction-span}, root.root_binary64.Statement.{statement}}
 use Rattle.division.proofs.root.root_binary64.Tie as tie
 
 pub root-binary64-spec : {M : Type 1} → statement M

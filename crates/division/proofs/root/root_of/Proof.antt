@@ -1,7 +1,6 @@
 -- `root_of` meets its contract: what the class decides, or the rounded root.
 use Rattle.laws.proofs.Basics.{sym, _∙_, needs}
-use Rattle.division.proofs.RootCalls.{root-operand}
-use Rattle.division.proofs.root.root_of.Statement.{statement}
+use Rattle.division.proofs.{RootCalls.{root-operand}, root.root_of.Statement.{statement}}
 use Rattle.division.proofs.root.root_of.Tie as tie
 
 pub root-of-spec : {M : Type 1} → statement M

@@ -1,7 +1,6 @@
 -- `root_whole` meets its contract: 2^60 and more are refused.
 use Rattle.laws.proofs.Basics.{sym, _∙_, needs}
-use Rattle.division.proofs.RootCalls.{root-span}
-use Rattle.division.proofs.root.root_whole.Statement.{statement}
+use Rattle.division.proofs.{RootCalls.{root-span}, root.root_whole.Statement.{statement}}
 use Rattle.division.proofs.root.root_whole.Tie as tie
 
 pub root-whole-spec : {M : Type 1} → statement M

@@ -1,7 +1,6 @@
 -- `rounded_result` meets its contract: the pattern overflows exactly where the magnitude does.
 use Rattle.laws.proofs.Basics.{sym, arith, needs}
-use Rattle.division.proofs.RoundedResults.{rounded-near, sign-le, huge-le, result-over, result-fits}
-use Rattle.division.proofs.rounding.rounded_result.Statement.{statement}
+use Rattle.division.proofs.{RoundedResults.{rounded-near, sign-le, huge-le, result-over, result-fits}, rounding.rounded_result.Statement.{statement}}
 use Rattle.division.proofs.rounding.rounded_result.Tie as tie
 
 returns : tie.Need-returns

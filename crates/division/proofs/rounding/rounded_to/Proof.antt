@@ -1,6 +1,5 @@
 -- `rounded_to` meets its contract, mode by mode and tail by tail.
-use Rattle.laws.proofs.Basics.{_≡_, arith, lt-ltb, ne-eqb, needs}
-use Rattle.laws.proofs.Tests.{tests}
+use Rattle.laws.proofs.{Basics.{_≡_, arith, lt-ltb, ne-eqb, needs}, Tests.{tests}}
 use Rattle.division.proofs.rounding.rounded_to.Statement.{statement}
 use Rattle.division.proofs.rounding.rounded_to.Tie as tie
 

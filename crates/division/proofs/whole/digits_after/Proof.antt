@@ -1,8 +1,7 @@
 -- `digits_after` meets its contract: there are four zeros at least above a number below 2^60.
 use Rattle.laws.proofs.Basics.{_≡_, ℕ, _^_, _≤_, _<_, refl, arith, needs}
 use Rattle.division.specs.computed.WholeSteps.{digitsAfter, DigitCount}
-use Rattle.division.proofs.WholeThrough.{room-above, after-bounds}
-use Rattle.division.proofs.whole.digits_after.Statement.{statement}
+use Rattle.division.proofs.{WholeThrough.{room-above, after-bounds}, whole.digits_after.Statement.{statement}}
 use Rattle.division.proofs.whole.digits_after.Tie as tie
 
 -- the number that the code gives is the definition's, and so has its bounds

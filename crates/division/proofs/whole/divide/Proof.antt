@@ -1,8 +1,7 @@
 -- `divide` meets its contract: the quotient goes through the row of the divisor moved up.
 use Rattle.laws.proofs.Basics.{arith, needs}
 use Rattle.recurrence.proofs.Rows.{row-of}
-use Rattle.division.proofs.DivisionCalls.{shifted-is}
-use Rattle.division.proofs.whole.divide.Statement.{statement}
+use Rattle.division.proofs.{DivisionCalls.{shifted-is}, whole.divide.Statement.{statement}}
 use Rattle.division.proofs.whole.divide.Tie as tie
 
 pub divide-spec : {M : Type 1} → statement M

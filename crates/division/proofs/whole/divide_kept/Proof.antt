@@ -1,11 +1,9 @@
 -- `divide_kept` meets its contract: the quotient goes through the kept table's row of the divisor moved up.
 use Rattle.laws.proofs.Basics.{arith, needs}
-use Rattle.selection.proofs.MadeTables.{kept-passes}
+use Rattle.selection.{proofs.MadeTables.{kept-passes}, specs.declared.Estimate.the-variants.{EightBits}}
 use Rattle.recurrence.proofs.Rows.{row-of-kept}
-use Rattle.division.proofs.DivisionCalls.{shifted-is}
-use Rattle.division.proofs.whole.divide_kept.Statement.{statement}
+use Rattle.division.proofs.{DivisionCalls.{shifted-is}, whole.divide_kept.Statement.{statement}}
 use Rattle.division.proofs.whole.divide_kept.Tie as tie
-use Rattle.selection.specs.declared.Estimate.the-variants.{EightBits}
 
 pub divide-kept-spec : {M : Type 1} → statement M
 divide-kept-spec =

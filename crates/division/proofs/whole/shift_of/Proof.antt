@@ -1,6 +1,5 @@
 -- `shift_of` meets its contract: the leading zeros put the leading one at bit 60.
-use Rattle.laws.proofs.Basics.{refl, lit<}
-use Rattle.laws.proofs.Powers.{lifted}
+use Rattle.laws.proofs.{Basics.{refl, lit<}, Powers.{lifted}}
 use Rattle.division.proofs.whole.shift_of.Statement.{statement}
 use Rattle.division.proofs.whole.shift_of.Tie as tie
 

@@ -1,7 +1,6 @@
 -- `shifted_run` meets its contract: the dividend that it moves up does not wrap, and the part lent has as many bytes as the run has digits.
 use Rattle.laws.proofs.Basics.{arith, length-take, needs}
-use Rattle.division.proofs.DivisionCalls.{divisor-word, run-words}
-use Rattle.division.proofs.whole.shifted_run.Statement.{statement}
+use Rattle.division.proofs.{DivisionCalls.{divisor-word, run-words}, whole.shifted_run.Statement.{statement}}
 use Rattle.division.proofs.whole.shifted_run.Tie as tie
 
 pub shifted-run-spec : {M : Type 1} → statement M

@@ -4,9 +4,6 @@ use Rattle.selection.proofs.Verdicts.{verdict-says, never-refused}
 use Rattle.plot.proofs.cells.allowed.Statement.{statement}
 use Rattle.plot.proofs.cells.allowed.Tie as tie
 
-returns : tie.Need-returns
-returns c = record { yes = λ e. verdict-says _ _ _ _ (c .before .before .check-cell .ensures) (c .enum-told .given .1) .1; no = λ e. absurd (true≢false e) }
-
 returns-2 : tie.Need-returns-2
 returns-2 c =
     let w = verdict-says _ _ _ _ (c .before .before .check-cell .ensures) (c .enum-told2 .given .1) .1 in
@@ -14,5 +11,7 @@ returns-2 c =
 
 pub allowed-spec : {M : Type 1} → statement M
 allowed-spec =
-    tie.close (tie.spec (λ c κs. search needs) (λ c. search needs) (λ c. search needs) (λ c. search needs) returns returns-2
+    tie.close (tie.spec (λ c κs. search needs) (λ c. search needs) (λ c. search needs) (λ c. search needs)
+    (λ c. record { yes = λ e. verdict-says _ _ _ _ (c .before .before .check-cell .ensures) (c .enum-told .given .1) .1; no = λ e. absurd (true≢false e) })
+    returns-2
     (λ c. let a = c .before .before .before .args in never-refused (a .estimate) (a .row) (a .column) (a .byte) (omega arith) (omega arith) (omega arith) (c .before .before .check-cell .ensures) (c .enum-told3 .given .1)))

@@ -1,7 +1,6 @@
 -- `plot::cells::bad_end` meets its contract: all columns passed are bad.
 use Rattle.laws.proofs.Basics.{_-_, arith}
-use Rattle.plot.proofs.BadCells.{BadSoFar, bad-more}
-use Rattle.plot.proofs.cells.bad_end.Statement.{statement}
+use Rattle.plot.proofs.{BadCells.{BadSoFar, bad-more}, cells.bad_end.Statement.{statement}}
 use Rattle.plot.proofs.cells.bad_end.Tie as tie
 
 abbrev Inv-loop : tie.InvT-loop
@@ -20,11 +19,8 @@ loop-again c =
     let w = c .before .cell-at .ensures .own .no (c .if1 .left) in
     bad-more _ (c .before .before .before .loop .inv) (omega arith) (record { divisor = w .divisor; remainder = w .remainder; against = w .against })
 
-returns-2 : tie.Need-returns-2 Inv-loop μ-loop
-returns-2 c = let i = c .before .loop .inv in record { starts = i .starts; within = i .within; bad = i .bad; next = λ h. absurd (omega arith) }
-
 pub bad-end-spec : {M : Type 1} → statement M
 bad-end-spec =
-    tie.close (tie.spec Inv-loop μ-loop
-    (λ c. record { starts = omega arith; within = omega arith; bad = λ k l h. absurd (omega arith) }) (λ c. omega arith)
-    (λ c. omega arith) (λ c κs. (c .before .before .before .pre .0, omega arith)) returns (λ c. omega arith) (λ c. omega arith) loop-again returns-2)
+    tie.close (tie.spec Inv-loop μ-loop (λ c. record { starts = omega arith; within = omega arith; bad = λ k l h. absurd (omega arith) }) (λ c. omega arith)
+    (λ c. omega arith) (λ c κs. (c .before .before .before .pre .0, omega arith)) returns (λ c. omega arith) (λ c. omega arith) loop-again
+    (λ c. let i = c .before .loop .inv in record { starts = i .starts; within = i .within; bad = i .bad; next = λ h. absurd (omega arith) }))

@@ -1,7 +1,6 @@
 -- `plot::cells::has_point` meets its contract: a witness is a point, and no point keeps both -2 and 2.
 use Rattle.laws.proofs.Basics.{sym, needs, true≢false}
-use Rattle.plot.proofs.Points.{no-point, point-yes}
-use Rattle.plot.proofs.cells.has_point.Statement.{statement}
+use Rattle.plot.proofs.{Points.{no-point, point-yes}, cells.has_point.Statement.{statement}}
 use Rattle.plot.proofs.cells.has_point.Tie as tie
 
 returns : tie.Need-returns

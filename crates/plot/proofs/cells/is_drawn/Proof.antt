@@ -1,7 +1,6 @@
 -- `plot::cells::is_drawn` meets its contract: a point lies in the columns 20 to 106.
 use Rattle.laws.proofs.Basics.{arith, true≢false}
-use Rattle.plot.proofs.Points.{drawn-no}
-use Rattle.plot.proofs.cells.is_drawn.Statement.{statement}
+use Rattle.plot.proofs.{Points.{drawn-no}, cells.is_drawn.Statement.{statement}}
 use Rattle.plot.proofs.cells.is_drawn.Tie as tie
 
 pub is-drawn-spec : {M : Type 1} → statement M

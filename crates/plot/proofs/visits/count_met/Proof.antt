@@ -1,7 +1,5 @@
 -- `plot::visits::count_met` meets its contract: of the k cells passed, so many are met.
-use Rattle.laws.proofs.Basics.{_≡_, ⊎-elim, List, ℕ, _+_, _-_, _≤_, _<_, add-one, arith, getD}
-use Rattle.laws.specs.Counting.{Tally}
-use Rattle.laws.specs.Counting.Tally.{none, one, other}
+use Rattle.laws.{proofs.Basics.{_≡_, ⊎-elim, List, ℕ, _+_, _-_, _≤_, _<_, add-one, arith, getD}, specs.Counting.{Tally}, specs.Counting.Tally.{none, one, other}}
 use Rattle.plot.proofs.visits.count_met.Statement.{statement}
 use Rattle.plot.proofs.visits.count_met.Tie as tie
 

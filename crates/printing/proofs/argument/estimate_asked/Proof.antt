@@ -1,5 +1,4 @@
-use Rattle.laws.proofs.Basics.{needs}
-use Rattle.laws.proofs.Tests.{tests}
+use Rattle.laws.proofs.{Basics.{needs}, Tests.{tests}}
 use Rattle.printing.proofs.argument.estimate_asked.Statement.{statement}
 use Rattle.printing.proofs.argument.estimate_asked.Tie as tie
 

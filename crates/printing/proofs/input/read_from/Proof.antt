@@ -1,8 +1,7 @@
 -- `printing::input::read_from` meets its contract: it answers what the last read did.
 use Rattle.laws.proofs.Basics.{_≡_, refl, _-_, _≤_, arith, length, needs}
 use mir.Facts.{toZ-ofZ}
-use Rattle.printing.proofs.SystemCalls.{moved-of}
-use Rattle.printing.proofs.input.read_from.Statement.{statement}
+use Rattle.printing.proofs.{SystemCalls.{moved-of}, input.read_from.Statement.{statement}}
 use Rattle.printing.proofs.input.read_from.Tie as tie
 
 abbrev Inv-loop : tie.InvT-loop

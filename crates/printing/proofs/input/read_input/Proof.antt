@@ -1,9 +1,7 @@
 -- `printing::input::read_input` meets its contract: a read brings no more bytes than there is room for.
 use Rattle.laws.proofs.Basics.{_≡_, refl, _∙_, _-_, _≤_, arith, length, needs}
 use Rattle.io.specs.Counts.{Counts}
-use Rattle.printing.proofs.SystemCalls.{few}
-use Rattle.printing.proofs.Texts.{counts}
-use Rattle.printing.proofs.input.read_input.Statement.{statement}
+use Rattle.printing.proofs.{SystemCalls.{few}, Texts.{counts}, input.read_input.Statement.{statement}}
 use Rattle.printing.proofs.input.read_input.Tie as tie
 
 abbrev Inv-loop : tie.InvT-loop

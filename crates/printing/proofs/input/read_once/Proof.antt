@@ -1,8 +1,7 @@
 -- `printing::input::read_once` meets its contract: what is lent is the buffer from the index on.
 use Rattle.laws.proofs.Basics.{needs}
 use mir.Facts.{toZ-ofZ}
-use Rattle.printing.proofs.SystemCalls.{rest-length}
-use Rattle.printing.proofs.input.read_once.Statement.{statement}
+use Rattle.printing.proofs.{SystemCalls.{rest-length}, input.read_once.Statement.{statement}}
 use Rattle.printing.proofs.input.read_once.Tie as tie
 
 pub read-once-spec : {M : Type 1} → statement M

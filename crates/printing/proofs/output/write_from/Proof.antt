@@ -1,8 +1,7 @@
 -- `printing::output::write_from` meets its contract: it answers what the last write did.
 use Rattle.laws.proofs.Basics.{_-_, _≤_, arith, needs}
 use mir.Facts.{toZ-ofZ}
-use Rattle.printing.proofs.SystemCalls.{moved-of}
-use Rattle.printing.proofs.output.write_from.Statement.{statement}
+use Rattle.printing.proofs.{SystemCalls.{moved-of}, output.write_from.Statement.{statement}}
 use Rattle.printing.proofs.output.write_from.Tie as tie
 
 abbrev Inv-loop : tie.InvT-loop

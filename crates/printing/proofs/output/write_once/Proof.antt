@@ -1,8 +1,7 @@
 -- `printing::output::write_once` meets its contract: what is lent are the bytes from the index on.
 use Rattle.laws.proofs.Basics.{needs}
 use mir.Facts.{toZ-ofZ}
-use Rattle.printing.proofs.SystemCalls.{rest-length}
-use Rattle.printing.proofs.output.write_once.Statement.{statement}
+use Rattle.printing.proofs.{SystemCalls.{rest-length}, output.write_once.Statement.{statement}}
 use Rattle.printing.proofs.output.write_once.Tie as tie
 
 pub write-once-spec : {M : Type 1} → statement M

@@ -1,7 +1,6 @@
 -- `printing::output::write_output` meets its contract: a write takes no more bytes than it is handed.
 use Rattle.laws.proofs.Basics.{_-_, _≤_, arith, length, needs}
-use Rattle.printing.proofs.SystemCalls.{few}
-use Rattle.printing.proofs.output.write_output.Statement.{statement}
+use Rattle.printing.proofs.{SystemCalls.{few}, output.write_output.Statement.{statement}}
 use Rattle.printing.proofs.output.write_output.Tie as tie
 
 abbrev Inv-loop : tie.InvT-loop

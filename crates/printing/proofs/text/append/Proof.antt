@@ -2,8 +2,7 @@
 use Rattle.laws.proofs.Basics.{_≡_, refl, sym, _+_, _-_, _≤_, _<_, add-one, arith, length, take}
 use native.Mathlib.Nat.{add-zero}
 use lib.Seq.{take-suc, take-length}
-use Rattle.printing.proofs.Texts.{Growing, appended-none, appended-byte, growing-more}
-use Rattle.printing.proofs.text.append.Statement.{statement}
+use Rattle.printing.proofs.{Texts.{Growing, appended-none, appended-byte, growing-more}, text.append.Statement.{statement}}
 use Rattle.printing.proofs.text.append.Tie as tie
 
 abbrev Inv-loop : tie.InvT-loop
@@ -18,12 +17,9 @@ loop-again c =
     let h : l .i < length (c .before .before .before .args .text .now) = omega arith in
     (omega arith, growing-more (l .inv .1) (appended-byte _ _ _ (omega arith) (omega arith)) (sym (rw add-one (take-suc _ _ 0 h))) (omega arith) (omega arith))
 
-returns : tie.Need-returns Inv-loop μ-loop
-returns c = let e : c .before .loop .i ≡ length (c .before .before .args .text .now) = omega arith in rw (e, take-length) at (c .before .loop .inv .1 .text)
-
 pub append-spec : {M : Type 1} → statement M
 append-spec =
-    tie.close (tie.spec Inv-loop μ-loop
-    (λ c. (omega arith, record { size = refl; within = omega arith; text = rw add-zero (appended-none _ _) })) (λ c. omega arith) (λ c. omega arith)
-    (λ c. omega arith) (λ c. omega arith) (λ c. omega arith) loop-again (λ c. omega arith)
-    (λ c. c .before .loop .inv .1 .size) returns)
+    tie.close (tie.spec Inv-loop μ-loop (λ c. (omega arith, record { size = refl; within = omega arith; text = rw add-zero (appended-none _ _) }))
+    (λ c. omega arith) (λ c. omega arith) (λ c. omega arith) (λ c. omega arith) (λ c. omega arith) loop-again (λ c. omega arith)
+    (λ c. c .before .loop .inv .1 .size)
+    (λ c. let e : c .before .loop .i ≡ length (c .before .before .args .text .now) = omega arith in rw (e, take-length) at (c .before .loop .inv .1 .text)))

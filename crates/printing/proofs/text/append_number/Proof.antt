@@ -1,8 +1,6 @@
 -- `printing::text::append_number` meets its contract: what `io::decimal` makes is the number in decimal, of at most 20 digits.
 use Rattle.laws.proofs.Basics.{_≤_, _∙_, arith, needs}
-use Rattle.printing.proofs.Decimals.{decimal-count, decimal-is}
-use Rattle.printing.proofs.Texts.{appended-then, appended-as}
-use Rattle.printing.proofs.text.append_number.Statement.{statement}
+use Rattle.printing.proofs.{Decimals.{decimal-count, decimal-is}, Texts.{appended-then, appended-as}, text.append_number.Statement.{statement}}
 use Rattle.printing.proofs.text.append_number.Tie as tie
 
 few : (c : tie.After-decimal) → c .decimal .result ≤ 20

@@ -1,7 +1,6 @@
 -- `printing::text::append_refusal` meets its contract: three texts, one after another.
 use Rattle.laws.proofs.Basics.{arith, needs}
-use Rattle.printing.proofs.Texts.{appended-then}
-use Rattle.printing.proofs.text.append_refusal.Statement.{statement}
+use Rattle.printing.proofs.{Texts.{appended-then}, text.append_refusal.Statement.{statement}}
 use Rattle.printing.proofs.text.append_refusal.Tie as tie
 
 returns : tie.Need-returns

@@ -1,8 +1,6 @@
 -- `printing::text::append_signed` meets its contract: below zero a sign goes first, and the magnitude's digits follow.
 use Rattle.laws.proofs.Basics.{arith, needs}
-use Rattle.printing.proofs.Signs.{with-sign, without-sign}
-use Rattle.printing.proofs.Texts.{appended-then, appended-as}
-use Rattle.printing.proofs.text.append_signed.Statement.{statement}
+use Rattle.printing.proofs.{Signs.{with-sign, without-sign}, Texts.{appended-then, appended-as}, text.append_signed.Statement.{statement}}
 use Rattle.printing.proofs.text.append_signed.Tie as tie
 
 returns : tie.Need-returns

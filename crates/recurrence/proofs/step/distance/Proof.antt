@@ -1,5 +1,4 @@
-use Rattle.laws.proofs.Basics.{needs, arith, _^_, le-ltb}
-use Rattle.laws.proofs.Tests.{tests}
+use Rattle.laws.proofs.{Basics.{needs, arith, _^_, le-ltb}, Tests.{tests}}
 use Rattle.recurrence.proofs.step.distance.Statement.{statement}
 use Rattle.recurrence.proofs.step.distance.Tie as tie
 

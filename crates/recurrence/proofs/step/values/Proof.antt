@@ -1,9 +1,6 @@
 use Rattle.laws.proofs.Basics.{needs, arith, sym, ap, subst, _∙_, ℤ}
-use mir.Facts.{toZ-ofZ}
-use mir.Syntax.{w64}
-use mir.Val.{SFits}
-use Rattle.selection.specs.Answer.{refusal}
-use Rattle.selection.proofs.BiasedPoints.{digit-fits}
+use mir.{Facts.{toZ-ofZ}, Syntax.{w64}, Val.{SFits}}
+use Rattle.selection.{specs.Answer.{refusal}, proofs.BiasedPoints.{digit-fits}}
 use Rattle.recurrence.proofs.step.values.Statement.{statement}
 use Rattle.recurrence.proofs.step.values.Tie as tie
 

@@ -1,8 +1,6 @@
 -- `clear` meets its contract: all before c are zeros, and the rest is as it was.
-use Rattle.laws.proofs.Basics.{ℕ, _≤_, _-_, _≡_, sym, ap, _∙_, ⊎-elim, List, arith, length, set}
+use Rattle.laws.{proofs.Basics.{ℕ, _≤_, _-_, _≡_, sym, ap, _∙_, ⊎-elim, List, arith, length, set}, specs.Lists.{filled}, proofs.Lists.{fill-none, fill-more, fill-length}}
 use lib.Seq.{set-getD}
-use Rattle.laws.specs.Lists.{filled}
-use Rattle.laws.proofs.Lists.{fill-none, fill-more, fill-length}
 use Rattle.recurrence.proofs.visits.clear.Statement.{statement}
 use Rattle.recurrence.proofs.visits.clear.Tie as tie
 

@@ -1,10 +1,8 @@
 -- `count_visits` meets its contract: the arguments' refusal, then the table's, else the visits.
 use Rattle.laws.proofs.Basics.{refl, sym, _∙_, needs}
-use Rattle.selection.proofs.TableRefusals.{admitted-both, first-lent}
-use Rattle.recurrence.proofs.VisitCounts.{visits-spans}
-use Rattle.recurrence.proofs.visits.count_visits.Statement.{statement}
+use Rattle.selection.{proofs.TableRefusals.{admitted-both, first-lent}, specs.declared.Estimate.the-variants.{EightBits}}
+use Rattle.recurrence.proofs.{VisitCounts.{visits-spans}, visits.count_visits.Statement.{statement}}
 use Rattle.recurrence.proofs.visits.count_visits.Tie as tie
-use Rattle.selection.specs.declared.Estimate.the-variants.{EightBits}
 
 visit-all-requires : tie.Need-visit-all-requires
 visit-all-requires c κs =

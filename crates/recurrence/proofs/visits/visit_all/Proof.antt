@@ -1,7 +1,6 @@
 -- `visit_all` meets its contract: the visits of all pairs are added to zeros.
 use Rattle.laws.proofs.Basics.{needs, now}
-use Rattle.recurrence.proofs.Visiting.{bits-ready, bits-done}
-use Rattle.recurrence.proofs.visits.visit_all.Statement.{statement}
+use Rattle.recurrence.proofs.{Visiting.{bits-ready, bits-done}, visits.visit_all.Statement.{statement}}
 use Rattle.recurrence.proofs.visits.visit_all.Tie as tie
 
 visit-pairs-requires : tie.Need-visit-pairs-requires

@@ -1,25 +1,12 @@
-use Rattle.laws.proofs.Basics.{now, needs}
-use Rattle.selection.specs.computed.Repair.{repairRefused}
-use Rattle.selection.specs.computed.Outcomes.{repairOf}
-use Rattle.selection.proofs.ForBits.{by-refusal, by-estimate}
+use Rattle.laws.proofs.Basics.{sym, _∙_, needs}
 use Rattle.selection.proofs.bits.repair_table_for.Statement.{statement}
 use Rattle.selection.proofs.bits.repair_table_for.Tie as tie
 
-returns : tie.Need-returns
-returns c =
-    let m = c .before .before .before in
-    let a = m .before .before .before .before .args in
-    by-refusal (a .bits) (repairRefused (now (a .repaired)) (now (a .changed))) (λ E. repairOf E (now (a .table)) (now (a .repaired)) (now (a .changed))) (m .admit-bits .ensures) (c .before .admission .given .1)
-
-returns-2 : tie.Need-returns-2
-returns-2 c =
-    let call = c .before .before .before .before in
-    let s = call .before .before .before in
-    let m = s .before .before .before in
-    let a = m .before .before .before .before .args in
-    by-estimate (a .bits) (repairRefused (now (a .repaired)) (now (a .changed))) (λ E. repairOf E (now (a .table)) (now (a .repaired)) (now (a .changed)))
-    (m .admit-bits .ensures) (s .before .enum-told .given .1) (s .estimate-of .ensures) (call .repair-table .ensures)
-
 pub repair-table-for-spec : {M : Type 1} → statement M
 repair-table-for-spec =
-    tie.close (tie.spec (λ c κs. search needs) (λ c. search needs) (λ c. search needs) (λ c κs. search needs) (λ c κs. search needs) returns (λ c. search needs) (λ c. search needs) returns-2)
+    tie.close (tie.spec (λ c κs. search needs) (λ c. search needs) (λ c. search needs) (λ c κs. search needs) (λ c κs. search needs)
+    (λ c. rw (sym (c .before .before .before .admit-bits .ensures) ∙ c .before .admission .given .1)) (λ c. search needs) (λ c. search needs)
+    (λ c.
+    let call = c .before .before .before .before in
+    let s = call .before .before .before in
+    rw (sym (s .before .before .before .admit-bits .ensures) ∙ s .before .enum-told .given .1, ← s .estimate-of .ensures) (call .repair-table .ensures)))

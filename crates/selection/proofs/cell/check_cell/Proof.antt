@@ -1,5 +1,4 @@
-use Rattle.laws.proofs.Basics.{needs}
-use Rattle.laws.proofs.Tests.{tests}
+use Rattle.laws.proofs.{Basics.{needs}, Tests.{tests}}
 use Rattle.selection.proofs.cell.check_cell.Statement.{statement}
 use Rattle.selection.proofs.cell.check_cell.Tie as tie
 

@@ -1,6 +1,5 @@
 use Rattle.laws.proofs.Basics.{arith, needs}
-use Rattle.selection.proofs.Rows.{columns}
-use Rattle.selection.proofs.cell.has_point.Statement.{statement}
+use Rattle.selection.proofs.{Rows.{columns}, cell.has_point.Statement.{statement}}
 use Rattle.selection.proofs.cell.has_point.Tie as tie
 
 pub has-point-spec : {M : Type 1} → statement M

@@ -1,5 +1,4 @@
-use mir.Syntax.{w64}
-use mir.Facts.{toZ-ofZ}
+use mir.{Syntax.{w64}, Facts.{toZ-ofZ}}
 use native.Mathlib.Nat.{mul-le-mul-right}
 use Rattle.laws.proofs.Basics.{arith, needs}
 use Rattle.selection.proofs.cell.high_witness.Statement.{statement}

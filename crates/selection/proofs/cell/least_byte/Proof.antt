@@ -1,6 +1,5 @@
 use Rattle.laws.proofs.Basics.{arith, needs}
-use Rattle.selection.proofs.Rows.{columns}
-use Rattle.selection.proofs.cell.least_byte.Statement.{statement}
+use Rattle.selection.proofs.{Rows.{columns}, cell.least_byte.Statement.{statement}}
 use Rattle.selection.proofs.cell.least_byte.Tie as tie
 
 pub least-byte-spec : {M : Type 1} → statement M

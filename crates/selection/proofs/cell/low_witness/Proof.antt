@@ -1,5 +1,4 @@
-use mir.Syntax.{w64}
-use mir.Facts.{toZ-ofZ}
+use mir.{Syntax.{w64}, Facts.{toZ-ofZ}}
 use Rattle.laws.proofs.Basics.{needs}
 use Rattle.selection.proofs.cell.low_witness.Statement.{statement}
 use Rattle.selection.proofs.cell.low_witness.Tie as tie

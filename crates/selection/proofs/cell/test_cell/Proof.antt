@@ -1,29 +1,28 @@
-use Rattle.laws.proofs.Basics.{_≡_, sym, _∙_, _^_, _≤_, needs}
-use Rattle.selection.specs.computed.CellTest.{lowDivisor, highDivisor, lowAt, highAt, witnessOf}
-use Rattle.selection.specs.computed.Outcomes.{cellOf}
-use Rattle.selection.specs.declared.CellVerdict.the-variants.{Disallowed}
-use Rattle.selection.proofs.CellTests.{is-allowed, low-found, high-found, found-columns}
-use Rattle.selection.proofs.cell.test_cell.Statement.{statement}
+use Rattle.laws.proofs.Basics.{refl, sym, _∙_, lt-ltb, le-ltb, needs}
+use Rattle.selection.specs.computed.CellTest.{lowDivisor, highDivisor, lowAt, highAt}
+use Rattle.selection.proofs.{CellTests.{Found, found-is}, cell.test_cell.Statement.{statement}}
 use Rattle.selection.proofs.cell.test_cell.Tie as tie
 
--- past the first test a digit is broken
-columns : (c : tie.Else1) → let a = c .before .before .args in (20 ≤ a .column) × (a .column ≤ 106)
-columns c = let a = c .before .before in found-columns (a .pre .row) (a .pre .column) (a .pre .byte) (sym (c .before .allows .ensures .0) ∙ c .if1 .left)
+-- past the first test a digit is broken, from below or from above
+low : (c : tie.Then2) → let a = c .before .before .before .before .args in let d = lowDivisor (a .m .estimate) (a .m .smallest) (a .column) (a .byte) in Found (a .m) (a .column) (a .byte) d (lowAt d (a .column))
+low c =
+    let g = c .before in
+    let a = g .before .before .before .pre in
+    found-is (a .row) (a .column) (a .byte) (rw (sym (g .before .before .allows .ensures .0) ∙ g .before .if1 .left, ← g .greatest-byte .ensures .0, lt-ltb _ _ (c .if2 .taken)) refl)
 
-low : (c : tie.Then2) → let a = c .before .before .before .before .args in let d = lowDivisor (a .m .estimate) (a .m .smallest) (a .column) (a .byte) in (d ≤ 2 ^ 61) × (Disallowed (witnessOf d (lowAt d (a .column))) ≡ cellOf (a .m .estimate) (a .m .row) (a .column) (a .byte))
-low c = let a = c .before .before .before .before in low-found (a .pre .row) (a .pre .column) (a .pre .byte) (sym (c .before .before .before .allows .ensures .0) ∙ c .before .before .if1 .left) (rw (← c .before .greatest-byte .ensures .0) (c .if2 .taken))
-
-high : (c : tie.Else2) → let a = c .before .before .before .before .args in let d = highDivisor (a .m .estimate) (a .m .smallest) (a .column) (a .byte) in (d ≤ 2 ^ 61) × (Disallowed (witnessOf d (highAt d (a .column) (a .byte))) ≡ cellOf (a .m .estimate) (a .m .row) (a .column) (a .byte))
-high c = let a = c .before .before .before .before in high-found (a .pre .row) (a .pre .column) (a .pre .byte) (sym (c .before .before .before .allows .ensures .0) ∙ c .before .before .if1 .left) (rw (← c .before .greatest-byte .ensures .0) (c .if2 .left))
+high : (c : tie.Else2)
+    → let a = c .before .before .before .before .args in let d = highDivisor (a .m .estimate) (a .m .smallest) (a .column) (a .byte) in Found (a .m) (a .column) (a .byte) d (highAt d (a .column) (a .byte))
+high c =
+    let g = c .before in
+    let a = g .before .before .before .pre in
+    found-is (a .row) (a .column) (a .byte) (rw (sym (g .before .before .allows .ensures .0) ∙ g .before .if1 .left, ← g .greatest-byte .ensures .0, le-ltb _ _ (c .if2 .left)) refl)
 
 pub test-cell-spec : {M : Type 1} → statement M
 test-cell-spec =
-    tie.close (tie.spec (λ c. search needs) (λ c κs. search needs)
-    (λ c. let a = c .before .before in is-allowed (a .pre .row) (a .pre .column) (a .pre .byte) (sym (c .before .allows .ensures .0) ∙ c .if1 .taken))
-    (λ c κs. search needs)
-    (λ c κs. (columns (c .before .before) .0, columns (c .before .before) .1, search needs))
-    (λ c κs. (rw (c .low-divisor .ensures) (low (c .before) .0), columns (c .before .before .before) .1))
-    (λ c. rw (c .low-witness .ensures, c .before .low-divisor .ensures) (low (c .before .before) .1))
-    (λ c κs. columns (c .before .before))
-    (λ c κs. record { divisor = rw (c .high-divisor .ensures) (high (c .before) .0); column = columns (c .before .before .before) .1; byte = search needs })
-    (λ c. rw (c .high-witness .ensures, c .before .high-divisor .ensures) (high (c .before .before) .1)))
+    tie.close (tie.spec (λ c. search needs) (λ c κs. search needs) (λ c. sym (c .before .allows .ensures .1 .0 (c .if1 .taken))) (λ c κs. search needs)
+    (λ c κs. (low c .column .0, low c .column .1, search needs))
+    (λ c κs. (rw (c .low-divisor .ensures) (low (c .before) .divisor), low (c .before) .column .1))
+    (λ c. rw (c .low-witness .ensures, c .before .low-divisor .ensures) (low (c .before .before) .answer))
+    (λ c κs. high c .column)
+    (λ c κs. record { divisor = rw (c .high-divisor .ensures) (high (c .before) .divisor); column = high (c .before) .column .1; byte = search needs })
+    (λ c. rw (c .high-witness .ensures, c .before .high-divisor .ensures) (high (c .before .before) .answer)))

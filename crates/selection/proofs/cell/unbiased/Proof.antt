@@ -1,7 +1,6 @@
 -- `selection::unbiased` meets its contract: both ways the result is w - 2^63.
 use Rattle.laws.proofs.Basics.{refl, _∙_, _-_, _^_, arith, needs, lt-ltb, le-ltb}
-use mir.Facts.{toZ-ofZ, toZ-pos}
-use mir.Syntax.{w64}
+use mir.{Facts.{toZ-ofZ, toZ-pos}, Syntax.{w64}}
 use Rattle.selection.proofs.cell.unbiased.Statement.{statement}
 use Rattle.selection.proofs.cell.unbiased.Tie as tie
 

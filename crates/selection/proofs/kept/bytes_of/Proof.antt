@@ -1,9 +1,6 @@
-use Rattle.laws.proofs.Basics.{_≡_, refl, sym, needs, arith, _-_, _*_, _≤_}
-use Rattle.laws.specs.Lists.{filled}
-use Rattle.laws.proofs.Lists.{fill-none}
+use Rattle.laws.{proofs.Basics.{_≡_, refl, sym, needs, arith, _-_, _*_, _≤_}, specs.Lists.{filled}, proofs.Lists.{fill-none}}
 use Rattle.selection.specs.computed.WordBytes.{byteOf}
-use Rattle.selection.proofs.WordBytes.{word-more, words-all}
-use Rattle.selection.proofs.kept.bytes_of.Statement.{statement}
+use Rattle.selection.proofs.{WordBytes.{word-more, words-all}, kept.bytes_of.Statement.{statement}}
 use Rattle.selection.proofs.kept.bytes_of.Tie as tie
 
 abbrev Inv-loop : tie.InvT-loop

@@ -1,11 +1,7 @@
 -- `selection::kept::kept_table` meets its contract: antt computes the rule over the constant.
 use mathlib.Core.Path.{refl}
-use Rattle.selection.specs.computed.Allowed.{allowsOf}
-use Rattle.selection.specs.computed.Outcomes.{madeOf}
-use Rattle.selection.proofs.KeptLaws.{right, made-table}
-use Rattle.selection.proofs.MadeTables.{made-bytes}
-use Rattle.selection.specs.declared.Estimate.the-variants.{EightBits}
-use Rattle.selection.proofs.kept.kept_table.Statement.{statement}
+use Rattle.selection.specs.{computed.Allowed.{allowsOf}, computed.Outcomes.{madeOf}, declared.Estimate.the-variants.{EightBits}}
+use Rattle.selection.proofs.{KeptLaws.{right, made-table}, MadeTables.{made-bytes}, kept.kept_table.Statement.{statement}}
 use Rattle.selection.proofs.kept.kept_table.Tie as tie
 
 pub kept-table-spec : {M : Type 1} → statement M

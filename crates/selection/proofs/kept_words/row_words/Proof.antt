@@ -1,8 +1,5 @@
-use Rattle.laws.proofs.Basics.{_≡_, refl, arith, _%_, _≤_}
-use Rattle.laws.specs.Lists.{listFrom}
-use Rattle.selection.specs.computed.Allowed.{allowsOf}
-use Rattle.selection.specs.computed.Outcomes.{madeTable, madeOf}
-use Rattle.selection.specs.computed.WordBytes.{wordsBytes}
+use Rattle.laws.{proofs.Basics.{_≡_, refl, arith, _%_, _≤_}, specs.Lists.{listFrom}}
+use Rattle.selection.specs.computed.{Allowed.{allowsOf}, Outcomes.{madeTable, madeOf}, WordBytes.{wordsBytes}}
 use Rattle.selection.proofs.kept_words.row_words.Statement.{statement}
 use Rattle.selection.proofs.kept_words.row_words.Tie as tie
 

@@ -1,7 +1,5 @@
-use Rattle.laws.proofs.Basics.{ℕ, _≤_, _<_, _-_, _≡_, refl, List, [], arith, length, getD, length-set}
-use Rattle.selection.specs.Maker.{AreLimits}
-use Rattle.laws.proofs.Lists.{set-more}
-use Rattle.selection.specs.declared.Estimate.{Estimate}
+use Rattle.laws.proofs.{Basics.{ℕ, _≤_, _<_, _-_, _≡_, refl, List, [], arith, length, getD, length-set}, Lists.{set-more}}
+use Rattle.selection.specs.{Maker.{AreLimits}, declared.Estimate.{Estimate}}
 use Rattle.selection.proofs.maker.all_limits.Statement.{statement}
 use Rattle.selection.proofs.maker.all_limits.Tie as tie
 

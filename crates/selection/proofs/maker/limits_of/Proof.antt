@@ -1,8 +1,6 @@
 use Rattle.laws.proofs.Basics.{arith, needs}
 use Rattle.selection.specs.computed.Outcomes.{limitsOf}
-use Rattle.selection.proofs.Rows.{columns}
-use Rattle.selection.proofs.Making.{limits-answer}
-use Rattle.selection.proofs.maker.limits_of.Statement.{statement}
+use Rattle.selection.proofs.{Rows.{columns}, Making.{limits-answer}, maker.limits_of.Statement.{statement}}
 use Rattle.selection.proofs.maker.limits_of.Tie as tie
 
 pub limits-of-spec : {M : Type 1} → statement M

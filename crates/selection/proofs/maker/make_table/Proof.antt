@@ -1,12 +1,7 @@
-use Rattle.laws.proofs.Basics.{ℕ, _≤_, _<_, _-_, _/_, _%_, _≡_, refl, sym, [], arith, length, getD, length-set, now, needs}
-use Rattle.laws.proofs.Tests.{tests}
-use Rattle.laws.specs.Lists.{filled}
+use Rattle.laws.{proofs.Basics.{ℕ, _≤_, _<_, _-_, _/_, _%_, _≡_, refl, sym, [], arith, length, getD, length-set, now, needs}, proofs.Tests.{tests}, specs.Lists.{filled}}
 use Rattle.laws.proofs.Lists.{fill-none, fill-more}
-use Rattle.selection.specs.computed.Outcomes.{madeAt}
-use Rattle.selection.specs.Maker.{AreLimits}
-use Rattle.selection.specs.declared.Estimate.{Estimate}
-use Rattle.selection.proofs.MadeTables.{made-at, make-done}
-use Rattle.selection.proofs.maker.make_table.Statement.{statement}
+use Rattle.selection.specs.{computed.Outcomes.{madeAt}, Maker.{AreLimits}, declared.Estimate.{Estimate}}
+use Rattle.selection.proofs.{MadeTables.{made-at, make-done}, maker.make_table.Statement.{statement}}
 use Rattle.selection.proofs.maker.make_table.Tie as tie
 
 abbrev Inv-loop : tie.InvT-loop

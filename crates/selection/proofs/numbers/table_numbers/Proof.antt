@@ -1,6 +1,5 @@
 use Rattle.laws.proofs.Basics.{needs}
-use Rattle.selection.proofs.Reports.{bad-cell}
-use Rattle.selection.proofs.numbers.table_numbers.Statement.{statement}
+use Rattle.selection.proofs.{Reports.{bad-cell}, numbers.table_numbers.Statement.{statement}}
 use Rattle.selection.proofs.numbers.table_numbers.Tie as tie
 
 pub table-numbers-spec : {M : Type 1} → statement M

@@ -1,5 +1,4 @@
-use Rattle.laws.proofs.Basics.{needs}
-use Rattle.laws.proofs.Tests.{tests}
+use Rattle.laws.proofs.{Basics.{needs}, Tests.{tests}}
 use Rattle.selection.proofs.repair.byte_of.Statement.{statement}
 use Rattle.selection.proofs.repair.byte_of.Tie as tie
 

@@ -1,8 +1,7 @@
 -- `byte_row` meets its contract: a turn stores the byte of one cell, by its mark.
 use Rattle.laws.proofs.Basics.{_-_, arith, needs}
 use Rattle.selection.specs.computed.Outcomes.{repairedByte}
-use Rattle.selection.proofs.RepairRows.{RowFilled, row-begins, row-more, row-ends, byte-is}
-use Rattle.selection.proofs.repair.byte_row.Statement.{statement}
+use Rattle.selection.proofs.{RepairRows.{RowFilled, row-begins, row-more, row-ends, byte-is}, repair.byte_row.Statement.{statement}}
 use Rattle.selection.proofs.repair.byte_row.Tie as tie
 
 abbrev Inv-loop : tie.InvT-loop

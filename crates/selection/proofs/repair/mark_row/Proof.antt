@@ -1,11 +1,7 @@
 -- `mark_row` meets its contract: a turn stores the mark of one cell and counts it.
-use Rattle.laws.proofs.Basics.{_+_, _*_, _-_, _≤_, _≡_, arith, needs, sym}
-use Rattle.laws.specs.Counting.{countBelow}
-use Rattle.laws.proofs.Counting.{count-start, count-most}
-use Rattle.selection.specs.computed.Allowed.{isFaulty}
-use Rattle.selection.specs.computed.Outcomes.{changeMark}
-use Rattle.selection.proofs.RepairRows.{RowFilled, row-begins, row-more, row-ends, count-mark, mark-is}
-use Rattle.selection.proofs.repair.mark_row.Statement.{statement}
+use Rattle.laws.{proofs.Basics.{_+_, _*_, _-_, _≤_, _≡_, arith, needs, sym}, specs.Counting.{countBelow}, proofs.Counting.{count-start, count-most}}
+use Rattle.selection.specs.computed.{Allowed.{isFaulty}, Outcomes.{changeMark}}
+use Rattle.selection.proofs.{RepairRows.{RowFilled, row-begins, row-more, row-ends, count-mark, mark-is}, repair.mark_row.Statement.{statement}}
 use Rattle.selection.proofs.repair.mark_row.Tie as tie
 
 abbrev Inv-loop : tie.InvT-loop

@@ -1,6 +1,5 @@
 -- `refusal_of` meets its contract: 7, then 8.
-use Rattle.laws.proofs.Basics.{needs}
-use Rattle.laws.proofs.Tests.{tests}
+use Rattle.laws.proofs.{Basics.{needs}, Tests.{tests}}
 use Rattle.selection.proofs.repair.refusal_of.Statement.{statement}
 use Rattle.selection.proofs.repair.refusal_of.Tie as tie
 

@@ -1,7 +1,6 @@
 -- `repair_table` meets its contract: the first refusal, or else the repair.
 use Rattle.laws.proofs.Basics.{refl, sym, _∙_, needs}
-use Rattle.selection.proofs.RepairAnswers.{repair-accepts}
-use Rattle.selection.proofs.repair.repair_table.Statement.{statement}
+use Rattle.selection.proofs.{RepairAnswers.{repair-accepts}, repair.repair_table.Statement.{statement}}
 use Rattle.selection.proofs.repair.repair_table.Tie as tie
 
 pub repair-table-spec : {M : Type 1} → statement M

@@ -1,7 +1,6 @@
 use Rattle.laws.proofs.Basics.{now, needs}
 use Rattle.selection.specs.declared.Estimate.the-variants.{EightBits}
-use Rattle.selection.proofs.Reports.{admission-rules}
-use Rattle.selection.proofs.table.admit_after.Statement.{statement}
+use Rattle.selection.proofs.{Reports.{admission-rules}, table.admit_after.Statement.{statement}}
 use Rattle.selection.proofs.table.admit_after.Tie as tie
 
 pub admit-after-spec : {M : Type 1} → statement M

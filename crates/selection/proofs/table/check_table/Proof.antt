@@ -1,8 +1,6 @@
-use Rattle.laws.proofs.Basics.{now, _∙_, needs}
-use Rattle.laws.proofs.Tests.{tests}
+use Rattle.laws.proofs.{Basics.{now, _∙_, needs}, Tests.{tests}}
 use Rattle.selection.specs.computed.Outcomes.{reportOf}
-use Rattle.selection.proofs.Reports.{report-table, is-table}
-use Rattle.selection.proofs.table.check_table.Statement.{statement}
+use Rattle.selection.proofs.{Reports.{report-table, is-table}, table.check_table.Statement.{statement}}
 use Rattle.selection.proofs.table.check_table.Tie as tie
 
 pub check-table-spec : {M : Type 1} → statement M

@@ -1,6 +1,4 @@
-use Rattle.laws.proofs.Basics.{_≤_, _-_, ⊎-elim, _≡_, sym, _∙_, arith, needs}
-use Rattle.laws.specs.Counting.{countBelow}
-use Rattle.laws.proofs.Counting.{count-start, count-one, count-other, count-most}
+use Rattle.laws.{proofs.Basics.{_≤_, _-_, ⊎-elim, _≡_, sym, _∙_, arith, needs}, specs.Counting.{countBelow}, proofs.Counting.{count-start, count-one, count-other, count-most}}
 use Rattle.selection.specs.computed.Allowed.{isBadIn}
 use Rattle.selection.proofs.table.count_row.Statement.{statement}
 use Rattle.selection.proofs.table.count_row.Tie as tie

@@ -1,7 +1,4 @@
-use Rattle.laws.proofs.Basics.{_≤_, _-_, _≡_, sym, _∙_, arith, lt-ltb, le-ltb}
-use Rattle.laws.proofs.Tests.{tests}
-use Rattle.laws.specs.Search.{firstFrom}
-use Rattle.laws.proofs.Search.{first-here, first-on, first-end}
+use Rattle.laws.{proofs.Basics.{_≤_, _-_, _≡_, sym, _∙_, arith, lt-ltb, le-ltb}, proofs.Tests.{tests}, specs.Search.{firstFrom}, proofs.Search.{first-here, first-on, first-end}}
 use Rattle.selection.specs.computed.Allowed.{aboveFour}
 use Rattle.selection.proofs.table.first_above.Statement.{statement}
 use Rattle.selection.proofs.table.first_above.Tie as tie

@@ -1,6 +1,4 @@
-use Rattle.laws.proofs.Basics.{Bool, ℕ, _≤_, _-_, _≡_, min, sym, _∙_, arith, needs}
-use Rattle.laws.specs.Search.{firstFrom}
-use Rattle.laws.proofs.Search.{lesser-start, lesser-turn, lesser-end}
+use Rattle.laws.{proofs.Basics.{Bool, ℕ, _≤_, _-_, _≡_, min, sym, _∙_, arith, needs}, specs.Search.{firstFrom}, proofs.Search.{lesser-start, lesser-turn, lesser-end}}
 use Rattle.selection.specs.computed.Allowed.{isBadIn}
 use Rattle.selection.proofs.table.first_in_row.Statement.{statement}
 use Rattle.selection.proofs.table.first_in_row.Tie as tie

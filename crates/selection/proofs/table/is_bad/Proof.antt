@@ -1,6 +1,5 @@
 use Rattle.laws.proofs.Basics.{now, not, ap, _∙_, arith, needs}
-use Rattle.selection.proofs.Allowed.{bad-in-row}
-use Rattle.selection.proofs.table.is_bad.Statement.{statement}
+use Rattle.selection.proofs.{Allowed.{bad-in-row}, table.is_bad.Statement.{statement}}
 use Rattle.selection.proofs.table.is_bad.Tie as tie
 
 pub is-bad-spec : {M : Type 1} → statement M

@@ -1,5 +1,4 @@
-use Rattle.laws.proofs.Basics.{_≤_, _<_, _-_, _≡_, refl, sym, _∙_, true, false, true≢false, _⊎_, inl, inr, ⊎-elim, arith, lt-ltb, le-ltb}
-use Rattle.laws.specs.Search.{firstFrom}
+use Rattle.laws.{proofs.Basics.{_≤_, _<_, _-_, _≡_, refl, sym, _∙_, true, false, true≢false, _⊎_, inl, inr, ⊎-elim, arith, lt-ltb, le-ltb}, specs.Search.{firstFrom}}
 use Rattle.laws.proofs.Search.{first-here, first-on, first-end}
 use Rattle.selection.specs.computed.Allowed.{aboveFour}
 use Rattle.selection.proofs.table.none_above.Statement.{statement}

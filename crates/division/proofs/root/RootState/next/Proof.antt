@@ -1,8 +1,6 @@
 -- `next` meets its contract: the trial is taken off exactly where it fits.
-use Rattle.laws.proofs.Basics.{refl, ℕ, _^_, _≤_, arith, ltb, needs}
-use Rattle.laws.proofs.Tests.{cond-in}
-use Rattle.division.proofs.RootDigits.{one-more}
-use Rattle.division.proofs.root.RootState.next.Statement.{statement}
+use Rattle.laws.proofs.{Basics.{refl, ℕ, _^_, _≤_, arith, ltb, needs}, Tests.{cond-in}}
+use Rattle.division.proofs.{RootDigits.{one-more}, root.RootState.next.Statement.{statement}}
 use Rattle.division.proofs.root.RootState.next.Tie as tie
 
 add-t8 : tie.Need-add-t8

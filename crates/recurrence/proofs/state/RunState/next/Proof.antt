@@ -1,12 +1,9 @@
 -- `next` meets its contract: the byte at the state's column is the table's in the state's cell.
 use Rattle.laws.proofs.Basics.{_≡_, ap, _∙_, ℕ, arith, getD, needs}
-use Rattle.selection.specs.Cell.{row, column}
-use Rattle.recurrence.specs.Recurrence.{cellAt, stepBy, nextOf}
-use Rattle.recurrence.specs.computed.FastRun.{withColumn, stateOf}
-use Rattle.recurrence.proofs.Rows.{row-at}
-use Rattle.recurrence.proofs.state.RunState.next.Statement.{statement}
+use Rattle.selection.specs.{Cell.{row, column}, declared.Estimate.the-variants.{EightBits}}
+use Rattle.recurrence.specs.{Recurrence.{cellAt, stepBy, nextOf}, computed.FastRun.{runStateOf, stateOf}}
+use Rattle.recurrence.proofs.{Rows.{row-at}, state.RunState.next.Statement.{statement}}
 use Rattle.recurrence.proofs.state.RunState.next.Tie as tie
-use Rattle.selection.specs.declared.Estimate.the-variants.{EightBits}
 
 returns : tie.Need-returns
 unfolding nextOf
@@ -15,8 +12,8 @@ returns c =
     let p = s .args .self in
     let d = c .before .digit-at in
     λ t f.
-    let e : d .result ≡ getD t (cellAt EightBits (stateOf p)) 0 = d .ensures .0 ∙ rw (f, s .pre .current) (row-at t (row (p .divisor)) (column EightBits (p .sum) (p .carry)) (omega arith)) in
-    c .step-by .ensures ∙ ap (λ (n : ℕ). withColumn (stepBy n (stateOf p))) e
+    let e : d .result ≡ getD t (cellAt EightBits (stateOf p)) 0 = d .ensures .0 ∙ rw (f, s .pre .1 .current) (row-at t (row (p .divisor)) (column EightBits (p .sum) (p .carry)) (omega arith)) in
+    c .step-by .ensures ∙ ap (λ (n : ℕ). runStateOf (stepBy n (stateOf p))) e
 
 pub next-spec : {M : Type 1} → statement M
 next-spec = tie.close (tie.spec (λ c κs. search needs) (λ c κs. search needs) returns)
