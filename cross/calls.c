@@ -10,11 +10,26 @@ quendaric_cell quendaric_check_cell(uint64_t row, uint64_t column, uint8_t byte)
   return answer;
 }
 
+void quendaric_proved_check_cell_for(void *, uint64_t, uint64_t, uint64_t, uint8_t);
+quendaric_cell quendaric_check_cell_for(uint64_t estimate_bits, uint64_t row, uint64_t column, uint8_t byte) {
+  quendaric_cell answer;
+  quendaric_proved_check_cell_for(&answer, estimate_bits, row, column, byte);
+  return answer;
+}
+
 void quendaric_proved_check_table(void *, const void *);
 quendaric_report quendaric_check_table(const uint8_t *table, size_t length) {
   quendaric_report answer;
   const slice lent_table = {table, length};
   quendaric_proved_check_table(&answer, &lent_table);
+  return answer;
+}
+
+void quendaric_proved_check_table_for(void *, uint64_t, const void *);
+quendaric_report quendaric_check_table_for(uint64_t estimate_bits, const uint8_t *table, size_t table_length) {
+  quendaric_report answer;
+  const slice lent_table = {table, table_length};
+  quendaric_proved_check_table_for(&answer, estimate_bits, &lent_table);
   return answer;
 }
 
@@ -25,11 +40,51 @@ quendaric_limits quendaric_row_limits(uint64_t row) {
   return answer;
 }
 
+void quendaric_proved_row_limits_for(void *, uint64_t, uint64_t);
+quendaric_limits quendaric_row_limits_for(uint64_t estimate_bits, uint64_t row) {
+  quendaric_limits answer;
+  quendaric_proved_row_limits_for(&answer, estimate_bits, row);
+  return answer;
+}
+
 void quendaric_proved_make_table(void *, const void *);
 quendaric_made quendaric_make_table(uint8_t *QUENDARIC_RESTRICT buffer, size_t length) {
   quendaric_made answer;
   const slice lent_buffer = {buffer, length};
   quendaric_proved_make_table(&answer, &lent_buffer);
+  return answer;
+}
+
+void quendaric_proved_make_table_for(void *, uint64_t, const void *);
+quendaric_made quendaric_make_table_for(uint64_t estimate_bits, uint8_t *QUENDARIC_RESTRICT buffer,
+                                        size_t buffer_length) {
+  quendaric_made answer;
+  const slice lent_buffer = {buffer, buffer_length};
+  quendaric_proved_make_table_for(&answer, estimate_bits, &lent_buffer);
+  return answer;
+}
+
+void quendaric_proved_repair_table(void *, const void *, const void *, const void *);
+quendaric_repaired quendaric_repair_table(const uint8_t *table, size_t table_length,
+                                          uint8_t *QUENDARIC_RESTRICT repaired, size_t repaired_length,
+                                          uint8_t *QUENDARIC_RESTRICT changed, size_t changed_length) {
+  quendaric_repaired answer;
+  const slice lent_table = {table, table_length};
+  const slice lent_repaired = {repaired, repaired_length};
+  const slice lent_changed = {changed, changed_length};
+  quendaric_proved_repair_table(&answer, &lent_table, &lent_repaired, &lent_changed);
+  return answer;
+}
+
+void quendaric_proved_repair_table_for(void *, uint64_t, const void *, const void *, const void *);
+quendaric_repaired quendaric_repair_table_for(uint64_t estimate_bits, const uint8_t *table, size_t table_length,
+                                              uint8_t *QUENDARIC_RESTRICT repaired, size_t repaired_length,
+                                              uint8_t *QUENDARIC_RESTRICT changed, size_t changed_length) {
+  quendaric_repaired answer;
+  const slice lent_table = {table, table_length};
+  const slice lent_repaired = {repaired, repaired_length};
+  const slice lent_changed = {changed, changed_length};
+  quendaric_proved_repair_table_for(&answer, estimate_bits, &lent_table, &lent_repaired, &lent_changed);
   return answer;
 }
 
@@ -103,19 +158,7 @@ quendaric_samples quendaric_divide_samples(const uint8_t *table, size_t table_le
   const slice lent_sensitivities = {sensitivities, sensitivities_length};
   const slice lent_concentrations = {concentrations, concentrations_length};
   quendaric_proved_divide_samples(&answer, &lent_table, &lent_currents, &lent_sensitivities, &lent_concentrations,
-      direction);
-  return answer;
-}
-
-void quendaric_proved_repair_table(void *, const void *, const void *, const void *);
-quendaric_repaired quendaric_repair_table(const uint8_t *table, size_t table_length,
-                                          uint8_t *QUENDARIC_RESTRICT repaired, size_t repaired_length,
-                                          uint8_t *QUENDARIC_RESTRICT changed, size_t changed_length) {
-  quendaric_repaired answer;
-  const slice lent_table = {table, table_length};
-  const slice lent_repaired = {repaired, repaired_length};
-  const slice lent_changed = {changed, changed_length};
-  quendaric_proved_repair_table(&answer, &lent_table, &lent_repaired, &lent_changed);
+                                  direction);
   return answer;
 }
 
@@ -130,7 +173,7 @@ quendaric_affected_count quendaric_affected_samples(uint64_t estimate_bits, cons
   const slice lent_sensitivities = {sensitivities, sensitivities_length};
   const slice lent_affected = {affected, affected_length};
   quendaric_proved_affected_samples(&answer, estimate_bits, &lent_table, &lent_currents, &lent_sensitivities,
-      &lent_affected);
+                                    &lent_affected);
   return answer;
 }
 
@@ -199,48 +242,5 @@ void quendaric_proved_root_binary64(void *, uint64_t, uint64_t);
 quendaric_binary64 quendaric_root_binary64(uint64_t a, uint64_t direction) {
   quendaric_binary64 answer;
   quendaric_proved_root_binary64(&answer, a, direction);
-  return answer;
-}
-
-void quendaric_proved_check_cell_for(void *, uint64_t, uint64_t, uint64_t, uint8_t);
-quendaric_cell quendaric_check_cell_for(uint64_t estimate_bits, uint64_t row, uint64_t column, uint8_t byte) {
-  quendaric_cell answer;
-  quendaric_proved_check_cell_for(&answer, estimate_bits, row, column, byte);
-  return answer;
-}
-
-void quendaric_proved_check_table_for(void *, uint64_t, const void *);
-quendaric_report quendaric_check_table_for(uint64_t estimate_bits, const uint8_t *table, size_t table_length) {
-  quendaric_report answer;
-  const slice lent_table = {table, table_length};
-  quendaric_proved_check_table_for(&answer, estimate_bits, &lent_table);
-  return answer;
-}
-
-void quendaric_proved_row_limits_for(void *, uint64_t, uint64_t);
-quendaric_limits quendaric_row_limits_for(uint64_t estimate_bits, uint64_t row) {
-  quendaric_limits answer;
-  quendaric_proved_row_limits_for(&answer, estimate_bits, row);
-  return answer;
-}
-
-void quendaric_proved_make_table_for(void *, uint64_t, const void *);
-quendaric_made quendaric_make_table_for(uint64_t estimate_bits, uint8_t *QUENDARIC_RESTRICT buffer,
-                                        size_t buffer_length) {
-  quendaric_made answer;
-  const slice lent_buffer = {buffer, buffer_length};
-  quendaric_proved_make_table_for(&answer, estimate_bits, &lent_buffer);
-  return answer;
-}
-
-void quendaric_proved_repair_table_for(void *, uint64_t, const void *, const void *, const void *);
-quendaric_repaired quendaric_repair_table_for(uint64_t estimate_bits, const uint8_t *table, size_t table_length,
-                                              uint8_t *QUENDARIC_RESTRICT repaired, size_t repaired_length,
-                                              uint8_t *QUENDARIC_RESTRICT changed, size_t changed_length) {
-  quendaric_repaired answer;
-  const slice lent_table = {table, table_length};
-  const slice lent_repaired = {repaired, repaired_length};
-  const slice lent_changed = {changed, changed_length};
-  quendaric_proved_repair_table_for(&answer, estimate_bits, &lent_table, &lent_repaired, &lent_changed);
   return answer;
 }

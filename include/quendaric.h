@@ -57,9 +57,15 @@
    linked. */
 #if defined(QUENDARIC_C99) || !defined(__x86_64__)
 #define quendaric_check_cell quendaric_cross_check_cell
+#define quendaric_check_cell_for quendaric_cross_check_cell_for
 #define quendaric_check_table quendaric_cross_check_table
+#define quendaric_check_table_for quendaric_cross_check_table_for
 #define quendaric_row_limits quendaric_cross_row_limits
+#define quendaric_row_limits_for quendaric_cross_row_limits_for
 #define quendaric_make_table quendaric_cross_make_table
+#define quendaric_make_table_for quendaric_cross_make_table_for
+#define quendaric_repair_table quendaric_cross_repair_table
+#define quendaric_repair_table_for quendaric_cross_repair_table_for
 #define quendaric_run quendaric_cross_run
 #define quendaric_run_kept quendaric_cross_run_kept
 #define quendaric_step quendaric_cross_step
@@ -68,7 +74,6 @@
 #define quendaric_divide_binary64 quendaric_cross_divide_binary64
 #define quendaric_divide_binary64_kept quendaric_cross_divide_binary64_kept
 #define quendaric_divide_samples quendaric_cross_divide_samples
-#define quendaric_repair_table quendaric_cross_repair_table
 #define quendaric_affected_samples quendaric_cross_affected_samples
 #define quendaric_affected_whole quendaric_cross_affected_whole
 #define quendaric_affected_run quendaric_cross_affected_run
@@ -78,11 +83,6 @@
 #define quendaric_compare_ratios quendaric_cross_compare_ratios
 #define quendaric_root_whole quendaric_cross_root_whole
 #define quendaric_root_binary64 quendaric_cross_root_binary64
-#define quendaric_check_cell_for quendaric_cross_check_cell_for
-#define quendaric_check_table_for quendaric_cross_check_table_for
-#define quendaric_row_limits_for quendaric_cross_row_limits_for
-#define quendaric_make_table_for quendaric_cross_make_table_for
-#define quendaric_repair_table_for quendaric_cross_repair_table_for
 #endif
 
 #ifndef __cplusplus
@@ -129,8 +129,7 @@ extern "C" {
 #define QUENDARIC_WIDEST_WINDOW 4096
 
 /* A call uses at most so many bytes of stack. That is promised and not proved. In brackets stands the most that was
-   measured, over drawn operands, with tables that pass and with tables that are refused: quendaric_count_visits uses
-   580 where it refuses a table by 10, and 512 is the most of any call that refuses none. */
+   measured, over drawn operands, with tables that pass and with tables that are refused. */
 #define QUENDARIC_STACK 1024 /* (580 measured) */
 
 /* Refusals, in the words of docs/SPECIFICATION.md, section 18. D is the divisor, from 2^60 to 2^61 - 1, N the dividend,
@@ -171,6 +170,8 @@ extern "C" {
 #define QUENDARIC_DIVISION_BY_ZERO 8
 #define QUENDARIC_INVALID 16
 
+/* ---- Answers and calls, made by tools/prototypes from crates/quendaric/src/lib.rt: do not edit them here. */
+
 /* allowed is 1 where the digit may stand in the cell and 0 where it may not. Where it may not, divisor and remainder
    are the least witness: a point of the cell, in units of 2^-60, from which the digit drives the remainder out of
    range. Otherwise both are 0. */
@@ -208,6 +209,13 @@ typedef struct {
   uint64_t place;
 } quendaric_made;
 
+/* count is the number of cells that were changed. */
+typedef struct {
+  uint64_t refusal;
+  uint64_t place;
+  uint64_t count;
+} quendaric_repaired;
+
 /* digits is the number of digits that were written. */
 typedef struct {
   uint64_t refusal;
@@ -234,29 +242,6 @@ typedef struct {
   uint64_t remainder;
 } quendaric_whole;
 
-/* quotient and remainder have sixteen decimal digits each, two in a byte. */
-typedef struct {
-  uint64_t refusal;
-  uint64_t place;
-  uint8_t quotient[8];
-  uint8_t remainder[8];
-} quendaric_packed;
-
-/* order is -1 where a / b is less than c / d, 0 where the two are equal, and 1 where a / b is greater. */
-typedef struct {
-  uint64_t refusal;
-  uint64_t place;
-  int64_t order;
-} quendaric_comparison;
-
-/* remainder is a - root * root. */
-typedef struct {
-  uint64_t refusal;
-  uint64_t place;
-  uint64_t root;
-  uint64_t remainder;
-} quendaric_root;
-
 /* pattern is the 64 bits of the result. */
 typedef struct {
   uint64_t refusal;
@@ -273,19 +258,6 @@ typedef struct {
   uint64_t count;
 } quendaric_samples;
 
-/* The means and the remainders stand in the two lists. */
-typedef struct {
-  uint64_t refusal;
-  uint64_t place;
-} quendaric_averages;
-
-/* count is the number of cells that were changed. */
-typedef struct {
-  uint64_t refusal;
-  uint64_t place;
-  uint64_t count;
-} quendaric_repaired;
-
 /* count is the number of affected samples. */
 typedef struct {
   uint64_t refusal;
@@ -300,11 +272,40 @@ typedef struct {
   uint64_t affected;
 } quendaric_affected_mark;
 
+/* The means and the remainders stand in the two lists. */
+typedef struct {
+  uint64_t refusal;
+  uint64_t place;
+} quendaric_averages;
+
+/* quotient and remainder have sixteen decimal digits each, two in a byte. */
+typedef struct {
+  uint64_t refusal;
+  uint64_t place;
+  uint8_t quotient[8];
+  uint8_t remainder[8];
+} quendaric_packed;
+
 /* The numbers of visits stand in the list. */
 typedef struct {
   uint64_t refusal;
   uint64_t place;
 } quendaric_visits;
+
+/* order is -1 where a / b is less than c / d, 0 where the two are equal, and 1 where a / b is greater. */
+typedef struct {
+  uint64_t refusal;
+  uint64_t place;
+  int64_t order;
+} quendaric_comparison;
+
+/* remainder is a - root * root. */
+typedef struct {
+  uint64_t refusal;
+  uint64_t place;
+  uint64_t root;
+  uint64_t remainder;
+} quendaric_root;
 
 /* Examines one cell for a divider that adds eight bits: may the digit byte - 2 stand in it? That it may not is an
    ordinary answer, not a refusal. Writes nothing. Refuses 1, then 9 with the place 128 * row + column. */

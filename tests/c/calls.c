@@ -1,7 +1,8 @@
-/* Every call through the header: the specification's examples, each refusal, NULL with length 0; as C99 to C2x and C++11 to
-   C++2b.
+/* Every call through the header: the specification's examples, each refusal, NULL with length 0; answers that are others where
+   two arguments are exchanged; as C99 to C2x and C++11 to C++2b.
 
-   It prints nothing but what differs. */
+   It prints nothing but what differs. A call's examples and refusals stand with those of its kind; its arguments are exchanged in
+   `orders`. */
 
 #include "quendaric.h"
 #include <stdio.h>
@@ -17,6 +18,14 @@ static void same(const char *what, uint64_t got, uint64_t want) {
 }
 
 #define SAME(got, want) same(#got, (uint64_t)(got), (uint64_t)(want))
+
+/* An answer, every byte of it, and what is wanted. Each of these answers is made of words alone. */
+#define WHOLE(type, call, ...)                                                                                         \
+  do {                                                                                                                 \
+    const type got = call;                                                                                             \
+    const type want = {__VA_ARGS__};                                                                                   \
+    same(#call, (uint64_t)memcmp(&got, &want, sizeof got), 0);                                                         \
+  } while (0)
 
 static const uint64_t one = (uint64_t)1 << 60;
 static const uint8_t untouched = 0xC3;
@@ -402,13 +411,42 @@ static void rechecks(const uint8_t *kept) {
   }
 }
 
-/* An answer, every byte of it, and what is wanted. Each of these answers is made of words alone. */
-#define WHOLE(type, call, ...)                                                                                         \
+/* The lists that are lent to the calls of `orders`, as bytes or as words: all 0 before each call. */
+static union {
+  uint64_t words[12];
+  uint8_t bytes[96];
+} lent;
+
+/* Do the lent lists begin with these bytes, and hold 0 behind them? */
+static int lent_is(const void *begin, size_t size) {
+  for (size_t i = size; i < sizeof lent.bytes; i++)
+    if (lent.bytes[i] != 0)
+      return 0;
+  return memcmp(lent.bytes, begin, size) == 0;
+}
+
+/* A call on these numbers x, which are different: its whole answer, every byte of it, and what the lent lists hold are as wanted. For each pair
+   of different numbers the call is made once more with the two exchanged, and then they are not, so that no exchange is missed. */
+#define BRACED(...) {__VA_ARGS__}
+#define ORDER_LENT(call, numbers, element, list, type, ...)                                                            \
   do {                                                                                                                 \
-    const type got = call;                                                                                             \
+    const uint64_t given[] = BRACED numbers;                                                                           \
+    const element after[] = BRACED list;                                                                               \
     const type want = {__VA_ARGS__};                                                                                   \
-    same(#call, (uint64_t)memcmp(&got, &want, sizeof got), 0);                                                         \
+    const size_t count = sizeof given / sizeof *given;                                                                 \
+    for (size_t j = 0; j < count; j++)                                                                                 \
+      for (size_t k = j == 0 ? 0 : j + 1; k < count; k++) {                                                            \
+        uint64_t x[sizeof given / sizeof *given];                                                                      \
+        memcpy(x, given, sizeof x);                                                                                    \
+        x[j] = given[k], x[k] = given[j];                                                                              \
+        memset(&lent, 0, sizeof lent);                                                                                 \
+        const type got = call;                                                                                         \
+        const int wanted = memcmp(&got, &want, sizeof got) == 0 && lent_is(after, sizeof after);                       \
+        if (wanted != (given[j] == given[k]))                                                                          \
+          printf("%s: numbers %d and %d of " #numbers "\n", #call, (int)j, (int)k), differences++;                     \
+      }                                                                                                                \
   } while (0)
+#define ORDER(call, numbers, type, ...) ORDER_LENT(call, numbers, uint8_t, (0), type, __VA_ARGS__)
 
 static void limits_are(quendaric_limits got, uint64_t refusal, int a, int b, int c, int d, int e, int f) {
   const uint8_t want[6] = {(uint8_t)a, (uint8_t)b, (uint8_t)c, (uint8_t)d, (uint8_t)e, (uint8_t)f};
@@ -534,6 +572,120 @@ static void exchanged(const uint8_t *kept) {
   SAME(list[1], 0x3FD5555555555555ull);
 }
 
+/* The answer of row_limits in words: the six columns stand in one, the first lowest. Padding is no part of the answer. */
+typedef struct {
+  uint64_t refusal, place, columns;
+} limits_in_words;
+static limits_in_words in_words(quendaric_limits limits) {
+  limits_in_words words = {limits.refusal, limits.place, 0};
+  memcpy(&words.columns, limits.limits, sizeof limits.limits);
+  return words;
+}
+
+/* One step with this carry: sum and carry may be exchanged, so that no answer tells which is which. */
+static const uint64_t carry = 0x1FEDCBA987654321ull;
+
+/* A packed number by its last byte, all others 0: the dividend is number 0, the divisor number 1. */
+static const uint8_t *last(uint64_t byte, int number) {
+  static uint8_t packed[2][8];
+  packed[number][7] = (uint8_t)byte;
+  return packed[number];
+}
+
+/* Of the lists that are longer than `lent` a part is copied there: from 214 on four bytes of the repaired table and four marks, and the
+   visits of four cells. Two lists of one length are exchanged by no number. */
+static uint8_t repaired[QUENDARIC_TABLE_LENGTH + 2], changed[QUENDARIC_TABLE_LENGTH + 2];
+static uint32_t visited[QUENDARIC_TABLE_LENGTH + 1];
+static quendaric_repaired seen_repair(quendaric_repaired answer) {
+  memcpy(lent.bytes, repaired + 214, 4);
+  memcpy(lent.bytes + 4, changed + 214, 4);
+  memset(repaired, 0, sizeof repaired);
+  memset(changed, 0, sizeof changed);
+  return answer;
+}
+static quendaric_visits seen_visits(quendaric_visits answer) {
+  static const int cells[4] = {63, 72, 76, 47};
+  for (int i = 0; i < 4; i++)
+    lent.words[i] = visited[cells[i]];
+  memset(visited, 0, sizeof visited);
+  return answer;
+}
+
+/* Each call with numbers that are different. */
+static void orders(const uint8_t *kept) {
+  /* a table that passes and is not the kept one: 1 is allowed at 1991 too, where the kept table has 0; and two with a bad cell */
+  static uint8_t table[QUENDARIC_TABLE_LENGTH], burned[QUENDARIC_TABLE_LENGTH], read_back[QUENDARIC_TABLE_LENGTH];
+  static const uint64_t five[5] = {10, 20, 31, 40, 51}, n = 0x1234567890ABCDEFull, d = 0x1FEDCBA987654321ull;
+  static const uint64_t ones[2] = {0x3FF0000000000000ull, 0x3FF0000000000000ull},
+                        three_and_one[2] = {0x4008000000000000ull, 0x3FF0000000000000ull}, three = three_and_one[0];
+  memcpy(table, kept, sizeof table);
+  table[1991] = 3;
+  memcpy(burned, table, sizeof burned);
+  burned[72] = 2;
+  memcpy(read_back, table, sizeof read_back);
+  read_back[215] = 2;
+
+  /* row, column, byte: the digit 2 is not allowed there */
+  ORDER(quendaric_check_cell(x[0], x[1], (uint8_t)x[2]), (0, 75, 4), quendaric_cell,
+        0, 0, 0, (33ull << 55) + 1, 11ll << 57);
+  ORDER(quendaric_check_table(table, x[0]), (2048), quendaric_report, 0, 0, 0, 0, 0, 0, 0);
+  ORDER(in_words(quendaric_row_limits(x[0])), (7), limits_in_words, 0, 0, 0x605247392D1Full);
+  ORDER(quendaric_make_table(lent.bytes, x[0]), (16), quendaric_made, 7, 0);
+  /* the same for seven bits, whose number comes first: the digit 0 is not allowed there, and is the first bad one of the table */
+  ORDER(quendaric_check_cell_for(x[0], x[1], x[2], (uint8_t)x[3]), (7, 1, 68, 2), quendaric_cell,
+        0, 0, 0, 17ull << 56, 816652732429849942ll);
+  ORDER(quendaric_check_table_for(x[0], table, x[1]), (7, 2048), quendaric_report,
+        10, 196, 17, 1, 68, 17ull << 56, 816652732429849942ll);
+  ORDER(in_words(quendaric_row_limits_for(x[0], x[1])), (7, 1), limits_in_words, 0, 0, 0x584D443B3227ull);
+  ORDER(quendaric_make_table_for(x[0], lent.bytes, x[1]), (7, 16), quendaric_made, 7, 0);
+  /* table length, dividend, divisor, digits, buffer length, place: n * 4^4 = 145 * d + 2208485150033111375 */
+  ORDER_LENT(quendaric_run(table, x[0], x[1], x[2], x[3], lent.bytes, x[4], x[5]), (2048, n, d, 5, 11, 4), uint8_t,
+             (0, 0, 0, 0, 3, 0, 3, 3, 0), quendaric_ran, 0, 0, 145, 2208485150033111375ull, 5);
+  ORDER_LENT(quendaric_run_kept(x[0], x[1], x[2], lent.bytes, x[3], x[4]), (n, d, 5, 11, 4), uint8_t, (0, 0, 0, 0, 3, 0, 3, 2, 4),
+             quendaric_ran, 0, 0, 145, 2208485150033111375ull, 5);
+  /* sum, divisor, table length */
+  ORDER(quendaric_step(x[0], carry, x[1], table, x[2]), (0x0123456789ABCDEFull, n, 2048), quendaric_stepped, 0, 0, 2,
+        0x15677703419BABBCull, 0xDD3A197C7D4A290Cull);
+  ORDER(quendaric_divide_whole(table, x[0], x[1], x[2]), (2048, 1000000007, 7654321), quendaric_whole, 0, 0, 130, 4938277);
+  ORDER(quendaric_divide_whole_kept(x[0], x[1]), (1000000007, 7654321), quendaric_whole, 0, 0, 130, 4938277);
+  /* .., a, b, direction: 1/3 upward */
+  ORDER(quendaric_divide_binary64(table, x[0], x[1], x[2], x[3]), (2048, ones[0], three, 2), quendaric_binary64, 0, 0,
+        0x3FD5555555555556ull, 1);
+  ORDER(quendaric_divide_binary64_kept(x[0], x[1], x[2]), (ones[0], three, 2), quendaric_binary64, 0, 0, 0x3FD5555555555556ull, 1);
+  /* .., lengths of the three lists, direction: 1/3 downward */
+  ORDER_LENT(quendaric_divide_samples(table, x[0], ones, x[1], three_and_one, x[2], lent.words, x[3], x[4]), (2048, 1, 1, 2, 3),
+             uint64_t, (0x3FD5555555555555ull), quendaric_samples, 0, 0, 1, 1);
+  /* .., lengths of the three lists: with the bad cell 72 at 2, 1.0 by 1.0 reads it, and 1.0 by 3.0 does not */
+  ORDER_LENT(quendaric_affected_samples(x[0], burned, x[1], ones, x[2], three_and_one, x[3], lent.bytes, x[4]), (8, 2048, 2, 2, 3),
+             uint8_t, (0, 1, 0), quendaric_affected_count, 0, 0, 1);
+  /* .., a, b: 17 by 16 takes one digit, from that cell */
+  ORDER(quendaric_affected_whole(x[0], burned, x[1], x[2], x[3]), (8, 2048, 17, 16), quendaric_affected_mark, 0, 0, 1);
+  /* .., dividend, divisor, digits: so does one digit of 2^60 + 2^55 by 2^60; of 2^60 by 2^60 + 2^55 the digit 0 is right */
+  ORDER(quendaric_affected_run(x[0], burned, x[1], x[2], x[3], x[4]), (8, 2048, 33ull << 55, 1ull << 60, 1),
+        quendaric_affected_mark, 0, 0, 1);
+  /* number of readings, width, newest first, length of both lists: 142 and 101 by 4 */
+  ORDER_LENT(quendaric_average_windows(five, x[0], x[1], x[2] != 0, lent.words, x[3], lent.words + 5, x[3]), (5, 4, 1, 3), uint64_t,
+             (35, 25, 0, 0, 0, 2, 1), quendaric_averages, 0, 0);
+  /* 98 by 15 */
+  ORDER(quendaric_divide_packed(last(x[0], 0), last(x[1], 1)), (0x98, 0x15), quendaric_packed, 0, 0,
+        {0, 0, 0, 0, 0, 0, 0, 6}, {0, 0, 0, 0, 0, 0, 0, 8});
+  /* length of the table, length of both buffers */
+  ORDER_LENT(seen_repair(quendaric_repair_table(read_back, x[0], repaired, x[1], changed, x[1])), (2048, 2050), uint8_t,
+             (4, 4, 2, 2, 0, 1, 0, 0), quendaric_repaired, 0, 0, 1);
+  ORDER_LENT(seen_repair(quendaric_repair_table_for(x[0], read_back, x[1], repaired, x[2], changed, x[2])), (7, 2048, 2050), uint8_t,
+             (4, 4, 2, 2, 0, 1, 0, 0), quendaric_repaired, 0, 0, 18);
+  /* table length, bits, digits, length of the list */
+  ORDER_LENT(seen_visits(quendaric_count_visits(table, x[0], x[1], x[2], visited, x[3])), (2048, 2, 3, 2049), uint64_t, (3, 1, 1, 1),
+             quendaric_visits, 0, 0);
+  /* a * d and c * b are what they are with a and d, or c and b exchanged, so a 0 tells these apart, and b and d stand alone */
+  ORDER(quendaric_compare_ratios(x[0], x[1], x[2], x[3]), (0, 5, 0, 5), quendaric_comparison, 0, 0, 0);
+  ORDER(quendaric_compare_ratios(x[0], x[1], x[2], x[3]), (3, 3, 0, 3), quendaric_comparison, 0, 0, 1);
+  ORDER(quendaric_compare_ratios(1, x[0], 1, x[1]), (3, 2), quendaric_comparison, 0, 0, -1);
+  ORDER(quendaric_root_whole(x[0]), (4195835), quendaric_root, 0, 0, 2048, 1531);
+  /* a, direction: the root of 3 upward */
+  ORDER(quendaric_root_binary64(x[0], x[1]), (three, 2), quendaric_binary64, 0, 0, 0x3FFBB67AE8584CABull, 1);
+}
+
 static void visits(const uint8_t *kept) {
   static uint32_t counts[QUENDARIC_TABLE_LENGTH + 1];
   const size_t size = QUENDARIC_TABLE_LENGTH;
@@ -616,7 +768,7 @@ static void packed(void) {
 }
 
 /* Is the answer this order, and no refusal? */
-static void orders(quendaric_comparison answer, int64_t order) {
+static void compared(quendaric_comparison answer, int64_t order) {
   SAME(answer.refusal, 0);
   SAME(answer.place, 0);
   SAME(answer.order, order);
@@ -630,12 +782,12 @@ static void no_order(quendaric_comparison answer, uint64_t refusal) {
 }
 
 static void ratios(void) {
-  orders(quendaric_compare_ratios(1, 3, 2, 5), -1);
-  orders(quendaric_compare_ratios(2, 5, 1, 3), 1);
-  orders(quendaric_compare_ratios(2, 6, 1, 3), 0);
-  orders(quendaric_compare_ratios(one - 1, one - 2, one - 2, one - 3), -1);
-  orders(quendaric_compare_ratios(one - 2, one - 3, one - 1, one - 2), 1);
-  orders(quendaric_compare_ratios(0, 1, 0, one - 1), 0);
+  compared(quendaric_compare_ratios(1, 3, 2, 5), -1);
+  compared(quendaric_compare_ratios(2, 5, 1, 3), 1);
+  compared(quendaric_compare_ratios(2, 6, 1, 3), 0);
+  compared(quendaric_compare_ratios(one - 1, one - 2, one - 2, one - 3), -1);
+  compared(quendaric_compare_ratios(one - 2, one - 3, one - 1, one - 2), 1);
+  compared(quendaric_compare_ratios(0, 1, 0, one - 1), 0);
   no_order(quendaric_compare_ratios(one, 0, 1, 1), QUENDARIC_REFUSED_TOO_LARGE);
   no_order(quendaric_compare_ratios(1, one, 1, 1), QUENDARIC_REFUSED_TOO_LARGE);
   no_order(quendaric_compare_ratios(1, 1, one, 0), QUENDARIC_REFUSED_TOO_LARGE);
@@ -663,6 +815,7 @@ int main(void) {
   rechecks(table);
   neither(table);
   exchanged(table);
+  orders(table);
   by_bits(table);
   visits(table);
   refused_runs(table);

@@ -1,43 +1,101 @@
 /* gcc warns of each call whose pointers overlap, and of no other line.
 
-   A line each, marked; -Wrestrict is a part of -Wall. Compiled by tests/c/run, never linked. */
+   A line each, marked; -Wrestrict is a part of -Wall. Compiled by tests/c/run, never linked. tools/prototypes makes this file: do not
+   edit it. */
 
 #include "quendaric.h"
 
-enum { SIZE = QUENDARIC_TABLE_LENGTH, MANY = 900 };
-
-uint64_t calls(uint8_t *table, uint8_t *bytes, uint8_t *more, uint64_t *list, uint64_t *other, uint64_t *third);
-
-uint64_t calls(uint8_t *table, uint8_t *bytes, uint8_t *more, uint64_t *list, uint64_t *other, uint64_t *third) {
-  const uint64_t one = (uint64_t)1 << 60;
+uint64_t overlap_make_table(uint8_t *buffer) {
   uint64_t refusals = 0;
+  refusals += quendaric_make_table(buffer, 1).refusal;
+  return refusals;
+}
 
-  /* what is read may overlap, and what is written may stand beside it */
-  refusals += quendaric_average_windows(list, MANY, 9, false, other, MANY, third, MANY).refusal;
-  refusals += quendaric_average_windows(list, MANY, 9, true, list + MANY, MANY, list + 2 * MANY, MANY).refusal;
-  refusals += quendaric_divide_samples(table, SIZE, list, MANY, list, MANY, other, MANY, 0).refusal;
-  refusals += quendaric_repair_table(table, SIZE, bytes, SIZE, more, SIZE).refusal;
-  refusals += quendaric_repair_table_for(7, table, SIZE, bytes, SIZE, more, SIZE).refusal;
-  refusals += quendaric_make_table_for(7, table, SIZE).refusal;
-  refusals += quendaric_affected_samples(8, table, SIZE, list, MANY, list, MANY, bytes, SIZE).refusal;
-  refusals += quendaric_run(table, SIZE, one, one, 28, bytes, 28, 0).refusal;
-  refusals += quendaric_run_kept(one, one, 28, bytes, 28, 0).refusal;
-  refusals += quendaric_make_table(table, SIZE).refusal;
-  refusals += quendaric_count_visits(table, SIZE, 1, 1, (uint32_t *)list, SIZE).refusal;
-  refusals += quendaric_divide_packed(bytes, bytes).refusal;
+uint64_t overlap_make_table_for(uint8_t *buffer) {
+  uint64_t refusals = 0;
+  refusals += quendaric_make_table_for(1, buffer, 1).refusal;
+  return refusals;
+}
 
-  refusals += quendaric_average_windows(list, MANY, 9, false, list, MANY, other, MANY).refusal;       /* overlaps */
-  refusals += quendaric_average_windows(list, MANY, 9, false, other, MANY, list, MANY).refusal;       /* overlaps */
-  refusals += quendaric_average_windows(list, MANY, 9, false, other, MANY, other, MANY).refusal;      /* overlaps */
-  refusals += quendaric_divide_samples(table, SIZE, list, MANY, other, MANY, list, MANY, 0).refusal;  /* overlaps */
-  refusals += quendaric_divide_samples(table, SIZE, list, MANY, other, MANY, other, MANY, 0).refusal; /* overlaps */
-  refusals += quendaric_repair_table(table, SIZE, table, SIZE, bytes, SIZE).refusal;                  /* overlaps */
-  refusals += quendaric_repair_table(table, SIZE, bytes, SIZE, table, SIZE).refusal;                  /* overlaps */
-  refusals += quendaric_repair_table(table, SIZE, bytes, SIZE, bytes, SIZE).refusal;                  /* overlaps */
-  refusals += quendaric_repair_table_for(7, table, SIZE, table, SIZE, bytes, SIZE).refusal;           /* overlaps */
-  refusals += quendaric_repair_table_for(7, table, SIZE, bytes, SIZE, table, SIZE).refusal;           /* overlaps */
-  refusals += quendaric_repair_table_for(7, table, SIZE, bytes, SIZE, bytes, SIZE).refusal;           /* overlaps */
-  refusals += quendaric_affected_samples(8, table, SIZE, list, MANY, other, MANY, table, SIZE).refusal; /* overlaps */
-  refusals += quendaric_run(table, SIZE, one, one, 28, table, SIZE, 0).refusal;                       /* overlaps */
+uint64_t overlap_repair_table(uint8_t *table, uint8_t *repaired, uint8_t *changed) {
+  uint64_t refusals = 0;
+  refusals += quendaric_repair_table(table, 1, repaired, 1, changed, 1).refusal;
+  refusals += quendaric_repair_table(table, 1, table + 4096, 1, changed, 1).refusal;
+  refusals += quendaric_repair_table(table, 1, table, 1, changed, 1).refusal; /* overlaps */
+  refusals += quendaric_repair_table(table, 1, repaired, 1, table + 4096, 1).refusal;
+  refusals += quendaric_repair_table(table, 1, repaired, 1, table, 1).refusal; /* overlaps */
+  refusals += quendaric_repair_table(table, 1, repaired, 1, repaired + 4096, 1).refusal;
+  refusals += quendaric_repair_table(table, 1, repaired, 1, repaired, 1).refusal; /* overlaps */
+  return refusals;
+}
+
+uint64_t overlap_repair_table_for(uint8_t *table, uint8_t *repaired, uint8_t *changed) {
+  uint64_t refusals = 0;
+  refusals += quendaric_repair_table_for(1, table, 1, repaired, 1, changed, 1).refusal;
+  refusals += quendaric_repair_table_for(1, table, 1, table + 4096, 1, changed, 1).refusal;
+  refusals += quendaric_repair_table_for(1, table, 1, table, 1, changed, 1).refusal; /* overlaps */
+  refusals += quendaric_repair_table_for(1, table, 1, repaired, 1, table + 4096, 1).refusal;
+  refusals += quendaric_repair_table_for(1, table, 1, repaired, 1, table, 1).refusal; /* overlaps */
+  refusals += quendaric_repair_table_for(1, table, 1, repaired, 1, repaired + 4096, 1).refusal;
+  refusals += quendaric_repair_table_for(1, table, 1, repaired, 1, repaired, 1).refusal; /* overlaps */
+  return refusals;
+}
+
+uint64_t overlap_run(uint8_t *table, uint8_t *buffer) {
+  uint64_t refusals = 0;
+  refusals += quendaric_run(table, 1, 1, 1, 1, buffer, 1, 1).refusal;
+  refusals += quendaric_run(table, 1, 1, 1, 1, table + 4096, 1, 1).refusal;
+  refusals += quendaric_run(table, 1, 1, 1, 1, table, 1, 1).refusal; /* overlaps */
+  return refusals;
+}
+
+uint64_t overlap_run_kept(uint8_t *buffer) {
+  uint64_t refusals = 0;
+  refusals += quendaric_run_kept(1, 1, 1, buffer, 1, 1).refusal;
+  return refusals;
+}
+
+uint64_t overlap_divide_samples(uint8_t *table, uint64_t *currents, uint64_t *sensitivities, uint64_t *concentrations) {
+  uint64_t refusals = 0;
+  refusals += quendaric_divide_samples(table, 1, currents, 1, sensitivities, 1, concentrations, 1, 1).refusal;
+  refusals += quendaric_divide_samples(table, 1, currents, 1, currents, 1, concentrations, 1, 1).refusal;
+  refusals += quendaric_divide_samples(table, 1, currents, 1, sensitivities, 1, currents + 4096, 1, 1).refusal;
+  refusals += quendaric_divide_samples(table, 1, currents, 1, sensitivities, 1, currents, 1, 1).refusal; /* overlaps */
+  refusals += quendaric_divide_samples(table, 1, currents, 1, sensitivities, 1, sensitivities + 4096, 1, 1).refusal;
+  refusals += quendaric_divide_samples(table, 1, currents, 1, sensitivities, 1, sensitivities, 1, 1).refusal; /* overlaps */
+  return refusals;
+}
+
+uint64_t overlap_affected_samples(uint8_t *table, uint64_t *currents, uint64_t *sensitivities, uint8_t *affected) {
+  uint64_t refusals = 0;
+  refusals += quendaric_affected_samples(1, table, 1, currents, 1, sensitivities, 1, affected, 1).refusal;
+  refusals += quendaric_affected_samples(1, table, 1, currents, 1, currents, 1, affected, 1).refusal;
+  refusals += quendaric_affected_samples(1, table, 1, currents, 1, sensitivities, 1, table + 4096, 1).refusal;
+  refusals += quendaric_affected_samples(1, table, 1, currents, 1, sensitivities, 1, table, 1).refusal; /* overlaps */
+  return refusals;
+}
+
+uint64_t overlap_average_windows(uint64_t *readings, uint64_t *means, uint64_t *remainders) {
+  uint64_t refusals = 0;
+  refusals += quendaric_average_windows(readings, 1, 1, 1, means, 1, remainders, 1).refusal;
+  refusals += quendaric_average_windows(readings, 1, 1, 1, readings + 4096, 1, remainders, 1).refusal;
+  refusals += quendaric_average_windows(readings, 1, 1, 1, readings, 1, remainders, 1).refusal; /* overlaps */
+  refusals += quendaric_average_windows(readings, 1, 1, 1, means, 1, readings + 4096, 1).refusal;
+  refusals += quendaric_average_windows(readings, 1, 1, 1, means, 1, readings, 1).refusal; /* overlaps */
+  refusals += quendaric_average_windows(readings, 1, 1, 1, means, 1, means + 4096, 1).refusal;
+  refusals += quendaric_average_windows(readings, 1, 1, 1, means, 1, means, 1).refusal; /* overlaps */
+  return refusals;
+}
+
+uint64_t overlap_divide_packed(uint8_t *dividend, uint8_t *divisor) {
+  uint64_t refusals = 0;
+  refusals += quendaric_divide_packed(dividend, divisor).refusal;
+  refusals += quendaric_divide_packed(dividend, dividend).refusal;
+  return refusals;
+}
+
+uint64_t overlap_count_visits(uint8_t *table, uint32_t *visits) {
+  uint64_t refusals = 0;
+  refusals += quendaric_count_visits(table, 1, 1, 1, visits, 1).refusal;
   return refusals;
 }

@@ -1,33 +1,22 @@
-/* What a call costs: bytes of stack below the caller's, on a painted stack, and on a Cortex-M processor
-   instructions, as qemu counts them under -icount shift=0 (TICK tenths of one are a tick of the SysTick). TURNS
-   drawn operands each; of the instructions the mean, of the stack the most. Beside the calls the compiler's own
+/* What the calls of docs/TARGETS.md cost on a Cortex-M processor: instructions, as qemu counts them under -icount shift=0
+   (TICK tenths of one are a tick of the SysTick), the mean of TURNS drawn operands. Beside the calls the compiler's own
    division of doubles and of 64 bits. An affected_ call ends a division at the digit that makes it wrong, and read_back
-   has many such; the two rows affected_of_ go through a table that passes, the last one that repair_table_for made.
-   Status 1 where a call uses more stack than include/quendaric.h promises. */
+   has many such; the two rows affected_of_ go through a table that passes, the last one that repair_table_for made. */
 
 #include "port.h"
 #include "quendaric.h"
 
-enum { TURNS = 50, PAINT = 0xA5, PAINTED = 12288 };
+enum { TURNS = 50 };
 
-#ifdef QUENDARIC_BARE
 #define SYST_CSR (*(volatile uint32_t *)0xE000E010)
 #define SYST_RVR (*(volatile uint32_t *)0xE000E014)
 #define SYST_CVR (*(volatile uint32_t *)0xE000E018)
-#endif
-#if defined(__riscv)
-#define STACK_POINTER "mv %0, sp"
-#elif defined(__x86_64__)
-#define STACK_POINTER "mov %%rsp, %0"
-#else
-#define STACK_POINTER "mov %0, sp"
-#endif
 
 static uint8_t table[QUENDARIC_TABLE_LENGTH], buffer[QUENDARIC_MOST_DIGITS];
 static uint8_t read_back[QUENDARIC_TABLE_LENGTH], repaired[QUENDARIC_TABLE_LENGTH], changed[QUENDARIC_TABLE_LENGTH];
 static uint32_t visits[QUENDARIC_TABLE_LENGTH];
 static uint64_t readings[8], means[8], remainders[8], currents[100], sensitivities[100], concentrations[100];
-static uint8_t decimals[16], *pointer;
+static uint8_t decimals[16];
 static uint64_t a, b;
 static volatile uint64_t sink, hundred = 100;
 
@@ -89,10 +78,7 @@ static uint64_t number(uint64_t from) {
   CALL(the_compilers_division, quendaric_pattern(quendaric_double(number(a)) / quendaric_double(number(b))))
 
 #define FUNCTION(name, call)                                                                                           \
-  __attribute__((noinline)) static void call_##name(void) {                                                            \
-    __asm__ volatile(STACK_POINTER : "=r"(pointer));                                                                   \
-    sink = call;                                                                                                       \
-  }
+  __attribute__((noinline)) static void call_##name(void) { sink = call; }
 EACH(FUNCTION)
 #define ROW(name, call) {#name, call_##name},
 static const struct {
@@ -108,21 +94,8 @@ static void draw(int turn) {
   read_back[a % size] = (uint8_t)(b % 8);
 }
 
-__attribute__((noinline)) static uint32_t stack_of(void (*call)(void)) {
-  uint8_t *here;
-  __asm__ volatile(STACK_POINTER : "=r"(here));
-  volatile uint8_t *low = here - PAINTED;
-  for (volatile uint8_t *at = low; at < here; at++)
-    *at = PAINT;
-  call();
-  while (*low == PAINT)
-    low++;
-  return low < pointer ? (uint32_t)(pointer - low) : 0;
-}
-
 /* Instructions of a turn of the call, ten times, in ticks. */
 static uint64_t ticks_of(void (*call)(void)) {
-#ifdef QUENDARIC_BARE
   SYST_RVR = 0xFFFFFF, SYST_CVR = 0, SYST_CSR = 5;
   const uint32_t before = SYST_CVR;
   for (int again = 0; again < 10; again++)
@@ -130,14 +103,10 @@ static uint64_t ticks_of(void (*call)(void)) {
   const uint32_t after = SYST_CVR;
   SYST_CSR = 0;
   return (before - after) & 0xFFFFFF;
-#else
-  return call == NULL;
-#endif
 }
 
 int main(void) {
   uint64_t nothing = 0;
-  int status = 0;
   for (int i = 0; i < 100; i++) {
     const uint64_t n = bits(), d = bits();
     currents[i] = number(n), sensitivities[i] = number(d);
@@ -147,24 +116,15 @@ int main(void) {
   for (int i = 0; i < 16; i++)
     draw(i);
   for (size_t i = 0; i < sizeof calls / sizeof calls[0]; i++) {
-    uint32_t most = 0;
     uint64_t ticks = 0;
     for (int turn = 0; turn < TURNS; turn++) {
       draw(turn);
-      const uint32_t used = stack_of(calls[i].call);
-      most = used > most ? used : most;
       ticks += ticks_of(calls[i].call);
     }
     const uint64_t each = ticks * TICK / (TURNS * 100);
     if (i == 0)
       nothing = each;
-    say("  "), say(calls[i].name), say(": ");
-    if (TICK != 0)
-      say_number(each - nothing), say(" instructions, ");
-    say_number(most), say(" bytes of stack");
-    if (most > QUENDARIC_STACK)
-      status = 1, say(", MORE THAN PROMISED");
-    say("\n");
+    say("  "), say(calls[i].name), say(": "), say_number(each - nothing), say(" instructions\n");
   }
-  return status;
+  return 0;
 }

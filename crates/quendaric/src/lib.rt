@@ -1,4 +1,6 @@
 // The C interface: thin exports of the three layers and of the averages. A slice is a pointer and a length; an answer comes back as the layer's own struct.
+// tools/prototypes makes answers and calls of include/quendaric.h from here: the comment of an export is that of its call, the comment of a `use` that of the answer.
+// An export whose answer is a mere refusal says behind `->` how C names it, and at its first call what it then tells.
 ghost use mathlib.Core.Path.{_≡_};
 ghost use Rattle.selection.specs.computed.Answer.{cellNumbers, reportNumbers};
 ghost use Rattle.selection.specs.computed.Bits.{checkCellFor, checkTableFor, rowLimitsFor, makeFor, repairFor};
@@ -17,24 +19,43 @@ ghost use Rattle.division.specs.computed.Ratios.{comparedOf, comparisonNumbers}
 ghost use Rattle.division.specs.computed.RootCalls.{rootWholeOf, rootBinary64Of};
 ghost use Rattle.exposure.specs.computed.Outcomes.{averagesOf};
 ghost use Rattle.selection.specs.declared.Estimate.the-variants.{EightBits};
+// pattern is the 64 bits of the result.
 use division::format::Binary64;
+// quotient and remainder have sixteen decimal digits each, two in a byte.
 use division::packed::Packed;
+// order is -1 where a / b is less than c / d, 0 where the two are equal, and 1 where a / b is greater.
 use division::ratio::Comparison;
+// count is the number of affected samples.
 use division::recheck::AffectedCount;
+// remainder is a - root * root.
 use division::root::Root;
+// flags is the sum of the flags that at least one sample raised. count is the number of samples.
 use division::samples::Samples;
+// a = quotient * b + remainder, with remainder < b.
 use division::whole::Whole;
+// digits is the number of digits that were written.
 use recurrence::Ran;
+// affected is 1 where the division went wrong, else 0.
 use recurrence::recheck::AffectedMark;
+// digit is from -2 to 2. sum and carry are the next two words.
 use recurrence::step::Stepped;
 use selection::Estimate;
 use selection::Refusal;
+// limits holds the columns at which the digits -2, -1, 0, 1, 2 and then 0 again begin.
 use selection::maker::Limits;
+// allowed is 1 where the digit may stand in the cell and 0 where it may not. Where it may not, divisor and remainder
+// are the least witness: a point of the cell, in units of 2^-60, from which the digit drives the remainder out of
+// range. Otherwise both are 0.
 use selection::numbers::Cell;
+// count is the number of bad cells. row and column are those of the first bad cell, and divisor and remainder are the
+// least witness against it. The table passed exactly when the refusal is 0. A count of 0 does not say so: with the
+// refusals 8 and 9 no cell was examined, and the count is 0 too.
 use selection::numbers::Report;
+// count is the number of cells that were changed.
 use selection::repair::Repaired;
 
-// A single cell: is the digit of this byte allowed?
+// Examines one cell for a divider that adds eight bits: may the digit byte - 2 stand in it? That it may not is an
+// ordinary answer, not a refusal. Writes nothing. Refuses 1, then 9 with the place 128 * row + column.
 #[no_mangle]
 pub extern "C" fn quendaric_check_cell(row: u64, column: u64, byte: u8) -> Cell
     ensures { λ r. ⌜ r ≡ cellNumbers (cellOf EightBits row column byte) ⌝ }
@@ -42,7 +63,22 @@ pub extern "C" fn quendaric_check_cell(row: u64, column: u64, byte: u8) -> Cell
     selection::numbers::cell_numbers(Estimate::EightBits, row, column, byte)
 }
 
-// A table: passed, or its first bad cell.
+// Does the same for a divider that adds estimate_bits bits, 7 or 8. Refuses 17, 1, 9, in this order.
+#[no_mangle]
+pub extern "C" fn quendaric_check_cell_for(
+    estimate_bits: u64,
+    row: u64,
+    column: u64,
+    byte: u8,
+) -> Cell
+    ensures { λ r. ⌜ r ≡ checkCellFor «estimate_bits» row column byte ⌝ }
+{
+    selection::bits::check_cell_for(estimate_bits, row, column, byte)
+}
+
+// Checks a table for a divider that adds eight bits. The table passed exactly when the refusal is 0. It may still be bad
+// in a divider that adds seven: ask quendaric_check_table_for. Writes nothing. Refuses 8, 9, 10; with 10 alone the answer
+// also has count, row, column and witness.
 #[no_mangle]
 pub extern "C" fn quendaric_check_table(table: &[u8]) -> Report
     ensures { λ r. ⌜ r ≡ reportNumbers (reportOf EightBits (now (table .entry))) ⌝ }
@@ -50,7 +86,16 @@ pub extern "C" fn quendaric_check_table(table: &[u8]) -> Report
     selection::numbers::table_numbers(Estimate::EightBits, table)
 }
 
-// The columns at which the digits of a made row change.
+// Does the same for a divider that adds estimate_bits bits, 7 or 8. A table that passes for 7 passes for 8 too. Refuses
+// 17, 8, 9, 10, in this order.
+#[no_mangle]
+pub extern "C" fn quendaric_check_table_for(estimate_bits: u64, table: &[u8]) -> Report
+    ensures { λ r. ⌜ r ≡ checkTableFor «estimate_bits» (now (table .entry)) ⌝ }
+{
+    selection::bits::check_table_for(estimate_bits, table)
+}
+
+// Returns the six columns at which the digits of a row of the kept table change. Writes nothing. Refuses 1.
 #[no_mangle]
 pub extern "C" fn quendaric_row_limits(row: u64) -> Limits
     ensures { λ r. ⌜ r ≡ rowLimitsOf EightBits row ⌝ }
@@ -58,7 +103,18 @@ pub extern "C" fn quendaric_row_limits(row: u64) -> Limits
     selection::maker::row_limits(Estimate::EightBits, row)
 }
 
-// The made table, to the first 2,048 bytes of the buffer.
+// Does the same for a row of the table that quendaric_make_table_for writes. Refuses 17, 1, in this order.
+#[no_mangle]
+pub extern "C" fn quendaric_row_limits_for(estimate_bits: u64, row: u64) -> Limits
+    ensures { λ r. ⌜ r ≡ rowLimitsFor «estimate_bits» row ⌝ }
+{
+    selection::bits::row_limits_for(estimate_bits, row)
+}
+
+// Writes the kept table: each cell gets the allowed digit that is nearest zero. It writes the first 2,048 bytes of the
+// buffer and leaves later bytes as they are. Do not burn this table into a divider that adds only the top seven bits of
+// each word: it is bad there. Refuses 7.
+// -> quendaric_made: The table stands in the buffer.
 #[no_mangle]
 pub extern "C" fn quendaric_make_table(buffer: &mut [u8]) -> Refusal
     ensures { λ r. ⌜ record { answer = r; buffer = now (buffer .exit) } ≡ makeOf EightBits (now (buffer .entry)) ⌝ }
@@ -66,7 +122,53 @@ pub extern "C" fn quendaric_make_table(buffer: &mut [u8]) -> Refusal
     selection::maker::make_table(Estimate::EightBits, buffer)
 }
 
-// A run through a lent table, its digits into the buffer from a place on.
+// Writes the table for a divider that adds estimate_bits bits: 8 gives the kept table, 7 one that passes for either
+// divider. Refuses 17, 7, in this order.
+// -> quendaric_made
+#[no_mangle]
+pub extern "C" fn quendaric_make_table_for(estimate_bits: u64, buffer: &mut [u8]) -> Refusal
+    ensures { λ r. ⌜ record { answer = r; buffer = now (buffer .exit) } ≡ makeFor «estimate_bits» (now (buffer .entry)) ⌝ }
+{
+    selection::bits::make_table_for(estimate_bits, buffer)
+}
+
+// Repairs a table that was read back from a device. A bad cell, or a byte above 4, gets the digit of the kept table;
+// every other byte is copied. The call writes the repaired table to the first 2,048 bytes of repaired and to those of
+// changed a 1 for each cell that it changed and a 0 for each other; it leaves later bytes as they are. The repaired
+// table passes the check, and no table that passes differs from the one read back in fewer cells. Both hold for a
+// divider that adds eight bits: for one that adds seven a repaired table may be bad. Neither buffer may overlap the
+// table or the other buffer, so a table cannot be repaired in place. Refuses 7, 8, and never 9 or 10.
+#[no_mangle]
+pub extern "C" fn quendaric_repair_table(
+    table: &[u8],
+    repaired: &mut [u8],
+    changed: &mut [u8],
+) -> Repaired
+    ensures { λ r. ⌜ record { answer = r; repaired = now (repaired .exit); changed = now (changed .exit) } ≡ repairOf EightBits (now (table .entry)) (now (repaired .entry)) (now (changed .entry)) ⌝ }
+{
+    selection::repair::repair_table(Estimate::EightBits, table, repaired, changed)
+}
+
+// Does the same for a divider that adds estimate_bits bits, 7 or 8: which cells are bad, the digit that a changed cell
+// gets, and that the repaired table passes with the fewest changes are all for that divider. The digit is that of the
+// table that quendaric_make_table_for writes. Refuses 17, 7, 8, in this order, and never 9 or 10.
+#[no_mangle]
+pub extern "C" fn quendaric_repair_table_for(
+    estimate_bits: u64,
+    table: &[u8],
+    repaired: &mut [u8],
+    changed: &mut [u8],
+) -> Repaired
+    ensures { λ r. ⌜ record { answer = r; repaired = now (repaired .exit); changed = now (changed .exit) } ≡ repairFor «estimate_bits» (now (table .entry)) (now (repaired .entry)) (now (changed .entry)) ⌝ }
+{
+    selection::bits::repair_table_for(estimate_bits, table, repaired, changed)
+}
+
+// Divides digit by digit through the table: a run. It computes 1 to 28 quotient digits of dividend / divisor, such that
+// dividend * 4^(digits - 1) = quotient * divisor + remainder with remainder < divisor. The dividend is below 2^61, and
+// the divisor is 2^60 or more and below 2^61. The call writes the digits, each as q + 2 and the first digit first, to
+// buffer[place] to buffer[place + digits - 1] and writes no other byte. The buffer may not overlap the table. The call
+// checks the table each time. Refuses 2, 3, 7, 8, 9, 10.
 #[no_mangle]
 pub extern "C" fn quendaric_run(
     table: &[u8],
@@ -81,7 +183,7 @@ pub extern "C" fn quendaric_run(
     recurrence::run(table, dividend, divisor, digits, buffer, place)
 }
 
-// The same through the kept table.
+// Does the same through the kept table. Refuses 2, 3, 7.
 #[no_mangle]
 pub extern "C" fn quendaric_run_kept(
     dividend: u64,
@@ -95,7 +197,10 @@ pub extern "C" fn quendaric_run_kept(
     recurrence::run_kept(dividend, divisor, digits, buffer, place)
 }
 
-// One step from any two words, through a lent table.
+// Makes one step of a run from any two words. The remainder P is sum + carry modulo 2^64, read as signed; the next two
+// words add up to 4 * (P - digit * divisor). If you begin with sum = dividend and carry = 0 and pass each returned pair
+// back with the same divisor and table, you get the digits of the run. The divisor is 2^60 or more and below 2^61.
+// Writes nothing. The call checks the table each time. Refuses 3, 14, 8, 9, 10.
 #[no_mangle]
 pub extern "C" fn quendaric_step(sum: u64, carry: u64, divisor: u64, table: &[u8]) -> Stepped
     ensures { λ r. ⌜ r ≡ stepOf sum carry divisor (now (table .entry)) ⌝ }
@@ -103,7 +208,8 @@ pub extern "C" fn quendaric_step(sum: u64, carry: u64, divisor: u64, table: &[u8
     recurrence::step::step(sum, carry, divisor, table)
 }
 
-// Whole numbers through a lent table.
+// Divides whole numbers below 2^60 through the table: a = quotient * b + remainder with remainder < b. Writes nothing.
+// The call checks the table each time. Refuses 4, 5, 8, 9, 10.
 #[no_mangle]
 pub extern "C" fn quendaric_divide_whole(table: &[u8], a: u64, b: u64) -> Whole
     ensures { λ r. ⌜ r ≡ wholeOf (now (table .entry)) a b ⌝ }
@@ -111,7 +217,7 @@ pub extern "C" fn quendaric_divide_whole(table: &[u8], a: u64, b: u64) -> Whole
     division::whole::divide_whole(table, a, b)
 }
 
-// The same through the kept table.
+// Does the same through the kept table. Refuses 4, 5.
 #[no_mangle]
 pub extern "C" fn quendaric_divide_whole_kept(a: u64, b: u64) -> Whole
     ensures { λ r. ⌜ r ≡ wholeOf (madeTable EightBits) a b ⌝ }
@@ -119,7 +225,10 @@ pub extern "C" fn quendaric_divide_whole_kept(a: u64, b: u64) -> Whole
     division::whole::divide_whole_kept(a, b)
 }
 
-// Binary64 patterns through a lent table.
+// Divides two IEEE 754 binary64 numbers, given by their 64 bits, through the table and rounds once in the direction.
+// The flags are IEEE 754's, with tininess detected before rounding. A NaN operand gives 7FF8000000000000, and the flag
+// invalid exactly if an operand is a signalling NaN. Writes nothing. The call checks the table each time, whatever the
+// operands. Refuses 6, 8, 9, 10; the pattern is then 0, which reads as 0.0, so test the refusal first.
 #[no_mangle]
 pub extern "C" fn quendaric_divide_binary64(
     table: &[u8],
@@ -132,7 +241,7 @@ pub extern "C" fn quendaric_divide_binary64(
     division::binary64::divide_binary64(table, a, b, direction)
 }
 
-// The same through the kept table.
+// Does the same through the kept table. Refuses 6, with the pattern 0.
 #[no_mangle]
 pub extern "C" fn quendaric_divide_binary64_kept(a: u64, b: u64, direction: u64) -> Binary64
     ensures { λ r. ⌜ r ≡ binary64Of (madeTable EightBits) direction a b ⌝ }
@@ -140,7 +249,10 @@ pub extern "C" fn quendaric_divide_binary64_kept(a: u64, b: u64, direction: u64)
     division::binary64::divide_binary64_kept(a, b, direction)
 }
 
-// A run of samples through a lent table, their concentrations into the third list.
+// Divides a run of samples through a table that it checks once, also where the run is empty. concentrations[j] becomes
+// the pattern that quendaric_divide_binary64 gives for currents[j] / sensitivities[j], for every j below
+// currents_length; later words keep their contents. concentrations may overlap neither the table nor another list.
+// Refuses 6, 11, 7, 8, 9, 10, in this order.
 #[no_mangle]
 pub extern "C" fn quendaric_divide_samples(
     table: &[u8],
@@ -154,19 +266,17 @@ pub extern "C" fn quendaric_divide_samples(
     division::samples::divide_samples(table, currents, sensitivities, concentrations, direction)
 }
 
-// A repaired table, and its marks.
-#[no_mangle]
-pub extern "C" fn quendaric_repair_table(
-    table: &[u8],
-    repaired: &mut [u8],
-    changed: &mut [u8],
-) -> Repaired
-    ensures { λ r. ⌜ record { answer = r; repaired = now (repaired .exit); changed = now (changed .exit) } ≡ repairOf EightBits (now (table .entry)) (now (repaired .entry)) (now (changed .entry)) ⌝ }
-{
-    selection::repair::repair_table(Estimate::EightBits, table, repaired, changed)
-}
-
-// Which samples a table as it was burned has affected, in a divider that adds so many bits of each remainder word, 7 or 8.
+// Finds the records that a wrong table made wrong. The table is the one that was burned, with its bad cells: no byte of it
+// is refused. estimate_bits is how many bits of each remainder word the divider adds that filed the records, 7 or 8: the
+// two read different cells, so there is no default. The call writes affected[j] for every j below currents_length: 0 if
+// each byte that 28 steps of currents[j] / sensitivities[j] read in this table is 4 or less and the quotient and remainder
+// that these digits form are right, else 1. count is the number of ones. Where affected[j] is 0, the pattern and the flags
+// that are formed from the burned table's own digits are those of IEEE 754, in every direction. Where it is 1, the
+// quotient of the 28 digits is wrong, or a byte above 4 was read; rounded to a binary64 such a quotient may still be the
+// right one. A sample with a zero, an infinity or a NaN takes no digit, and its mark is 0. All this is said of a divider
+// that steps as this unit does and corrects by the sign of its last remainder. Later bytes of affected keep their
+// contents. affected may overlap nothing else. Beside a refusal nothing is written, and a count of 0 does not say that no
+// sample is affected. Refuses 17, 11, 7, 8, in this order.
 #[no_mangle]
 pub extern "C" fn quendaric_affected_samples(
     estimate_bits: u64,
@@ -180,7 +290,11 @@ pub extern "C" fn quendaric_affected_samples(
     division::recheck::affected_samples_for(estimate_bits, table, currents, sensitivities, affected)
 }
 
-// Whether it has affected a division of whole numbers.
+// Does the same for one division of whole numbers below 2^60: affected is 1 exactly if the quotient or the remainder of
+// a / b, formed from the digits of the table as it was burned, is wrong, or a byte above 4 was read. This is for a divider
+// that shifts its operands left as quendaric_divide_whole does and takes exactly (d + 1) / 2 + 1 digits, the half rounded
+// down, where d is by how many bits a is longer than b, or 0 where it is not longer; for another one, as this unit was
+// before version 2.2.2, take quendaric_affected_run. Writes nothing. Refuses 17, 4, 5, 8.
 #[no_mangle]
 pub extern "C" fn quendaric_affected_whole(
     estimate_bits: u64,
@@ -193,7 +307,10 @@ pub extern "C" fn quendaric_affected_whole(
     division::recheck::affected_whole_for(estimate_bits, table, a, b)
 }
 
-// Whether it has affected a run of so many digits.
+// Does the same for one run of 1 to 31 digits: affected is 0 exactly if each byte that its steps read in the table as it
+// was burned is 4 or less and the quotient and remainder that these digits form are those of
+// dividend * 4^(digits - 1) / divisor, else 1. Dividend and divisor are those with which the divider begins, as in
+// quendaric_run. Writes nothing. Refuses 17, then 2 where digits is 0 or above 31, then 3, 8.
 #[no_mangle]
 pub extern "C" fn quendaric_affected_run(
     estimate_bits: u64,
@@ -207,7 +324,17 @@ pub extern "C" fn quendaric_affected_run(
     recurrence::recheck::affected_run_for(estimate_bits, table, dividend, divisor, digits)
 }
 
-// Mean and remainder of every full window of so many readings, the oldest window first, into two lists. The readings come oldest or newest first.
+// Averages readings over a sliding window. The readings are parts per billion below 2^40. For every full window of
+// width readings the call writes the mean, rounded down, and what rounding left over: means[j] * width + remainders[j]
+// is the sum of the window's readings, with remainders[j] < width. The oldest window comes first, whichever way the
+// readings are ordered: where newest_first is false, window j begins at readings[j]; where it is true, window j ends at
+// readings[readings_length - 1 - j]. j goes from 0 to readings_length - width, and later words of both lists keep their
+// contents. With one reading a second, fifteen minutes are a width of 900. The call divides through the kept table.
+// means and remainders may overlap neither the readings nor each other: an average cannot replace its reading in place.
+// Refuses 12, 13, 7, in this order; the place of 13 is an index of readings.
+// Pass true or false for newest_first. C and C++ convert every number to one of the two, but another language can pass
+// any byte. No proof speaks of a byte above 1; this archive goes by its lowest bit, so that an odd byte is true.
+// -> quendaric_averages: The means and the remainders stand in the two lists.
 #[no_mangle]
 pub extern "C" fn quendaric_average_windows(
     readings: &[u64],
@@ -221,7 +348,10 @@ pub extern "C" fn quendaric_average_windows(
     exposure::average_windows(readings, width, newest_first, means, remainders)
 }
 
-// Packed decimal numbers, eight bytes each, over the kept table.
+// Divides packed decimal numbers: sixteen digits in eight bytes, two in a byte, the higher digit in the high four bits,
+// the first byte highest. dividend = quotient * divisor + remainder with remainder < divisor. Both pointers are valid
+// for eight bytes, at any address, and not NULL; they may be the same. Writes nothing. The call divides through the
+// kept table. Refuses 15 with the byte as its place, 0 to 7 in the dividend and 8 to 15 in the divisor; then 5.
 #[no_mangle]
 pub extern "C" fn quendaric_divide_packed(dividend: &[u8; 8], divisor: &[u8; 8]) -> Packed
     ensures { λ r. ⌜ r ≡ packedOf (now (dividend .entry)) (now (divisor .entry)) ⌝ }
@@ -229,7 +359,12 @@ pub extern "C" fn quendaric_divide_packed(dividend: &[u8; 8], divisor: &[u8; 8])
     division::packed::divide_packed(*dividend, *divisor)
 }
 
-// How often each cell is met by the runs of all pairs of operands of so many bits.
+// Counts how often each cell is met. It takes all 4^(bits - 1) pairs of operands that have 1 to 6 significant bits,
+// both with their leading one at bit 60, and runs 1 to 28 digits of each pair through the table. visits[128 * row +
+// column] becomes the number of these digits that were taken at that cell. The call writes the first 2,048 numbers,
+// which add up to digits * 4^(bits - 1), and leaves later ones as they are. visits may not overlap the table. The call
+// checks the table once. Refuses 2, 16, 7, 8, 9, 10, in this order.
+// -> quendaric_visits: The numbers of visits stand in the list.
 #[no_mangle]
 pub extern "C" fn quendaric_count_visits(
     table: &[u8],
@@ -242,7 +377,8 @@ pub extern "C" fn quendaric_count_visits(
     recurrence::visits::count_visits(table, bits, digits, visits)
 }
 
-// a / b against c / d.
+// Compares a / b with c / d for whole numbers below 2^60: as a * d compares with c * b, with nothing rounded, so that
+// qsort may go by it. Writes nothing. The call divides through the kept table. Refuses 4, then 5 where b or d is 0.
 #[no_mangle]
 pub extern "C" fn quendaric_compare_ratios(a: u64, b: u64, c: u64, d: u64) -> Comparison
     ensures { λ r. ⌜ r ≡ comparisonNumbers (comparedOf a b c d) ⌝ }
@@ -250,7 +386,8 @@ pub extern "C" fn quendaric_compare_ratios(a: u64, b: u64, c: u64, d: u64) -> Co
     division::ratio::comparison_numbers(a, b, c, d)
 }
 
-// The whole root.
+// Returns the whole square root of a number below 2^60: root * root <= a < (root + 1) * (root + 1). Writes nothing and
+// uses no table. Refuses 4.
 #[no_mangle]
 pub extern "C" fn quendaric_root_whole(a: u64) -> Root
     ensures { λ r. ⌜ r ≡ rootWholeOf a ⌝ }
@@ -258,62 +395,13 @@ pub extern "C" fn quendaric_root_whole(a: u64) -> Root
     division::root::root_whole(a)
 }
 
-// The root of a binary64 pattern.
+// Returns the IEEE 754 binary64 square root of a pattern, rounded once in the direction. A zero gives itself with its
+// sign, and plus infinity gives itself. A number below zero, and minus infinity, gives 7FF8000000000000 and the flag
+// invalid. A NaN gives 7FF8000000000000, and the flag invalid where it is signalling. For all others inexact is the
+// only flag. Writes nothing and uses no table. Refuses 6, with the pattern 0.
 #[no_mangle]
 pub extern "C" fn quendaric_root_binary64(a: u64, direction: u64) -> Binary64
     ensures { λ r. ⌜ r ≡ rootBinary64Of direction a ⌝ }
 {
     division::root::root_binary64(a, direction)
-}
-
-// ---- The calls on tables for a divider that adds so many bits of each remainder word, 7 or 8. The calls above are those for 8.
-
-// A single cell.
-#[no_mangle]
-pub extern "C" fn quendaric_check_cell_for(
-    estimate_bits: u64,
-    row: u64,
-    column: u64,
-    byte: u8,
-) -> Cell
-    ensures { λ r. ⌜ r ≡ checkCellFor «estimate_bits» row column byte ⌝ }
-{
-    selection::bits::check_cell_for(estimate_bits, row, column, byte)
-}
-
-// A table.
-#[no_mangle]
-pub extern "C" fn quendaric_check_table_for(estimate_bits: u64, table: &[u8]) -> Report
-    ensures { λ r. ⌜ r ≡ checkTableFor «estimate_bits» (now (table .entry)) ⌝ }
-{
-    selection::bits::check_table_for(estimate_bits, table)
-}
-
-// The columns at which the digits of a made row change.
-#[no_mangle]
-pub extern "C" fn quendaric_row_limits_for(estimate_bits: u64, row: u64) -> Limits
-    ensures { λ r. ⌜ r ≡ rowLimitsFor «estimate_bits» row ⌝ }
-{
-    selection::bits::row_limits_for(estimate_bits, row)
-}
-
-// The made table, to the first 2,048 bytes of the buffer.
-#[no_mangle]
-pub extern "C" fn quendaric_make_table_for(estimate_bits: u64, buffer: &mut [u8]) -> Refusal
-    ensures { λ r. ⌜ record { answer = r; buffer = now (buffer .exit) } ≡ makeFor «estimate_bits» (now (buffer .entry)) ⌝ }
-{
-    selection::bits::make_table_for(estimate_bits, buffer)
-}
-
-// A repaired table, and its marks.
-#[no_mangle]
-pub extern "C" fn quendaric_repair_table_for(
-    estimate_bits: u64,
-    table: &[u8],
-    repaired: &mut [u8],
-    changed: &mut [u8],
-) -> Repaired
-    ensures { λ r. ⌜ record { answer = r; repaired = now (repaired .exit); changed = now (changed .exit) } ≡ repairFor «estimate_bits» (now (table .entry)) (now (repaired .entry)) (now (changed .entry)) ⌝ }
-{
-    selection::bits::repair_table_for(estimate_bits, table, repaired, changed)
 }

@@ -1,4 +1,6 @@
-//! The calls of the archive and their answers. tools/prototypes makes this file: do not edit it.
+//! The calls of the archive, with slices for pointers and lengths. tools/prototypes makes this file: do not edit it.
+
+use crate::calls::left;
 
 #[repr(C)]
 #[derive(Clone, Copy, Debug, Default, PartialEq, Eq)]
@@ -35,6 +37,14 @@ pub struct Limits {
 pub struct Made {
     pub refusal: u64,
     pub place: u64,
+}
+
+#[repr(C)]
+#[derive(Clone, Copy, Debug, Default, PartialEq, Eq)]
+pub struct Repaired {
+    pub refusal: u64,
+    pub place: u64,
+    pub count: u64,
 }
 
 #[repr(C)]
@@ -81,14 +91,6 @@ pub struct Samples {
     pub refusal: u64,
     pub place: u64,
     pub flags: u64,
-    pub count: u64,
-}
-
-#[repr(C)]
-#[derive(Clone, Copy, Debug, Default, PartialEq, Eq)]
-pub struct Repaired {
-    pub refusal: u64,
-    pub place: u64,
     pub count: u64,
 }
 
@@ -150,9 +152,30 @@ pub struct Root {
 
 extern "C" {
     pub fn quendaric_check_cell(row: u64, column: u64, byte: u8) -> Cell;
+    pub fn quendaric_check_cell_for(estimate_bits: u64, row: u64, column: u64, byte: u8) -> Cell;
     pub fn quendaric_check_table(table: *const u8, length: usize) -> Report;
+    pub fn quendaric_check_table_for(estimate_bits: u64, table: *const u8, table_length: usize) -> Report;
     pub fn quendaric_row_limits(row: u64) -> Limits;
+    pub fn quendaric_row_limits_for(estimate_bits: u64, row: u64) -> Limits;
     pub fn quendaric_make_table(buffer: *mut u8, length: usize) -> Made;
+    pub fn quendaric_make_table_for(estimate_bits: u64, buffer: *mut u8, buffer_length: usize) -> Made;
+    pub fn quendaric_repair_table(
+        table: *const u8,
+        table_length: usize,
+        repaired: *mut u8,
+        repaired_length: usize,
+        changed: *mut u8,
+        changed_length: usize,
+    ) -> Repaired;
+    pub fn quendaric_repair_table_for(
+        estimate_bits: u64,
+        table: *const u8,
+        table_length: usize,
+        repaired: *mut u8,
+        repaired_length: usize,
+        changed: *mut u8,
+        changed_length: usize,
+    ) -> Repaired;
     pub fn quendaric_run(
         table: *const u8,
         table_length: usize,
@@ -187,14 +210,6 @@ extern "C" {
         concentrations_length: usize,
         direction: u64,
     ) -> Samples;
-    pub fn quendaric_repair_table(
-        table: *const u8,
-        table_length: usize,
-        repaired: *mut u8,
-        repaired_length: usize,
-        changed: *mut u8,
-        changed_length: usize,
-    ) -> Repaired;
     pub fn quendaric_affected_samples(
         estimate_bits: u64,
         table: *const u8,
@@ -243,17 +258,245 @@ extern "C" {
     pub fn quendaric_compare_ratios(a: u64, b: u64, c: u64, d: u64) -> Comparison;
     pub fn quendaric_root_whole(a: u64) -> Root;
     pub fn quendaric_root_binary64(a: u64, direction: u64) -> Binary64;
-    pub fn quendaric_check_cell_for(estimate_bits: u64, row: u64, column: u64, byte: u8) -> Cell;
-    pub fn quendaric_check_table_for(estimate_bits: u64, table: *const u8, table_length: usize) -> Report;
-    pub fn quendaric_row_limits_for(estimate_bits: u64, row: u64) -> Limits;
-    pub fn quendaric_make_table_for(estimate_bits: u64, buffer: *mut u8, buffer_length: usize) -> Made;
-    pub fn quendaric_repair_table_for(
-        estimate_bits: u64,
-        table: *const u8,
-        table_length: usize,
-        repaired: *mut u8,
-        repaired_length: usize,
-        changed: *mut u8,
-        changed_length: usize,
-    ) -> Repaired;
+}
+
+pub fn check_cell(row: u64, column: u64, byte: u8) -> Cell {
+    unsafe { quendaric_check_cell(row, column, byte) }
+}
+
+pub fn check_cell_for(estimate_bits: u64, row: u64, column: u64, byte: u8) -> Cell {
+    unsafe { quendaric_check_cell_for(estimate_bits, row, column, byte) }
+}
+
+pub fn check_table(table: &[u8]) -> Report {
+    let table_before = table.to_vec();
+    let answer = unsafe { quendaric_check_table(table.as_ptr(), table.len()) };
+    left(table, &table_before);
+    answer
+}
+
+pub fn check_table_for(estimate_bits: u64, table: &[u8]) -> Report {
+    let table_before = table.to_vec();
+    let answer = unsafe { quendaric_check_table_for(estimate_bits, table.as_ptr(), table.len()) };
+    left(table, &table_before);
+    answer
+}
+
+pub fn row_limits(row: u64) -> Limits {
+    unsafe { quendaric_row_limits(row) }
+}
+
+pub fn row_limits_for(estimate_bits: u64, row: u64) -> Limits {
+    unsafe { quendaric_row_limits_for(estimate_bits, row) }
+}
+
+pub fn make_table(buffer: &mut [u8]) -> Made {
+    unsafe { quendaric_make_table(buffer.as_mut_ptr(), buffer.len()) }
+}
+
+pub fn make_table_for(estimate_bits: u64, buffer: &mut [u8]) -> Made {
+    unsafe { quendaric_make_table_for(estimate_bits, buffer.as_mut_ptr(), buffer.len()) }
+}
+
+pub fn repair_table(table: &[u8], repaired: &mut [u8], changed: &mut [u8]) -> Repaired {
+    let table_before = table.to_vec();
+    let answer = unsafe {
+        quendaric_repair_table(
+            table.as_ptr(),
+            table.len(),
+            repaired.as_mut_ptr(),
+            repaired.len(),
+            changed.as_mut_ptr(),
+            changed.len(),
+        )
+    };
+    left(table, &table_before);
+    answer
+}
+
+pub fn repair_table_for(estimate_bits: u64, table: &[u8], repaired: &mut [u8], changed: &mut [u8]) -> Repaired {
+    let table_before = table.to_vec();
+    let answer = unsafe {
+        quendaric_repair_table_for(
+            estimate_bits,
+            table.as_ptr(),
+            table.len(),
+            repaired.as_mut_ptr(),
+            repaired.len(),
+            changed.as_mut_ptr(),
+            changed.len(),
+        )
+    };
+    left(table, &table_before);
+    answer
+}
+
+pub fn run(table: &[u8], dividend: u64, divisor: u64, digits: usize, buffer: &mut [u8], place: usize) -> Ran {
+    let table_before = table.to_vec();
+    let answer = unsafe {
+        quendaric_run(table.as_ptr(), table.len(), dividend, divisor, digits, buffer.as_mut_ptr(), buffer.len(), place)
+    };
+    left(table, &table_before);
+    answer
+}
+
+pub fn run_kept(dividend: u64, divisor: u64, digits: usize, buffer: &mut [u8], place: usize) -> Ran {
+    unsafe { quendaric_run_kept(dividend, divisor, digits, buffer.as_mut_ptr(), buffer.len(), place) }
+}
+
+pub fn step(sum: u64, carry: u64, divisor: u64, table: &[u8]) -> Stepped {
+    let table_before = table.to_vec();
+    let answer = unsafe { quendaric_step(sum, carry, divisor, table.as_ptr(), table.len()) };
+    left(table, &table_before);
+    answer
+}
+
+pub fn divide_whole(table: &[u8], a: u64, b: u64) -> Whole {
+    let table_before = table.to_vec();
+    let answer = unsafe { quendaric_divide_whole(table.as_ptr(), table.len(), a, b) };
+    left(table, &table_before);
+    answer
+}
+
+pub fn divide_whole_kept(a: u64, b: u64) -> Whole {
+    unsafe { quendaric_divide_whole_kept(a, b) }
+}
+
+pub fn divide_binary64(table: &[u8], a: u64, b: u64, direction: u64) -> Binary64 {
+    let table_before = table.to_vec();
+    let answer = unsafe { quendaric_divide_binary64(table.as_ptr(), table.len(), a, b, direction) };
+    left(table, &table_before);
+    answer
+}
+
+pub fn divide_binary64_kept(a: u64, b: u64, direction: u64) -> Binary64 {
+    unsafe { quendaric_divide_binary64_kept(a, b, direction) }
+}
+
+pub fn divide_samples(
+    table: &[u8],
+    currents: &[u64],
+    sensitivities: &[u64],
+    concentrations: &mut [u64],
+    direction: u64,
+) -> Samples {
+    let table_before = table.to_vec();
+    let currents_before = currents.to_vec();
+    let sensitivities_before = sensitivities.to_vec();
+    let answer = unsafe {
+        quendaric_divide_samples(
+            table.as_ptr(),
+            table.len(),
+            currents.as_ptr(),
+            currents.len(),
+            sensitivities.as_ptr(),
+            sensitivities.len(),
+            concentrations.as_mut_ptr(),
+            concentrations.len(),
+            direction,
+        )
+    };
+    left(table, &table_before);
+    left(currents, &currents_before);
+    left(sensitivities, &sensitivities_before);
+    answer
+}
+
+pub fn affected_samples(
+    estimate_bits: u64,
+    table: &[u8],
+    currents: &[u64],
+    sensitivities: &[u64],
+    affected: &mut [u8],
+) -> AffectedCount {
+    let table_before = table.to_vec();
+    let currents_before = currents.to_vec();
+    let sensitivities_before = sensitivities.to_vec();
+    let answer = unsafe {
+        quendaric_affected_samples(
+            estimate_bits,
+            table.as_ptr(),
+            table.len(),
+            currents.as_ptr(),
+            currents.len(),
+            sensitivities.as_ptr(),
+            sensitivities.len(),
+            affected.as_mut_ptr(),
+            affected.len(),
+        )
+    };
+    left(table, &table_before);
+    left(currents, &currents_before);
+    left(sensitivities, &sensitivities_before);
+    answer
+}
+
+pub fn affected_whole(estimate_bits: u64, table: &[u8], a: u64, b: u64) -> AffectedMark {
+    let table_before = table.to_vec();
+    let answer = unsafe { quendaric_affected_whole(estimate_bits, table.as_ptr(), table.len(), a, b) };
+    left(table, &table_before);
+    answer
+}
+
+pub fn affected_run(estimate_bits: u64, table: &[u8], dividend: u64, divisor: u64, digits: usize) -> AffectedMark {
+    let table_before = table.to_vec();
+    let answer = unsafe {
+        quendaric_affected_run(estimate_bits, table.as_ptr(), table.len(), dividend, divisor, digits)
+    };
+    left(table, &table_before);
+    answer
+}
+
+pub fn average_windows(
+    readings: &[u64],
+    width: usize,
+    newest_first: bool,
+    means: &mut [u64],
+    remainders: &mut [u64],
+) -> Averages {
+    let readings_before = readings.to_vec();
+    let answer = unsafe {
+        quendaric_average_windows(
+            readings.as_ptr(),
+            readings.len(),
+            width,
+            newest_first,
+            means.as_mut_ptr(),
+            means.len(),
+            remainders.as_mut_ptr(),
+            remainders.len(),
+        )
+    };
+    left(readings, &readings_before);
+    answer
+}
+
+pub fn divide_packed(dividend: &[u8; 8], divisor: &[u8; 8]) -> Packed {
+    let dividend_before = dividend.to_vec();
+    let divisor_before = divisor.to_vec();
+    let answer = unsafe { quendaric_divide_packed(dividend.as_ptr(), divisor.as_ptr()) };
+    left(dividend, &dividend_before);
+    left(divisor, &divisor_before);
+    answer
+}
+
+pub fn count_visits(table: &[u8], bits: u64, digits: usize, visits: &mut [u32]) -> Visits {
+    let table_before = table.to_vec();
+    let answer = unsafe {
+        quendaric_count_visits(table.as_ptr(), table.len(), bits, digits, visits.as_mut_ptr(), visits.len())
+    };
+    left(table, &table_before);
+    answer
+}
+
+pub fn compare_ratios(a: u64, b: u64, c: u64, d: u64) -> Comparison {
+    unsafe { quendaric_compare_ratios(a, b, c, d) }
+}
+
+pub fn root_whole(a: u64) -> Root {
+    unsafe { quendaric_root_whole(a) }
+}
+
+pub fn root_binary64(a: u64, direction: u64) -> Binary64 {
+    unsafe { quendaric_root_binary64(a, direction) }
 }

@@ -9,6 +9,7 @@ use host::calls::{
 };
 use host::check_by_search::{self, Check};
 use host::draw::Draw;
+use host::lent::{first, Space, CANARY};
 use host::specification::{breaks, rule, seven, Rule, Unit, CELLS, EIGHT, SEVEN};
 
 const SEED: u64 = 0x5EED_0128;
@@ -236,4 +237,61 @@ fn the_limits_in_the_file() {
         }
     }
     assert_eq!(rows, 16);
+}
+
+#[test]
+fn refusals_of_a_cell() {
+    for row in [0, 1, 15, 16, 17, 1 << 32, u64::MAX] {
+        for column in [0, 87, 127, 128, 1 << 32, u64::MAX] {
+            for byte in 0..=255u8 {
+                let got = check_cell(row, column, byte);
+                let conditions = [(1, row > 15 || column > 127)];
+                let own = if byte > 4 { (9, row.wrapping_mul(128).wrapping_add(column)) } else { (0, 0) };
+                let (refusal, place) = first(&conditions, own);
+                if refusal != 0 {
+                    assert_eq!(got, Cell { refusal, place, ..Default::default() }, "{row} {column} {byte}");
+                } else {
+                    assert_eq!((got.refusal, got.place), (0, 0), "{row} {column} {byte}");
+                }
+            }
+        }
+    }
+}
+
+#[test]
+fn refusals_of_limits() {
+    for row in [16, 17, 255, 256, 1 << 32, u64::MAX] {
+        assert_eq!(row_limits(row), Limits { refusal: 1, ..Default::default() });
+    }
+    for row in 0..16 {
+        assert_eq!(row_limits(row).refusal, 0);
+    }
+}
+
+#[test]
+fn refusals_of_the_maker() {
+    for length in [0, 1, 2047, 2048, 2049] {
+        let mut space = vec![CANARY; length + 64];
+        let answer = make_table(&mut space[32..32 + length]);
+        if length < CELLS {
+            assert_eq!(answer, Made { refusal: 7, place: 0 });
+            assert!(space.iter().all(|&b| b == CANARY), "length {length}");
+        } else {
+            assert_eq!(answer, Made::default());
+            assert!(space[..32].iter().chain(&space[32 + CELLS..]).all(|&b| b == CANARY), "length {length}");
+            assert_eq!(space[32..32 + CELLS], rule().made()[..]);
+        }
+    }
+}
+
+#[test]
+fn made_table_at_any_address() {
+    let made = rule().made();
+    for offset in Space::OFFSETS {
+        let mut space = Space::new(offset, &[]);
+        assert_eq!(make_table(space.part(offset, CELLS + 3)), Made::default());
+        assert!(space.holds(offset, &made), "offset {offset}");
+        assert_eq!(make_table(space.part(offset, CELLS - 1)), Made { refusal: 7, place: 0 });
+        assert!(space.holds(offset, &made), "refused, offset {offset}");
+    }
 }

@@ -6,10 +6,13 @@
 //! specification's rule and against the check as it was before the rows' multiples; a table that passes for seven and is refused
 //! for eight, a cell that allows less by eight; and a page that misreads the printed table. The draws are from the fixed seed
 //! below.
-use host::calls::{self, check_table, check_table_for, repair_table, repair_table_for, Repaired, Report};
+use host::calls::{
+    self, check_table, check_table_for, repair_table, repair_table_for, Cell, Limits, Made, Repaired, Report,
+};
 use host::check_by_search;
 use host::compare::{on_all_cores, Tally};
 use host::draw::Draw;
+use host::lent;
 use host::programs::{printed_with, written_with};
 use host::specification::{rule, run, run_by, seven, Rule, CELLS, EIGHT, SEVEN};
 
@@ -333,4 +336,78 @@ fn other_arguments_of_the_programs() {
             assert!(told.starts_with(&usage) && told.lines().count() == 1, "{program} {arguments:?}: {told}");
         }
     }
+}
+
+/// The calls for a number of bits: 17 before every other refusal, with zeros, and no byte changed; for 7 and 8 the others, in
+/// their order.
+#[test]
+fn refusals() {
+    let numbers = [
+        7 << 8,
+        8 << 8,
+        1 << 16 | 7,
+        1 << 31,
+        1 << 32 | 7,
+        1 << 32 | 8,
+        1 << 56 | 7,
+        7 << 56,
+        1 << 63 | 7,
+        1 << 63 | 8,
+        u64::MAX - 7,
+        u64::MAX,
+    ];
+    let tables = lent::tables();
+    let mut seen = std::collections::BTreeMap::new();
+    for bits in (0..=300).chain(numbers) {
+        let mut first = |conditions: &[(u64, bool)], own: (u64, u64)| {
+            let none = [(17, bits != 7 && bits != 8)];
+            let answer = lent::first(&[&none, conditions].concat(), own);
+            *seen.entry(answer.0).or_insert(0) += 1;
+            answer
+        };
+        for (row, column, byte) in [(0, 0, 0), (1, 87, 2), (15, 127, 4), (0, 76, 5), (16, 128, 255), (u64::MAX, 0, 9)] {
+            let own = if byte > 4 { (9, row.wrapping_mul(128).wrapping_add(column)) } else { (0, 0) };
+            let (refusal, place) = first(&[(1, row > 15 || column > 127)], own);
+            let got = calls::check_cell_for(bits, row, column, byte);
+            match refusal {
+                0 => assert_eq!((got.refusal, got.place), (0, 0), "{bits}"),
+                _ => assert_eq!(got, Cell { refusal, place, ..Default::default() }, "{bits}"),
+            }
+            let (refusal, place) = first(&[(1, row > 15)], (0, 0));
+            let got = calls::row_limits_for(bits, row);
+            match refusal {
+                0 => assert_eq!((got.refusal, got.place), (0, 0), "{bits}"),
+                _ => assert_eq!(got, Limits { refusal, place, ..Default::default() }, "{bits}"),
+            }
+        }
+        for (table, ..) in &tables {
+            let report = if bits == 7 { seven().check(table) } else { rule().check(table) };
+            let got = calls::check_table_for(bits, table);
+            match first(&[], (report.refusal, report.place)).0 {
+                17 => assert_eq!(got, Report { refusal: 17, ..Default::default() }, "{bits}"),
+                _ => assert_eq!(got, report, "{bits}"),
+            }
+            for (room, marks) in [(0, 0), (CELLS, CELLS - 1), (CELLS - 1, CELLS), (CELLS, CELLS), (CELLS + 9, CELLS)] {
+                let conditions = [(7, room < CELLS || marks < CELLS), (8, table.len() != CELLS)];
+                let (refusal, place) = first(&conditions, (0, 0));
+                let mut space = vec![CANARY; room + marks + 96];
+                let (left, right) = space.split_at_mut(32 + room);
+                let got = calls::repair_table_for(bits, table, &mut left[32..], &mut right[32..32 + marks]);
+                if refusal == 0 {
+                    assert_eq!((got.refusal, got.place), (0, 0), "{bits}");
+                } else {
+                    assert_eq!(got, Repaired { refusal, place, ..Default::default() }, "{bits}");
+                    assert!(space.iter().all(|&b| b == CANARY), "{bits}: a refused repair touched a buffer");
+                }
+            }
+        }
+        for length in [0, 1, 2047, 2048, 2049] {
+            let (refusal, place) = first(&[(7, length < CELLS)], (0, 0));
+            let mut space = vec![CANARY; length + 64];
+            assert_eq!(calls::make_table_for(bits, &mut space[32..32 + length]), Made { refusal, place }, "{bits}");
+            let untouched = space.iter().all(|&b| b == CANARY);
+            assert_eq!(untouched, refusal != 0, "{bits}, length {length}");
+        }
+    }
+    assert_eq!(seen.keys().copied().collect::<Vec<u64>>(), [0, 1, 7, 8, 9, 10, 17]);
 }

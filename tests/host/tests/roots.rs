@@ -97,3 +97,22 @@ fn whole_roots() {
         }
     }
 }
+
+#[test]
+fn refusals() {
+    for a in [0, 1, (1 << 60) - 1, 1 << 60, (1 << 60) + 1, u64::MAX] {
+        let got = root_whole(a);
+        match a >> 60 {
+            0 => assert_eq!((got.refusal, got.place), (0, 0), "{a}"),
+            _ => assert_eq!(got, Root { refusal: 4, ..Default::default() }, "{a}"),
+        }
+        // of a binary64 root only the direction is refused, whatever the operand
+        for direction in [0, 1, 2, 3, 4, 5, 1 << 32, u64::MAX] {
+            let got = root_binary64(a, direction);
+            match direction {
+                0..=3 => assert_eq!((got.refusal, got.place), (0, 0), "{a} {direction}"),
+                _ => assert_eq!(got, Binary64 { refusal: 6, ..Default::default() }, "{a} {direction}"),
+            }
+        }
+    }
+}

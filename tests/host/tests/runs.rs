@@ -1,9 +1,11 @@
 //! 300,000 kept runs, and 20,000 through 50 other tables, against the step made bit by bit; every byte of the buffer.
 //!
 //! Would catch a run whose digits are not the table's, whose quotient or remainder is not that of the division, which
-//! pads or shortens its digits, or which writes a byte outside the n it was lent. The draws are from the fixed seed below.
-use host::calls;
+//! pads or shortens its digits, or which writes a byte outside the n it was lent; a refusal that is missing, out
+//! of order, with a wrong place or with values, or that writes. The draws are from the fixed seed below.
+use host::calls::{self, Ran};
 use host::draw::Draw;
+use host::lent::{at_any_address, first, tables_and_none, Space, CANARY};
 use host::specification::{rule, run};
 
 const SEED: u64 = 0x5EED_0031;
@@ -24,7 +26,7 @@ fn check(lent: Option<&[u8]>, model: &[u8], dividend: u64, divisor: u64, digits:
     want[place..place + digits].copy_from_slice(&trace.digits);
     let mut buffer = before;
     let got = calls::run(lent, dividend, divisor, digits, &mut buffer, place);
-    let answer = calls::Ran {
+    let answer = Ran {
         refusal: 0,
         place: 0,
         quotient: trace.quotient as u64,
@@ -92,4 +94,87 @@ fn two_passing_tables_give_one_quotient_by_different_digits() {
         different += u32::from(x != y);
     }
     assert!(different > 500, "the tables differ in {different} runs only");
+}
+
+#[test]
+fn refusals() {
+    let made = rule().made();
+    let (low, high) = (1u64 << 60, (1u64 << 61) - 1);
+    let mut seen = std::collections::BTreeMap::new();
+    for (table, fault) in tables_and_none() {
+        for digits in [0, 1, 28, 29, 30, 31, 32, usize::MAX] {
+            for (dividend, divisor) in [
+                (0, low),
+                (high, high),
+                (high, low),
+                (high + 1, low),
+                (u64::MAX, u64::MAX),
+                (5, low - 1),
+                (5, high + 1),
+                (0, 0),
+            ] {
+                for (length, place) in [
+                    (40usize, 0usize),
+                    (40, 40usize.saturating_sub(digits)),
+                    (40, 41usize.saturating_sub(digits)),
+                    (40, 39),
+                    (40, 40),
+                    (40, 41),
+                    (40, usize::MAX),
+                    (0, 0),
+                    (digits.min(64), 0),
+                ] {
+                    let fits = place <= length && length - place >= digits;
+                    let conditions = [
+                        (2, digits == 0 || digits > 28),
+                        (3, !(low..=high).contains(&divisor) || dividend > high),
+                        (7, !fits),
+                    ];
+                    let (refusal, at) = first(&conditions, fault);
+                    *seen.entry(refusal).or_insert(0) += 1;
+                    let mut space = vec![CANARY; length + 64];
+                    let got = calls::run(table.as_deref(), dividend, divisor, digits, &mut space[32..32 + length], place);
+                    if refusal != 0 {
+                        assert_eq!(got, Ran { refusal, place: at, ..Default::default() });
+                        assert!(space.iter().all(|&b| b == CANARY), "a refused run touched its buffer");
+                        continue;
+                    }
+                    let trace = run(table.as_ref().unwrap_or(&made), dividend, divisor, digits);
+                    let (quotient, remainder) = (trace.quotient as u64, trace.remainder as u64);
+                    assert_eq!(got, Ran { refusal: 0, place: 0, quotient, remainder, digits: digits as u64 });
+                    let mut want = vec![CANARY; length + 64];
+                    want[32 + place..32 + place + digits].copy_from_slice(&trace.digits);
+                    assert_eq!(space, want);
+                }
+            }
+        }
+    }
+    assert_eq!(seen.keys().copied().collect::<Vec<u64>>(), [0, 2, 3, 7, 8, 9, 10]);
+}
+
+/// Table and buffer at every pair of offsets, and through the kept table.
+#[test]
+fn tables_and_buffers_at_any_address() {
+    const DIGITS: usize = 28;
+    let (dividend, divisor) = (2023347993445111535, 1297036692411679568);
+    let trace = |table: &[u8]| run(table, dividend, divisor, DIGITS);
+    let made = trace(&rule().made());
+    let wanted = |(refusal, place)| match refusal {
+        0 => Ran { quotient: made.quotient as u64, remainder: made.remainder as u64, digits: 28, ..Default::default() },
+        _ => Ran { refusal, place, ..Default::default() },
+    };
+    // the buffer at the offset, the digits at its place 3
+    let buffer_at = |offset: usize, table: Option<&[u8]>, written: &[u8]| {
+        let mut space = Space::new(offset, &[]);
+        let got = calls::run(table, dividend, divisor, DIGITS, space.part(offset, DIGITS + 5), 3);
+        assert!(space.holds(offset + 3, written), "buffer at offset {offset}");
+        got
+    };
+    for offset in Space::OFFSETS {
+        assert_eq!(buffer_at(offset, None, &made.digits), wanted((0, 0)));
+        at_any_address(wanted, |table, (refusal, _)| {
+            let written = if refusal == 0 { trace(table).digits } else { Vec::new() };
+            buffer_at(offset, Some(table), &written)
+        });
+    }
 }

@@ -2,10 +2,11 @@
 //!
 //! Would catch a concentration that is not the single division's, or not the other dividers'; flags that are added and
 //! not joined, or joined over too many or too few samples; a wrong count; a word behind the last concentration that is
-//! written.
+//! written; a refusal that is missing, out of order, with a wrong place or with values, or that writes.
 use host::calls::{self, Samples};
 use host::dividers::{exact, processor};
 use host::draw::{landmarks, Draw};
+use host::lent::{at_any_address, first, tables};
 use host::specification::rule;
 
 const CANARY: u64 = 0xA5A5_5A5A_C3C3_3C3C;
@@ -77,4 +78,50 @@ fn classes_and_flags() {
         }
         assert_eq!(compare(&made, &[], &[], 3, direction), 0);
     }
+}
+
+/// 6, 11, 7, and then the table's, also of an empty run; the three lists lie in one space, of which no word changes.
+#[test]
+fn refusals() {
+    let mut seen = std::collections::BTreeMap::new();
+    for (table, fault) in tables() {
+        for direction in [0, 1, 2, 3, 4, 1 << 32, u64::MAX] {
+            for currents in 0..4usize {
+                for sensitivities in 0..4usize {
+                    for room in 0..5usize {
+                        let conditions = [(6, direction > 3), (11, currents != sensitivities), (7, room < currents)];
+                        let (refusal, place) = first(&conditions, fault);
+                        *seen.entry(refusal).or_insert(0) += 1;
+                        let (a, b) = (vec![0x4008u64 << 48; currents], vec![0x4000u64 << 48; sensitivities]);
+                        let mut space = [CANARY; 12];
+                        let got = calls::divide_samples(&table, &a, &b, &mut space[4..4 + room], direction);
+                        let mut want = [CANARY; 12];
+                        if refusal == 0 {
+                            want[4..4 + currents].fill(0x3FF8 << 48);
+                            assert_eq!(got, Samples { count: currents as u64, ..Default::default() });
+                        } else {
+                            assert_eq!(got, Samples { refusal, place, ..Default::default() });
+                        }
+                        assert_eq!(space, want, "refusal {refusal}, {currents} {sensitivities} {room}");
+                    }
+                }
+            }
+        }
+    }
+    assert_eq!(seen.keys().copied().collect::<Vec<u64>>(), [0, 6, 7, 8, 9, 10, 11]);
+}
+
+#[test]
+fn tables_at_any_address() {
+    let wanted = |(refusal, place)| match refusal {
+        0 => Samples { refusal, place, flags: 1, count: 2 },
+        _ => Samples { refusal, place, ..Default::default() },
+    };
+    at_any_address(wanted, |table, (refusal, _)| {
+        let mut list = [CANARY; 4];
+        let got = calls::divide_samples(table, &[0x3FF0 << 48; 2], &[0x4008 << 48; 2], &mut list[..3], 0);
+        let first = if refusal == 0 { 0x3FD5_5555_5555_5555 } else { CANARY };
+        assert_eq!(list, [first, first, CANARY, CANARY]);
+        got
+    });
 }

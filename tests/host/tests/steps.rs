@@ -1,9 +1,11 @@
 //! 100,000 runs of 28 fed-back steps against the run and the step made bit by bit; 1,200,000 steps at the range's edge.
 //!
 //! Would catch a step that is not the run's: another digit, other words, exchanged words, a lost carry; a remainder at the edge
-//! of its range that is refused, or one beyond that is not. The draws are from the fixed seed below.
+//! of its range that is refused, or one beyond that is not; a refusal that is missing, out of order, with a wrong place or with
+//! values. The draws are from the fixed seed below.
 use host::calls::{self, Stepped};
 use host::draw::Draw;
+use host::lent::{self, at_any_address, first};
 use host::specification::{rule, step, EIGHT};
 
 const SEED: u64 = 0x5EED_0091;
@@ -108,4 +110,43 @@ fn any_words_and_divisors() {
         seen[got.refusal as usize] += 1;
     }
     assert!(seen[0] > 50_000 && seen[3] > 10_000 && seen[14] > 50_000, "{seen:?}");
+}
+
+#[test]
+fn refusals() {
+    let (low, high) = (1u64 << 60, (1u64 << 61) - 1);
+    let mut seen = std::collections::BTreeMap::new();
+    for (table, fault) in lent::tables() {
+        for divisor in [0, low - 1, low, high, high + 1, u64::MAX] {
+            let end = (8 * u128::from(divisor) / 3) as u64;
+            for (sum, carry) in [(0, 0), (end, 0), (end, 1), (1, !end), (1 << 63, 0), (u64::MAX, 1 << 63)] {
+                let p = i128::from(sum.wrapping_add(carry) as i64);
+                let conditions = [
+                    (3, !(low..=high).contains(&divisor)),
+                    (14, 3 * p < -8 * i128::from(divisor) || 3 * p > 8 * i128::from(divisor)),
+                ];
+                let (refusal, place) = first(&conditions, fault);
+                *seen.entry(refusal).or_insert(0) += 1;
+                let got = calls::step(sum, carry, divisor, &table);
+                match refusal {
+                    0 => assert_eq!((got.refusal, got.place), (0, 0)),
+                    _ => assert_eq!(got, Stepped { refusal, place, ..Default::default() }),
+                }
+            }
+        }
+    }
+    assert_eq!(seen.keys().copied().collect::<Vec<u64>>(), [0, 3, 8, 9, 10, 14]);
+}
+
+/// 2^60 over 3 * 2^59: the digit is 1, and the words make 4 * (2^60 - 3 * 2^59).
+#[test]
+fn tables_at_any_address() {
+    let wanted = |(refusal, place)| match refusal {
+        0 => (0, 0, 1, 0u64.wrapping_sub(1 << 61)),
+        _ => (refusal, place, 0, 0),
+    };
+    at_any_address(wanted, |table, _| {
+        let got = calls::step(1 << 60, 0, 3 << 59, table);
+        (got.refusal, got.place, got.digit, got.sum.wrapping_add(got.carry))
+    });
 }

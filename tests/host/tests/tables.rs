@@ -6,6 +6,7 @@
 use host::calls::{check_table, Report};
 use host::check_by_search::EIGHT;
 use host::draw::Draw;
+use host::lent::{tables, Space};
 use host::specification::{rule, CELLS};
 
 const SEED: u64 = 0x5EED_2048;
@@ -78,5 +79,30 @@ fn other_lengths_are_refused() {
     for length in [0, 1, 127, 2047, 2049, 4096] {
         let table: Vec<u8> = made.iter().copied().cycle().take(length).collect();
         checked(&table, &format!("length {length}"));
+    }
+}
+
+#[test]
+fn refusals() {
+    for (table, (refusal, place)) in tables() {
+        let got = check_table(&table);
+        assert_eq!((got.refusal, got.place), (refusal, place));
+        let want = match refusal {
+            // only 10 has more than number and place: the cells are counted and the first one's witness is given
+            10 => rule().check(&table),
+            _ => Report { refusal, place, ..Default::default() },
+        };
+        assert_eq!(got, want);
+    }
+}
+
+#[test]
+fn tables_at_any_address() {
+    for (table, _) in tables() {
+        for offset in Space::OFFSETS {
+            let mut space = Space::new(offset, &table);
+            assert_eq!(check_table(space.part(offset, table.len())), rule().check(&table), "offset {offset}");
+            assert!(space.holds(offset, &table), "offset {offset}");
+        }
     }
 }

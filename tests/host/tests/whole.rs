@@ -1,9 +1,11 @@
 //! 9 million divisions of whole numbers, of every pair of lengths, against the machine's, and multiplied back.
 //!
 //! Would catch a whole-number quotient or remainder that is off: a normalising shift lost, a digit too few, a wrong end
-//! correction, an edge of the spans taken wrongly. The draws are from the fixed seed below.
+//! correction, an edge of the spans taken wrongly; a refusal that is missing, out of order, with a wrong place or with values.
+//! The draws are from the fixed seed below.
 use host::calls::{divide_whole, Whole};
 use host::draw::Draw;
+use host::lent::{at_any_address, first, tables_and_none};
 use host::specification::rule;
 
 const SEED: u64 = 0x5EED_0060;
@@ -84,4 +86,31 @@ fn lent_tables() {
             check(Some(&table), draw.whole(), draw.whole().max(1));
         }
     }
+}
+
+/// 4 and 5, and then the table's.
+#[test]
+fn refusals() {
+    let values = [0, 1, 2, 7, TOP, TOP + 1, TOP + 2, u64::MAX];
+    for (table, fault) in tables_and_none() {
+        for a in values {
+            for b in values {
+                let (refusal, place) = first(&[(4, a > TOP || b > TOP), (5, b == 0)], fault);
+                let want = match refusal {
+                    0 => Whole { refusal, place, quotient: a / b, remainder: a % b },
+                    _ => Whole { refusal, place, ..Default::default() },
+                };
+                assert_eq!(divide_whole(table.as_deref(), a, b), want, "{a} / {b}");
+            }
+        }
+    }
+}
+
+#[test]
+fn tables_at_any_address() {
+    let wanted = |(refusal, place)| match refusal {
+        0 => Whole { refusal, place, quotient: 1, remainder: 1050108 },
+        _ => Whole { refusal, place, ..Default::default() },
+    };
+    at_any_address(wanted, |table, _| divide_whole(Some(table), 4195835, 3145727));
 }
