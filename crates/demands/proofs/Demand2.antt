@@ -18,6 +18,7 @@ right t p = record {
   samples = λ direction currents sensitivities given h e l.
       let m = samples-right t p direction h currents sensitivities given e l in
       record { meaning = m; only = λ y n. compensated-one y _ n m };
+  flags-joined = λ direction currents sensitivities given h e l. let f = samples-right t p direction h currents sensitivities given e l .flags in record { small = f .below; each = f .each };
   no-samples = λ direction given h. rw (passed-last EightBits p (samplesRules direction 0 0 (length given)), samples-clear direction 0 0 (length given) h refl (omega arith)) refl;
   samples-example = samples-are t p 0 (lit≤ tt) (0x7FE0_0000_0000_0000 ∷ 0x0010_0000_0000_0000 ∷ []) (0x3FD0_0000_0000_0000 ∷ 0x4008_0000_0000_0000 ∷ []) (11 ∷ 12 ∷ 13 ∷ []) refl (lit≤ tt);
 }

@@ -2,6 +2,8 @@ pub mod Demand1
 pub mod Demand2
 pub mod Demand3
 pub mod RootDemand
+pub mod PointDemand
+pub mod WordsInNumbers
 pub mod PackedDemand
 pub mod RatioDemand
 pub mod RecheckDemand

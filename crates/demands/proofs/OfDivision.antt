@@ -6,7 +6,7 @@ use Rattle.division.specs.{computed.RootCalls.{rootWholeOf, rootBinary64Of}, co
 use Rattle.division.specs.declared.{format.Binary64.{Binary64}, root.Root.{Root}, packed.Packed.{Packed}, ratio.Comparison.{Comparison}}
 use Rattle.division.proofs.{DivisionCalls.{whole-lent, whole-clear, binary64-rules, binary64-lent, direction-clear}, SampleRuns.{samples-lent, samples-clear}, RootCalls.{root-rules}}
 use Rattle.division.proofs.{PackedCalls.{packed-dividend, packed-divisor, packed-by-zero}, RatioCalls.{ratios-rules}}
-use Rattle.ieee.proofs.Ieee754.{ieee-754}
+use Rattle.ieee.proofs.{Ieee754.{ieee-754}, RootPinned.{root-pinned}}
 use Rattle.demands.proofs.{Demand2.{demand-2}, RootDemand.{root-demand}, PackedDemand.{packed-demand}, RatioDemand.{ratio-demand}, ByCases.{of-table}}
 use Rattle.demands.specs.Calls.{DividesWhole, DividesWholeKept, DividesBinary64, DividesBinary64Kept, DividesSamples, RootsWhole, RootsBinary64, DividesPacked, ComparesRatios}
 
@@ -76,6 +76,7 @@ roots-binary64 {direction} {a} e = rw e (record {
   unknown = λ h. ap (answerBy _ _) (refused-at (binary64-rules direction) 0 0 (refl, h));
   nothing = λ h. root-demand .binary64 direction a h .done;
   root = λ h. root-demand .binary64 direction a h .meaning;
+  pinned = λ h. root-pinned .pinned direction a h;
 })
 
 -- ---- packed numbers

@@ -1,4 +1,4 @@
--- One answer fits: packed numbers, samples, averages, visits.
+-- One answer fits: samples, averages, visits.
 use Rattle.laws.proofs.{Basics.{_≡_, refl, sym, ap, _∙_, ⊎-elim, Bool, true, false, cond, List, ℕ, _+_, _-_, _<_, _≤_, arith, length, getD, eqb}, Comparisons.{not-most}, Division.{quotient}}
 use Rattle.laws.proofs.{Lists.{kept-one}, Sums.{sum-as}, Tests.{either}}
 use Rattle.selection.specs.declared.{Refusal.{Refusal}, Estimate.the-variants.{EightBits}}

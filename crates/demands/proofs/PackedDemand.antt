@@ -1,11 +1,11 @@
 -- Packed decimal numbers are divided rightly.
-use Rattle.laws.{proofs.Basics.{refl, sym, ap, ap₂, _∙_, List, ℕ, _^_, _<_, arith, lit<}, specs.Lists.{listFrom}, specs.Search.{firstFrom}}
+use Rattle.laws.{proofs.Basics.{refl, sym, ap, ap₂, _≡_, _∙_, List, [], _∷_, ℕ, _+_, _*_, _^_, _<_, arith, lit<}, specs.Lists.{listFrom}, specs.Search.{firstFrom}}
 use native.Mathlib.Nat.{le-mul-of-pos-right}
 use Rattle.selection.{proofs.RefusalNames.{refusal}, specs.computed.Outcomes.{madeTable}, specs.declared.Estimate.the-variants.{EightBits}}
 use Rattle.division.specs.{computed.Whole.{wholeOf}, Packed.{numberTo, packedNumber, IsPacked}, computed.Packed.{packedBytes, packedValues, packedOf}}
 use Rattle.division.proofs.{PackedBytes.{number-below, bytes-back, bytes-packed, number-back}, PackedCalls.{packed-done}}
 use Rattle.demands.proofs.Demand2.{demand-2}
-use Rattle.demands.specs.computed.{Demand2.{Divides}, PackedDemand.{OnePacked, DividesPacked, PackedExamples, PackedDemand}}
+use Rattle.demands.specs.computed.{Demand2.{Divides}, PackedDemand.{two, OnePacked, DividesPacked, PackedExamples, PackedDemand}}
 
 below : (bs : List ℕ) → IsPacked bs → packedNumber bs < 10 ^ 16
 below bs p = number-below bs (p .decimal) 8 (omega arith)
@@ -39,6 +39,11 @@ examples =
     let divided = ap₂ (λ (q r : ℕ). packedValues (record { refusal = refusal 0 0; quotient = q; remainder = r })) (sym (k .0)) (sym (k .1)) in
     record { number = refl; divided = divided; dividend = refl; divisor = refl; by-zero = refl }
 
+number-is : (a b c d e f g h : ℕ) → packedNumber (a ∷ b ∷ c ∷ d ∷ e ∷ f ∷ g ∷ h ∷ [])
+    ≡ 10 ^ 14 * two a + 10 ^ 12 * two b + 10 ^ 10 * two c + 10 ^ 8 * two d + 10 ^ 6 * two e + 10 ^ 4 * two f + 10 ^ 2 * two g + two h
+unfolding numberTo
+number-is a b c d e f g h = omega arith
+
 -- § 13.2 Packed numbers are divided, and no other bytes fit.
 pub packed-demand : PackedDemand
-packed-demand = record { back = bytes-back; below = below; one = one; divides = divides; room = lit< tt; admitted = λ xs ys px py some. whole xs ys px py some .done; examples = examples }
+packed-demand = record { number-is = number-is; back = bytes-back; below = below; one = one; divides = divides; room = lit< tt; admitted = λ xs ys px py some. whole xs ys px py some .done; examples = examples }

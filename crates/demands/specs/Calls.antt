@@ -1,5 +1,6 @@
 -- What a C program is told by each call, in numbers, in the order of the specification: what is promised and what is refused. No answer that this project computes is
--- named here; what is named of it are words of the specification: cells and allowed digits (sections 2 and 3), words, steps and the number that digits form (6), binary64 (9), packed numbers (13).
+-- named here; what is named of it are words of the specification: cells and allowed digits (sections 2 and 3), made digits and limits (5), words,
+-- steps and the number that digits form (6), binary64 (9, 12), joined flags (10), packed numbers (13), faulty and differing cells (14), a record's operands (17).
 -- E is the estimate: the divider adds 7 or 8 bits of each remainder word. A call that is not told a number of bits is for 8; of one that is, the record is that of both (`ForBits`).
 use mathlib.Core.Path.{_≡_}
 use mathlib.Core.Bool.{Bool, true, false, cond}
@@ -29,6 +30,7 @@ use Rattle.division.specs.Packed.{packedNumber, Decimal, IsPacked}
 use Rattle.division.specs.Samples.{Joined}
 use Rattle.division.specs.Recheck.{OperandOf}
 use Rattle.ieee.specs.Directions.{Pinned}
+use Rattle.ieee.specs.RootDirections.{PinnedRoot}
 use Rattle.selection.specs.declared.Refusal.{Refusal}
 use Rattle.selection.specs.declared.numbers.Cell.{Cell}
 use Rattle.selection.specs.declared.numbers.Report.{Report}
@@ -282,7 +284,9 @@ pub record RootsWhole (a : ℕ) (x : Root) : Type 0 where
 pub record RootsBinary64 (direction a : ℕ) (x : Binary64) : Type 0 where
   pub unknown : 3 < direction → x ≡ binary64Only 6 0
   pub nothing : direction ≤ 3 → x .refusal ≡ told 0 0
+  -- by the specification's account, flags too, and by the logic's own
   pub root : direction ≤ 3 → IeeeRoot direction a (record { pattern = x .pattern; flags = x .flags })
+  pub pinned : direction ≤ 3 → PinnedRoot direction a (x .pattern)
 
 -- ---- 13 packed decimal
 
@@ -428,7 +432,7 @@ pub record MarksWhole (E : Estimate) (t : List ℕ) (a b m : ℕ) : Type 0 where
   pub some : 1 ≤ n
   pub dividend : N * 4 ^ (n - 1) ≡ a * 2 ^ s
   pub below : N < 2 ^ 61
-  pub fewest : (m : ℕ) → a * 2 ^ s < 2 ^ 61 * 4 ^ m → n ≤ m + 1
+  pub fewest : (k : ℕ) → a * 2 ^ s < 2 ^ 61 * 4 ^ k → n ≤ k + 1
   -- so the quotient of these operands is that of a and b
   pub quotient : N * 4 ^ (n - 1) / (b * 2 ^ s) ≡ a / b
   pub marks : MarksRun E t N (b * 2 ^ s) n m

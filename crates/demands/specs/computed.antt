@@ -7,7 +7,9 @@ pub mod Demands
 pub mod FlagDemand
 pub mod FlagExamples
 pub mod PackedDemand
+pub mod PointDemand
 pub mod RatioDemand
 pub mod RecheckDemand
 pub mod RootDemand
 pub mod RootExamples
+pub mod WordsInNumbers

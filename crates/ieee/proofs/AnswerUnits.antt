@@ -39,10 +39,10 @@ is-sign (inf t) s n w = w .0
 is-sign (fin t m e) s n w = w .0
 
 -- ---- units of two exponents, p and q their powers: 2^53 of the one are no more than 2^52 of the other
-coarser : (K L p q : ℕ) → K * p ≤ 2 ^ 53 * p → 2 ^ 52 * q ≤ L * q → p * 2 ≤ q → K * p ≤ L * q
+pub coarser : (K L p q : ℕ) → K * p ≤ 2 ^ 53 * p → 2 ^ 52 * q ≤ L * q → p * 2 ≤ q → K * p ≤ L * q
 coarser K L p q i j k = omega arith
 
-doubled : {f e : ℕ} → f < e → 2 ^ f * 2 ≤ 2 ^ e
+pub doubled : {f e : ℕ} → f < e → 2 ^ f * 2 ≤ 2 ^ e
 doubled {f} {e} g = rw (pow-suc 2 f) at (pow-mono {i = suc f} {j = e} g)
 
 -- ---- overflow: v units, but from M on the largest finite number's t, or infinity's M
@@ -96,7 +96,7 @@ module _ {mode : Mode} {s : Bool} {scale : ℕ → ℕ → ℕ} {m : ℕ} {x : B
   units-small h = subst (λ (n : ℕ). n ≤ top) (u .value h) (magnitude-top (x .pattern) (u .finite h))
 
   -- at an exponent above 0 it has 53 bits
-  units-wide : Increasing scale → 0 < u .e → 2 ^ 52 ≤ u .K
+  pub units-wide : Increasing scale → 0 < u .e → 2 ^ 52 ≤ u .K
   units-wide inc g =
       rounds-mono (scale (u .e)) (inc .up (u .e)) mode (scale (u .e) (2 ^ 53)) m (2 ^ 52) (u .K) (u .exponent .reached g)
       (rounds-exact (scale (u .e)) (inc .up (u .e)) mode (2 ^ 52)) (u .rounded)

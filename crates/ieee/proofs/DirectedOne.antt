@@ -22,7 +22,7 @@ module _ (p q : ℕ) (h : p < 2 ^ 64) (k : q < 2 ^ 64) (l : T (le (valueOf p) (v
       let n = le-units (valueOf q) (valueOf p) (negative q) (negative p) (magnitude q) (magnitude p) j i g f r in
       pattern-one p q h k (signed-both (negative q) (magnitude p) (magnitude q) .1 (rw e at m, rw e at n)) e
 
-  level-one : p ≡ q
+  pub level-one : p ≡ q
   unfolding le isNan
   level-one = go (valueOf p) (valueOf q) refl refl
     where

@@ -7,7 +7,7 @@ use Rattle.division.{specs.Ieee.{quotientScale, quotientPlace, RoundedQuotient,
 use Rattle.ieee.specs.{LanguageQuotient.{valueOf}, Directions.{IsQuotient}}
 use Rattle.ieee.proofs.{Operands.{Is, quotient-rounded}, AnswerUnits.{is-sign, answered, rounded-stands, rounded-word}, QuotientOrder.{sign-seen, exact-units}, ExactQuotients.{exact-quotient}}
 
-no-flag : (t z : Bool) → _≡_ {A = ℕ} (cond t 0 (cond z (inexactFlag + underflowFlag) inexactFlag)) 0 → t ≡ true
+pub no-flag : (t z : Bool) → _≡_ {A = ℕ} (cond t 0 (cond z (inexactFlag + underflowFlag) inexactFlag)) 0 → t ≡ true
 no-flag true z e = refl
 no-flag false true e = absurd (omega arith)
 no-flag false false e = absurd (omega arith)

@@ -15,3 +15,5 @@ pub mod BiggerStays
 pub mod Signalling
 pub mod Ieee754
 pub mod RootOrder
+pub mod OperandKinds
+pub mod RootPinned

@@ -1,11 +1,13 @@
 -- Finite operands, from what the logic reads; and an answer to a finite number over one that is not zero is their quotient rounded, the answer to a zero dividend too.
-use Rattle.laws.proofs.Basics.{_≡_, refl, sym, subst, Bool, true, false, cond, _⊎_, inl, inr, ⊎-elim, ℕ, _+_, _-_, _*_, _%_, _^_, _≤_, _<_, arith, T, eqb, lit<, lit≤, eq-eqb, ne-eqb, lt-ltb, le-leb, lt-leb}
+use Rattle.laws.proofs.Basics.{_≡_, refl, sym, subst, Bool, true, false, cond, _⊎_, inl, inr, ⊎-elim, ℕ, _+_, _-_, _*_, _%_, _^_, _≤_, _<_, arith, T, eqb, lit<, lit≤, eq-eqb, ne-eqb, lt-ltb, le-leb}
+use Rattle.laws.proofs.Basics.{lt-leb}
 use Rattle.laws.proofs.Division.{le-or-lt}
-use native.Mathlib.Nat.{add-zero, eq-zero-or-pos, le-trans, not-le-of-lt, lt-of-le-of-lt, mul-pos, mul-le-mul, mul-le-mul-right, mul-lt-mul-of-pos-right, zero-mul}
+use native.Mathlib.Nat.{add-zero, eq-zero-or-pos, le-trans, not-le-of-lt, lt-of-le-of-lt, mul-pos, mul-le-mul, zero-mul}
 use lib.{Pow.{pow-pos, pow-mono}, Ieee.{Float, nan, inf, fin, up, down, le}, Ieee.Scale.{finite}, Ieee.Positive.{num, first-pos}}
 use Rattle.division.specs.declared.format.{Binary64Result.{Binary64Result}, Class.the-variants.{Zero}}
 use Rattle.division.specs.{Format.{negative, field, fraction, magnitude, classOf, signBit, signOf, FiniteNonzero}, declared.rounding.Mode.{Mode}, Rounding.{modeOf, Rounds}}
-use Rattle.division.{specs.Rounded.{IsExponent, Rounded}, specs.Ieee.{quotientScale, RoundedQuotient, Ieee}, proofs.Nearest.{rounds-exact}, proofs.Quotient.{quotient-increasing}}
+use Rattle.division.{specs.Rounded.{IsExponent, Rounded}, specs.Ieee.{quotientScale, RoundedQuotient, Ieee}, proofs.Nearest.{rounds-exact}, proofs.Scales.{Increasing, order}}
+use Rattle.division.proofs.Quotient.{quotient-increasing}
 use Rattle.ieee.specs.LanguageQuotient.{valueOf}
 use Rattle.ieee.proofs.{LanguageReading.{Number}, LanguageOrder.{SignedLe, Stands, le-signed}}
 use Rattle.ieee.proofs.LanguageReading as Reading
@@ -103,21 +105,20 @@ signed : (s : Bool) (q : ℕ) → (signBit s + q % 2 ^ 63 < 2 ^ 64) × (field (s
 signed true q = (omega arith, omega arith, omega arith, le-leb (2 ^ 63) (2 ^ 63 + q % 2 ^ 63) (omega arith))
 signed false q = (omega arith, omega arith, omega arith, lt-leb (2 ^ 63) (0 + q % 2 ^ 63) (omega arith))
 
--- a finite pattern is its own magnitude rounded, here b times it over b
-module _ (mode : Mode) (s : Bool) (b q : ℕ) (h : 0 < b) (f : field q < 2047) where
-  pub exact-rounded : Rounded mode s (quotientScale b) (2 * (magnitude q * b)) (record { pattern = signBit s + q % 2 ^ 63; flags = 0 })
-  exact-rounded =
+-- a finite pattern is its own magnitude rounded, on every scale: m is where it lies
+module _ (mode : Mode) (s : Bool) (scale : ℕ → ℕ → ℕ) (inc : Increasing scale) (m q : ℕ) (f : field q < 2047) (y : scale (digits q .f) (2 * digits q .k) ≡ m) where
+  pub own-rounded : Rounded mode s scale m (record { pattern = signBit s + q % 2 ^ 63; flags = 0 })
+  own-rounded =
       let n = digits q in
       let z = signed s q in
-      let y : quotientScale b (n .f) (2 * n .k) ≡ 2 * (magnitude q * b) = rw (n .is) (omega arith) in
       record {
         e = n .f;
         K = n .k;
-        exponent = subst (λ (m : ℕ). IsExponent (quotientScale b) m (n .f)) y (record {
-          reached = λ g. mul-le-mul-right (b * 2 ^ n .f) (omega (arith, n .low g));
-          beyond = mul-lt-mul-of-pos-right (omega (arith, n .high)) (mul-pos h (pow-pos (n .f)));
+        exponent = subst (λ (m : ℕ). IsExponent scale m (n .f)) y (record {
+          reached = λ g. order scale inc (n .f) (2 ^ 53) (2 * n .k) (omega (arith, n .low g));
+          beyond = inc .up (n .f) (2 * n .k) (2 ^ 54) (omega (arith, n .high));
         });
-        rounded = subst (λ (m : ℕ). Rounds mode (quotientScale b (n .f)) m (n .k)) y (rounds-exact (quotientScale b (n .f)) (quotient-increasing b h .up (n .f)) mode (n .k));
+        rounded = subst (λ (m : ℕ). Rounds mode (scale (n .f)) m (n .k)) y (rounds-exact (scale (n .f)) (inc .up (n .f)) mode (n .k));
         over = λ g. absurd (not-le-of-lt top-below (le-trans g (subst (λ (m : ℕ). m ≤ top) (n .is) (magnitude-top q f))));
         word = λ g. z .0;
         value = λ g. rw (z .1, z .2) (n .is);
@@ -126,9 +127,18 @@ module _ (mode : Mode) (s : Bool) (b q : ℕ) (h : 0 < b) (f : field q < 2047) w
         flags = λ g. rw (eq-eqb _ _ y);
       }
 
+  pub own-kept : own-rounded .K * 2 ^ own-rounded .e ≡ magnitude q
+  unfolding own-rounded
+  own-kept = sym (digits q .is)
+
+-- here b times it over b
+module _ (mode : Mode) (s : Bool) (b q : ℕ) (h : 0 < b) (f : field q < 2047) where
+  pub exact-rounded : Rounded mode s (quotientScale b) (2 * (magnitude q * b)) (record { pattern = signBit s + q % 2 ^ 63; flags = 0 })
+  exact-rounded = own-rounded mode s (quotientScale b) (quotient-increasing b h) (2 * (magnitude q * b)) q f (rw (digits q .is) (omega arith))
+
   pub exact-kept : exact-rounded .K * 2 ^ exact-rounded .e ≡ magnitude q
   unfolding exact-rounded
-  exact-kept = sym (digits q .is)
+  exact-kept = own-kept mode s (quotientScale b) (quotient-increasing b h) (2 * (magnitude q * b)) q f _
 
 module _ (direction a b : ℕ) {x : Binary64Result} (u : Ieee direction a b x) (h : T (finite (valueOf a))) (k : 0 < num (valueOf b)) where
   pub quotient-rounded : RoundedQuotient direction (signOf a b) (magnitude a) (magnitude b) x

@@ -3,11 +3,11 @@ use mathlib.Core.Path.{_≡_}
 use mathlib.Core.Bool.{cond}
 use mathlib.Core.List.{List, [], _∷_, _++_}
 use Prim.Native.Char.{code}
-use Prim.Native.Nat.{ℕ, zero, suc, _+_, _*_, _-_, _/_, _%_}
+use Prim.Native.Nat.{ℕ, zero, suc, _+_, _*_, _-_, _/_, _%_, _≤_, _<_}
 use Prim.Native.String.{String, [] as []ˢ, _∷_ as _∷ˢ_}
 use lib.Dec.{ltb}
 use lib.IntN.{ℤ, pos, negsuc}
-use lib.ListN.{length, take, drop}
+use lib.ListN.{length, getD, take, drop}
 use Rattle.selection.specs.declared.Refusal.{Refusal}
 
 -- a text's bytes. Every text here is ASCII, so a character is a byte
@@ -30,10 +30,18 @@ decimalUpto (suc most) n = cond (ltb n 10) ((code "0" + n) ∷ []) (decimalUpto 
 unfoldable pub decimalOf : ℕ → List ℕ
 decimalOf n = decimalUpto 20 n
 
--- the number that the decimal digits cs spell after those of a: what `decimalOf n` spells is n (`decimal-spells`)
+-- the number that the decimal digits cs spell after those of a
 abbrev pub spelledAfter : ℕ → List ℕ → ℕ
 spelledAfter a [] = a
-spelledAfter a (c ∷ cs) = spelledAfter (10 * a + (c - code "0")) cs
+spelledAfter a (c ∷ cs) = spelledAfter (10 * a + (c - 48)) cs
+
+-- the bytes x are n in decimal, and no other bytes are: each is from 48 to 57, they spell n, and none but 0 itself begins with 48
+-- § 19.1 Numbers are printed in decimal.
+pub record DecimalText (n : ℕ) (x : List ℕ) : Type 0 where
+  pub some : 1 ≤ length x
+  pub digits : (i : ℕ) → i < length x → (48 ≤ getD x i 0) × (getD x i 0 ≤ 57)
+  pub spells : spelledAfter 0 x ≡ n
+  pub zero-alone : getD x 0 0 ≡ 48 → x ≡ 48 ∷ []
 
 -- a number in decimal, with a minus sign if it is below zero
 -- § 19.1 Numbers are printed in decimal.

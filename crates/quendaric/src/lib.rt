@@ -359,11 +359,11 @@ pub extern "C" fn quendaric_divide_packed(dividend: &[u8; 8], divisor: &[u8; 8])
     division::packed::divide_packed(*dividend, *divisor)
 }
 
-// Counts how often each cell is met. It takes all 4^(bits - 1) pairs of operands that have 1 to 6 significant bits,
-// both with their leading one at bit 60, and runs 1 to 28 digits of each pair through the table. visits[128 * row +
-// column] becomes the number of these digits that were taken at that cell. The call writes the first 2,048 numbers,
-// which add up to digits * 4^(bits - 1), and leaves later ones as they are. visits may not overlap the table. The call
-// checks the table once. Refuses 2, 16, 7, 8, 9, 10, in this order.
+// Counts how often each cell is met. It takes all 4^(bits - 1) pairs of operands that have exactly `bits` significant
+// bits, 1 to 6, both with their leading one at bit 60, and runs `digits` digits, 1 to 28, of each pair through the
+// table. visits[128 * row + column] becomes the number of these digits that were taken at that cell. The call writes
+// the first 2,048 numbers, which add up to digits * 4^(bits - 1), and leaves later ones as they are. visits may not
+// overlap the table. The call checks the table once. Refuses 2, 16, 7, 8, 9, 10, in this order.
 // -> quendaric_visits: The numbers of visits stand in the list.
 #[no_mangle]
 pub extern "C" fn quendaric_count_visits(

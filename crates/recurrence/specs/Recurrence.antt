@@ -1,4 +1,4 @@
--- The digit recurrence: the specification, section 6. One step, the states, the digits, the number S that they make, the correction of the last digit.
+-- The digit recurrence, which the specification calls a run (its term): section 6. One step, the states, the digits, the number S that they make, the correction of the last digit.
 use mathlib.Core.Bool.{cond}
 use mathlib.Core.List.{List, [], _∷_}
 use Prim.Native.Nat.{ℕ, zero, suc, _+_, _-_, _*_, _%_, _^_, _≤_, _<_}

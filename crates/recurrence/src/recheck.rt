@@ -33,8 +33,9 @@ pub struct AffectedMark {
     pub affected: u64,
 }
 
-// 0 if n steps of a divider with this estimate through a table as it was burned read digits only and give the right quotient and remainder, else 1: lent is the divisor's row in that table. As long as
-// each digit leaves a remainder from -D to D - 1, D the divisor, the words hold it truly; after one that does not, no later digit brings it back.
+// The mark of n steps of a divider with this estimate: 0 if every byte read is a digit and the result is right, else 1. `row` is the divisor's row of the
+// burned table. As long as each digit leaves a remainder from -D to D - 1, D the divisor, the words hold it truly; after one that does not, no later digit
+// brings it back.
 fn recheck_row(estimate: Estimate, row: &[u8], dividend: u64, divisor: u64, n: usize) -> u8
     requires { ⌜ (BurnedRow divisor (now row)) × (divisor < 2 ^ 61) ⌝ }
     ensures { λ r. ⌜ ((t : List ℕ) → now (row .entry) ≡ rowBytes t (Cell.row divisor) → r ≡ runMark estimate t dividend divisor n) ⌝ }

@@ -25,7 +25,7 @@ module _ (E : Estimate) where
   -- which cells are bad
   pub cell-decides : (t : List ℕ) (k : ℕ) → IsCell (k / 128) (k % 128) (getD t k 0) → Decides (BadAt E t k) (isBad E t k)
   cell-decides t k i =
-      ⊎-elim (λ y. rw (y .0) (decides-no (λ b. not-allowed E (b .against) (y .1)))) (λ n. rw (n .0) (decides-yes (record { divisor = n .1; remainder = n .2; against = n .3 }))) (tells i)
+      ⊎-elim (λ y. rw (y .0) (decides-no (λ b. not-allowed E (b .against) (y .1)))) (λ n. rw (n .0) (decides-yes (record { byte = i .byte; divisor = n .1; remainder = n .2; against = n .3 }))) (tells i)
 
   pub bad-decides : {t : List ℕ} → Table t → (k : ℕ) → k < 2048 → Decides (BadAt E t k) (isBad E t k)
   bad-decides {t} a k h = cell-decides t k (cell-at a k h)

@@ -19,7 +19,7 @@ corner = record { row = record { from = lit≤ tt; below = lit< tt }; column = r
 
 pub kept-bad : BadAt SevenBits (madeTable EightBits) 196
 unfolding madeTable listFrom madeOf allowsOf digit
-kept-bad = record { divisor = 17 * 2 ^ 56; remainder = pos (6 * 2 ^ 57 - 2); against = record { point = corner; broken = λ k. k .high .le } }
+kept-bad = record { byte = lit≤ tt; divisor = 17 * 2 ^ 56; remainder = pos (6 * 2 ^ 57 - 2); against = record { point = corner; broken = λ k. k .high .le } }
 
 -- § 2.6 Sections 2.4 to 2.6 hold of both dividers.
 pub burned-tables : BurnedTables

@@ -41,6 +41,7 @@ module _ {m : RowMultiples} {c b : ℕ} (o : RowOf m) (hc : c ≤ 127) (hb : b �
   cell = record { row = o .small; column = hc; byte = hb }
 
   -- at every column and byte from 0 to 4 the test by a row's multiples is the single cell's answer
+  -- § 4.3 Given its row's multiples, the test of a cell returns the verdict and witness of the single cell.
   pub row-tested : cellVerdictOf (testOf m c b) ≡ cellOf (m .estimate) (m .row) c b
   row-tested = ap (λ (n : RowMultiples). cellVerdictOf (testOf n c b)) (o .is) ∙ sym (cell-known (m .estimate) cell)
 

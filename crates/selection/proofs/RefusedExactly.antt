@@ -23,11 +23,11 @@ module _ (E : Estimate) where
         let z = four D (P -ℤ pos D *ℤ digit (getD t k 0)) in
         ((λ a. record { point = a .point; out = λ w. a .broken (z .1 w) }), λ l. record { point = l .point; broken = λ w. l .out (z .0 w) })
 
-    of-bad : BadAt E t k ↔ SomeLeaves E t k
-    of-bad = ((λ b. record { divisor = _; remainder = _; leaves = of-against .0 (b .against) }), λ s. record { divisor = _; remainder = _; against = of-against .1 (s .leaves) })
+    of-bad : Table t → BadAt E t k ↔ SomeLeaves E t k
+    of-bad h = ((λ b. record { divisor = _; remainder = _; leaves = of-against .0 (b .against) }), λ s. record { byte = h .digits k; divisor = _; remainder = _; against = of-against .1 (s .leaves) })
 
   kept : {t : List ℕ} → Passes E t → (k : ℕ) → k < 2048 → SomeLeaves E t k → ⊥
-  kept p k h s = not-allowed E (of-bad .1 s .against) (p .allowed k h)
+  kept p k h s = not-allowed E (of-bad (p .table) .1 s .against) (p .allowed k h)
 
   -- § 21.3 A table is refused exactly when a point leaves the range.
   pub refused-exactly : {t : List ℕ} {a : TableVerdict} → Table t → Checked E t a → RefusedExactly E t (reportNumbers a)
@@ -45,12 +45,12 @@ module _ (E : Estimate) where
           let f = w .2 in
           let l : LeastWitness E (k / 128) (k % 128) (digit (getD t k 0)) (b .witness .divisor) (b .witness .remainder) = rw (cell-row (b .row) (b .column) (f .column), cell-column (b .row) (b .column) (f .column)) (f .witness) in
           record {
-            when = ((λ e. (k, omega (arith, f .row, f .column), of-bad .0 (f .first .here))), λ l. refl);
-            count = tally-as (λ k h. of-bad .0) (λ k h. of-bad .1) (w .1);
+            when = ((λ e. (k, omega (arith, f .row, f .column), of-bad h .0 (f .first .here))), λ l. refl);
+            count = tally-as (λ k l. of-bad h .0) (λ k l. of-bad h .1) (w .1);
             first = λ e. record {
               row = sym (cell-row (b .row) (b .column) (f .column));
               column = sym (cell-column (b .row) (b .column) (f .column));
-              cell = record { here = of-bad .0 (f .first .here); before = λ j h s. f .first .before j h (of-bad .1 s) };
+              cell = record { here = of-bad h .0 (f .first .here); before = λ j l s. f .first .before j l (of-bad h .1 s) };
               leaves = of-against .0 (l .against);
               divisor-least = λ D P m. l .divisor-least D P (of-against .1 m);
               remainder-least = λ P m. l .remainder-least P (of-against .1 m);

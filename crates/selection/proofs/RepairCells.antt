@@ -29,7 +29,7 @@ module _ (E : Estimate) where
     pub copied-byte : (FaultyAt E t k → ⊥) → (getD t k 0 ≤ 4) × Allows E (k / 128) (k % 128) (digit (getD t k 0))
     copied-byte n =
         let l : getD t k 0 ≤ 4 = not-below (λ m. n (inl m)) in
-        (l, allows-unless E (record { row = omega arith; column = omega arith; byte = l }) (λ D P x. n (inr (record { divisor = D; remainder = P; against = x }))))
+        (l, allows-unless E (record { row = omega arith; column = omega arith; byte = l }) (λ D P x. n (inr (record { byte = l; divisor = D; remainder = P; against = x }))))
 
     -- the computed repair is the one
     pub cell-repaired : RepairedAt E t k (repairedByte E t k) (changeMark E t k)

@@ -23,7 +23,7 @@ module _ (E : Estimate) where
   module _ (t : List ℕ) where
     -- and they pass if no cell is bad
     passes-of : Table t → ((k : ℕ) → k < 2048 → BadAt E t k → ⊥) → Passes E t
-    passes-of a n = record { table = a; allowed = λ k h. allows-unless E (cell-at a k h) (λ D P x. n k h (record { divisor = D; remainder = P; against = x })) }
+    passes-of a n = record { table = a; allowed = λ k h. allows-unless E (cell-at a k h) (λ D P x. n k h (record { byte = a .digits k; divisor = D; remainder = P; against = x })) }
 
     bad : Table t → let k = firstFrom (isBad E t) 0 2048 in k < 2048 → Checked E t (reportAt E (countBelow (isBad E t) 2048) t k)
     bad a h =

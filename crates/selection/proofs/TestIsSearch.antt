@@ -32,7 +32,6 @@ module _ (E : Estimate) where
   tested {r} {c} {b} k =
       same-eq _ _ (upto-at (agree E r c) 5 (upto-at (λ (n : ℕ). upto (agree E r n) 5) 128 (upto-at (λ (m : ℕ). upto (λ n. upto (agree E m n) 5) 128) 16 (all-agree E) r (omega arith)) c (omega arith)) b (omega arith))
 
-  -- the test is right
-  -- § 4.3 The test by a row's multiples agrees with the call for one cell.
+  -- the test is right: it finds the least point that breaks the digit
   pub test-right : {r c b : ℕ} → IsCell r c b → IsLeast (Breaks E r c b) (testOf (multiplesOf E r) c b)
   test-right {r} {c} {b} k = subst (IsLeast (Breaks E r c b)) (sym (tested k)) (search-right E r c b (k .row) (k .byte))

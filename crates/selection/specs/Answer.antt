@@ -1,4 +1,4 @@
--- A refusal, its number (0: none) and its place, and the answer of the check where it has nothing else to tell: the specification, section 18.
+-- A refusal, its number (0: none) and its place (the specification's term: the index of what is wrong, or 0), and the answer of the check where it has nothing else to tell: the specification, section 18.
 use Prim.Native.Nat.{ℕ}
 use lib.IntN.{pos}
 use Rattle.selection.specs.declared.Refusal.{Refusal}

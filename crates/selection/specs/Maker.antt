@@ -25,14 +25,14 @@ stepAt l c =
 
 -- in a divider with the estimate E
 module _ (E : Estimate) where
-  -- b is the byte of the allowed digit nearest zero; no other allowed digit is as near
+  -- b is the byte of the made digit (the specification's term), the allowed one nearest zero; no other allowed digit is as near
   -- § 5.1 The made digit is the allowed one nearest zero.
   pub record Made (r c b : ℕ) : Type 0 where
     pub byte : b ≤ 4
     pub allowed : Allows E r c (digit b)
     pub nearest : (a : ℕ) → a ≤ 4 → Allows E r c (digit a) → (a ≡ b) ⊎ (distance b < distance a)
 
-  -- l holds the limits of the row r
+  -- l holds the limits (the specification's term) of the row r: the columns where its made digits change
   -- § 5.3 A row's limits are the six columns where its made digits change.
   pub record AreLimits (r : ℕ) (l : List ℕ) : Type 0 where
     pub six : length l ≡ 6

@@ -15,9 +15,10 @@ pub record Table (t : List ℕ) : Type 0 where
 
 -- in a divider with the estimate E
 module _ (E : Estimate) where
-  -- byte k, of the cell (k / 128, k % 128), holds a digit that isn't allowed: there is a witness against it
+  -- a bad cell (the specification's term): byte k, of the cell (k / 128, k % 128), is from 0 to 4 and holds a digit that isn't allowed: there is a witness against it
   -- § 3.4 A cell is bad if its digit is not allowed; a table without one passes.
   pub record BadAt (t : List ℕ) (k : ℕ) : Type 0 where
+    pub byte : getD t k 0 ≤ 4
     pub divisor : ℕ
     pub remainder : ℤ
     pub against : Against E (k / 128) (k % 128) (digit (getD t k 0)) divisor remainder

@@ -5,7 +5,6 @@ ghost use mathlib.Core.Logic.{_↔_};
 ghost use Prim.Native.Nat.{_+_, _*_, _-_, _^_, _≤_, _<_, max};
 ghost use lib.IntN.{subℕ};
 ghost use Rattle.selection.specs.Cell.{spanOf};
-ghost use Rattle.selection.specs.computed.Cell.{IsCell};
 ghost use Rattle.selection.specs.computed.Outcomes.{cellOf};
 ghost use Rattle.selection.specs.computed.CellTest.{leftColumn, rightColumn, beginsAtMost, beginsBelowMinus, endsAtMost, endsBelowMinus, RowOf, CellOf, past, leastByte, greatestByte, hasPoint, allowsBy, above, under, leastPast, leastDivisor, lowDivisor, highDivisor, lowAt, highAt, WitnessFor, witnessOf};
 ghost use Rattle.selection.specs.declared.CellVerdict.the-variants as Verdict;
@@ -276,8 +275,8 @@ fn high_witness(d: u64, column: u64, byte: u64) -> Witness
     }
 }
 
-// The test of a cell: the verdict and the witness of `check_cell`. No digit is both too low and too high.
-fn test_cell(m: RowMultiples, column: u64, byte: u8) -> CellVerdict
+// The test of a cell, handed the multiples of its row: the verdict and the witness of `check_cell`. No digit is both too low and too high.
+pub(crate) fn test_cell(m: RowMultiples, column: u64, byte: u8) -> CellVerdict
     requires { ⌜ CellOf m column byte ⌝ }
     ensures { λ r. ⌜ r ≡ cellOf (m .estimate) (m .row) column byte ⌝ }
 {
@@ -293,14 +292,6 @@ fn test_cell(m: RowMultiples, column: u64, byte: u8) -> CellVerdict
     }
     let d = high_divisor(estimate, m.smallest, column, b);
     CellVerdict::Disallowed(high_witness(d, column, b))
-}
-
-// The same by the row. Single cells and a table's report both ask it, so it is compiled by itself, with the multiples in registers.
-pub(crate) fn test_at(estimate: Estimate, row: u64, column: u64, byte: u8) -> CellVerdict
-    requires { ⌜ IsCell row column byte ⌝ }
-    ensures { λ r. ⌜ r ≡ cellOf estimate row column byte ⌝ }
-{
-    test_cell(row_multiples(estimate, row), column, byte)
 }
 
 // Row, column and byte of a single cell, for a divider with this estimate: allowed, or the least witness against the digit.
@@ -325,5 +316,5 @@ pub fn check_cell(estimate: Estimate, row: u64, column: u64, byte: u8) -> CellVe
             place: 128 * row + column,
         });
     }
-    test_at(estimate, row, column, byte)
+    test_cell(row_multiples(estimate, row), column, byte)
 }

@@ -1,4 +1,4 @@
-// The kept table: 2,048 bytes, equal to what the maker writes (`made-one`), and it passes the check (`made-passes`).
+// The kept table (the specification's term): 2,048 bytes, equal to what the maker writes (`made-one`), and it passes the check (`made-passes`).
 ghost use mathlib.Core.Path.{_≡_};
 ghost use lib.ListN.{length};
 ghost use Rattle.selection.specs.Cell as Cell;

@@ -29,7 +29,7 @@ use crate::Witness;
 use crate::cell::RowMultiples;
 use crate::cell::allows;
 use crate::cell::row_multiples;
-use crate::cell::test_at;
+use crate::cell::test_cell;
 
 // A bad cell and the witness against its digit.
 pub struct BadCell {
@@ -188,9 +188,7 @@ fn bad_report(table: &[u8], m: RowMultiples, count: u64) -> TableVerdict
 {
     let row = m.row;
     let column = first_in_row(table, m) as u64;
-    let k = 128 * row + column;
-    let estimate = m.estimate;
-    match test_at(estimate, row, column, table[k as usize]) {
+    match test_cell(m, column, table[(128 * row + column) as usize]) {
         CellVerdict::Disallowed(witness) => TableVerdict {
             count,
             outcome: Outcome::Bad(BadCell {

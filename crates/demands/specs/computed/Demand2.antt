@@ -1,8 +1,9 @@
 -- Demand 2: whole numbers, binary64 and samples are right, through every table that passes and through the kept one.
 use mathlib.Core.Path.{_≡_}
 use mathlib.Core.List.{List, [], _∷_}
-use Prim.Native.Nat.{ℕ, _+_, _*_, _^_, _≤_, _<_}
-use lib.ListN.{length}
+use mathlib.Core.Logic.{_↔_}
+use Prim.Native.Nat.{ℕ, _+_, _*_, _/_, _%_, _^_, _≤_, _<_}
+use lib.ListN.{length, getD}
 use Rattle.selection.specs.Answer.{refusal}
 use Rattle.selection.specs.Table.{Passes}
 use Rattle.selection.specs.computed.Outcomes.{madeTable}
@@ -41,12 +42,19 @@ abbrev pub SamplesExample : List ℕ → Type 0
 SamplesExample t = samplesOf t 0 (0x7FE0_0000_0000_0000 ∷ 0x0010_0000_0000_0000 ∷ []) (0x3FD0_0000_0000_0000 ∷ 0x4008_0000_0000_0000 ∷ []) (11 ∷ 12 ∷ 13 ∷ [])
     ≡ record { answer = record { refusal = refusal 0 0; flags = 7; count = 2 }; concentrations = 0x7FF0_0000_0000_0000 ∷ 0x0005_5555_5555_5555 ∷ 13 ∷ [] }
 
+-- the joined flags in numbers: below 32, and each of the five is in the sum exactly if it is in that of some sample
+pub record FlagsJoined (t : List ℕ) (direction : ℕ) (currents sensitivities : List ℕ) (flags : ℕ) : Type 0 where
+  pub small : flags < 32
+  pub each : (i : ℕ) → i < 5 → (flags / 2 ^ i % 2 ≡ 1) ↔ ((j : ℕ) × (j < length currents) × (binary64Of t direction (getD currents j 0) (getD sensitivities j 0) .flags / 2 ^ i % 2 ≡ 1))
+
 -- through the table t, for all operands that no refusal names: 4, 5; 6; 6, 11, 7
 pub record RightThrough (t : List ℕ) : Type 0 where
   pub whole : (a b : ℕ) → a < 2 ^ 60 → 0 < b → b < 2 ^ 60 → Divides a b (wholeOf t a b)
   pub binary64 : (direction a b : ℕ) → direction ≤ 3 → DividesBinary64 direction a b (binary64Of t direction a b)
   pub samples : (direction : ℕ) (currents sensitivities given : List ℕ) → direction ≤ 3 → length currents ≡ length sensitivities → length currents ≤ length given
       → DividesSamples t direction currents sensitivities given (samplesOf t direction currents sensitivities given)
+  pub flags-joined : (direction : ℕ) (currents sensitivities given : List ℕ) → direction ≤ 3 → length currents ≡ length sensitivities → length currents ≤ length given
+      → FlagsJoined t direction currents sensitivities (samplesOf t direction currents sensitivities given .answer .flags)
   -- both 0 for an empty run
   pub no-samples : (direction : ℕ) (given : List ℕ) → direction ≤ 3 → samplesOf t direction [] [] given ≡ record { answer = samplesValues 0 0; concentrations = given }
   pub samples-example : SamplesExample t

@@ -1,7 +1,7 @@
 -- Packed decimal numbers are divided rightly: the specification, section 13. What is refused is said in demand 1.
 use mathlib.Core.Path.{_≡_}
 use mathlib.Core.List.{List, [], _∷_}
-use Prim.Native.Nat.{ℕ, _+_, _*_, _^_, _<_}
+use Prim.Native.Nat.{ℕ, _+_, _*_, _/_, _%_, _^_, _<_}
 use Rattle.selection.specs.Answer.{refusal}
 use Rattle.selection.specs.computed.Outcomes.{madeTable}
 use Rattle.division.specs.computed.Whole.{wholeOf}
@@ -41,8 +41,15 @@ pub record PackedExamples : Type 0 where
   pub divisor : packedOf (0 ∷ 0 ∷ 0 ∷ 0 ∷ 0 ∷ 0 ∷ 0 ∷ 0 ∷ []) (0xA0 ∷ 0 ∷ 0 ∷ 0 ∷ 0 ∷ 0 ∷ 0 ∷ 0 ∷ []) ≡ record { refusal = refusal 15 8; quotient = 0 ∷ 0 ∷ 0 ∷ 0 ∷ 0 ∷ 0 ∷ 0 ∷ 0 ∷ []; remainder = 0 ∷ 0 ∷ 0 ∷ 0 ∷ 0 ∷ 0 ∷ 0 ∷ 0 ∷ [] }
   pub by-zero : packedOf (0 ∷ 0 ∷ 0 ∷ 0 ∷ 0 ∷ 0 ∷ 0 ∷ 0 ∷ []) (0 ∷ 0 ∷ 0 ∷ 0 ∷ 0 ∷ 0 ∷ 0 ∷ 0 ∷ []) ≡ record { refusal = refusal 5 0; quotient = 0 ∷ 0 ∷ 0 ∷ 0 ∷ 0 ∷ 0 ∷ 0 ∷ 0 ∷ []; remainder = 0 ∷ 0 ∷ 0 ∷ 0 ∷ 0 ∷ 0 ∷ 0 ∷ 0 ∷ [] }
 
+-- what a byte with the half bytes h and l counts
+abbrev pub two : ℕ → ℕ
+two b = 10 * (b / 16) + b % 16
+
 -- § 13.2 Packed numbers are divided, and no other bytes fit.
 pub record PackedDemand : Type 0 where
+  -- whatever the eight bytes, the first one counts most
+  pub number-is : (a b c d e f g h : ℕ) → packedNumber (a ∷ b ∷ c ∷ d ∷ e ∷ f ∷ g ∷ h ∷ [])
+      ≡ 10 ^ 14 * two a + 10 ^ 12 * two b + 10 ^ 10 * two c + 10 ^ 8 * two d + 10 ^ 6 * two e + 10 ^ 4 * two f + 10 ^ 2 * two g + two h
   -- eight bytes without a half byte above 9, turned to a number and back, are the same bytes
   pub back : (bs : List ℕ) → IsPacked bs → packedBytes (packedNumber bs) ≡ bs
   -- their numbers are below 10^16, and every number below 10^16 has one set of bytes

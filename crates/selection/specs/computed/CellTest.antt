@@ -156,7 +156,7 @@ foundAt E s c b low =
     let e = highDivisor E s c b in
     cond low (LeastAt d (lowAt d c)) (LeastAt e (highAt e c b))
 
--- § 4.3 The test by a row's multiples agrees with the call for one cell.
+-- § 4.3 Given its row's multiples, the test of a cell returns the verdict and witness of the single cell.
 abbrev pub testOf : RowMultiples → ℕ → ℕ → Finding
 testOf m c b = cond (allowsBy m c b) NoWitness (foundAt (m .estimate) (m .smallest) c b (ltb (greatestByte m c) b))
 

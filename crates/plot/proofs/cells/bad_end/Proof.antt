@@ -17,7 +17,7 @@ returns c =
 loop-again : tie.Need-loop-again Inv-loop μ-loop
 loop-again c =
     let w = c .before .cell-at .ensures .own .no (c .if1 .left) in
-    bad-more _ (c .before .before .before .loop .inv) (omega arith) (record { divisor = w .divisor; remainder = w .remainder; against = w .against })
+    bad-more _ (c .before .before .before .loop .inv) (omega arith) (record { byte = c .before .before .before .before .before .pre .0 .digits _; divisor = w .divisor; remainder = w .remainder; against = w .against })
 
 pub bad-end-spec : {M : Type 1} → statement M
 bad-end-spec =

@@ -6,4 +6,5 @@ pub check-cell-spec : {M : Type 1} → statement M
 check-cell-spec =
     tie.close (tie.spec (λ c. search tests) (λ c. search tests)
     (λ c. search needs) (λ c. search needs) (λ c. search tests)
-    (λ c κs. search needs) (λ c. c .test-at .ensures))
+    (λ c κs. search needs) (λ c κs. search needs)
+    (λ c. rw (← c .before .row-multiples .ensures .1, ← c .before .row-multiples .ensures .2) (c .test-cell .ensures)))
