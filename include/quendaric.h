@@ -119,10 +119,10 @@ extern "C" {
 #endif
 
 /* The version of these calls. CHANGELOG.md says what changed in each. */
-#define QUENDARIC_VERSION "3.1.0"
+#define QUENDARIC_VERSION "3.1.1"
 #define QUENDARIC_VERSION_MAJOR 3
 #define QUENDARIC_VERSION_MINOR 1
-#define QUENDARIC_VERSION_PATCH 0
+#define QUENDARIC_VERSION_PATCH 1
 
 #define QUENDARIC_TABLE_LENGTH 2048
 #define QUENDARIC_MOST_DIGITS 28
@@ -475,11 +475,11 @@ quendaric_averages quendaric_average_windows(const uint64_t *readings, size_t re
 QUENDARIC_ANSWER
 quendaric_packed quendaric_divide_packed(const uint8_t dividend[8], const uint8_t divisor[8]);
 
-/* Counts how often each cell is met. It takes all 4^(bits - 1) pairs of operands that have 1 to 6 significant bits,
-   both with their leading one at bit 60, and runs 1 to 28 digits of each pair through the table. visits[128 * row +
-   column] becomes the number of these digits that were taken at that cell. The call writes the first 2,048 numbers,
-   which add up to digits * 4^(bits - 1), and leaves later ones as they are. visits may not overlap the table. The call
-   checks the table once. Refuses 2, 16, 7, 8, 9, 10, in this order. */
+/* Counts how often each cell is met. It takes all 4^(bits - 1) pairs of operands that have exactly `bits` significant
+   bits, 1 to 6, both with their leading one at bit 60, and runs `digits` digits, 1 to 28, of each pair through the
+   table. visits[128 * row + column] becomes the number of these digits that were taken at that cell. The call writes
+   the first 2,048 numbers, which add up to digits * 4^(bits - 1), and leaves later ones as they are. visits may not
+   overlap the table. The call checks the table once. Refuses 2, 16, 7, 8, 9, 10, in this order. */
 QUENDARIC_ANSWER
 quendaric_visits quendaric_count_visits(const uint8_t *table, size_t table_length, uint64_t bits, size_t digits,
                                         uint32_t *QUENDARIC_RESTRICT visits, size_t visits_length);

@@ -1,5 +1,5 @@
 #!/bin/sh
-# `vectors` counts or tells each damage of twelve changed files.
+# `vectors` counts or tells each damage of twenty changed files.
 #
 # It is seen in the file's line and in the total. Run it after `rt check vectors` has written target/bin/.
 # shellcheck source=tests/cases.sh
@@ -43,6 +43,17 @@ runs 'a root among quotients' "$work/root" "$more"
 sed '29s/  /0 /' "$work/root" >"$work/filled"
 runs 'half a second operand' "$work/filled" "$more; s/\(29\|9725\) 0/\1 1/"
 
+# In each direction, of a quotient and of a root, flags that are wrong alone.
+for file in div-testfloat sqrt-testfloat; do
+    for direction in 0 1 2 3; do
+        { cat "$llvm"; awk -v direction="$direction" 'substr($0, 35, 1) == direction {
+            print substr($0, 1, 53) (substr($0, 54) == "00" ? "01" : "00")
+            exit
+        }' "$root/crates/vectors/data/$file.txt"; } >"$work/direction"
+        runs "other flags of $file in direction $direction" "$work/direction" "$more; s/\(29\|9725\) 0/\1 1/"
+    done
+done
+
 without='/llvm/d; s/total 9724 0/total 9696 0, files not read: 1/'
 runs 'no file' "$work/none" "$without" 'div-llvm.txt: No such file or directory'
 mkdir "$work/folder"
@@ -77,4 +88,4 @@ misused vectors 'usage: vectors (in crates/vectors/data)' div-llvm.txt
 misused vectors 'usage: vectors (in crates/vectors/data)' ''
 interrupts vectors /dev/null
 
-ends vectors 24
+ends vectors 32
