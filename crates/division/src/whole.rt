@@ -63,8 +63,7 @@ fn shifted_run(row: &[u8], a: u64, d: u64, s: u32) -> RunResult
     let after = digits_after(a, s);
     let n = a << (s - 2 * after);
     let count = (after + 1) as usize;
-    let mut digits = [2u8; recurrence::LONGEST];
-    recurrence::run_row(row, n, d, &mut digits[0..count])
+    recurrence::one_word::result_row(row, n, d, count)
 }
 
 // Its quotient, and its remainder moved down again.

@@ -6,6 +6,7 @@ pub mod NextColumn
 pub mod Invariant
 pub mod Correction
 pub mod Rows
+pub mod OneWord
 pub mod Loop
 pub mod Refusals
 pub mod RunDemand

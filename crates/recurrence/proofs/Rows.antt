@@ -1,4 +1,4 @@
--- The row of a divisor in a table that passes: what `run_row` asks of the bytes that it is lent, and how its callers have it.
+-- The row of a divisor in a table that passes: what `run_row` and `result_row` ask of the bytes that they are lent, and how their callers have it.
 use Rattle.laws.proofs.Basics.{_≡_, List, ℕ, _+_, _*_, _^_, _<_, arith, getD, length-take, length-drop}
 use lib.Seq.{getD-take, getD-drop}
 use Rattle.selection.{specs.Cell.{row}, specs.Table.{Passes}, specs.computed.Table.{rowBytes}, specs.computed.Outcomes.{madeTable}, proofs.MadeTables.{kept-passes}}

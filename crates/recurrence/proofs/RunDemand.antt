@@ -1,13 +1,12 @@
 -- Demand 3 of the run: the claim about all its steps, and the same answer through every table that passes, refusals included.
 use Rattle.laws.{proofs.Basics.{_≡_, refl, sym, ap, _∙_, List, ℕ, _+_, _*_, _^_, _≤_, _<_, arith, cond, length, getD, pos, nonNeg, _-ℤ_, _*ℤ_}, specs.Lists.{listFrom}, proofs.Diff.{diffs}}
 use Rattle.laws.proofs.Lists.{list-length}
-use native.Mathlib.Nat.{pow-le-pow-right}
 use Rattle.selection.{proofs.RefusalNames.{passed-last}, specs.Cell.{row, column, digit}, specs.Table.{Passes}, specs.computed.Allowed.{allowsOf}, specs.computed.Outcomes.{madeTable, madeOf}}
 use Rattle.selection.{specs.Word.{Within}, proofs.TableRefusals.{same-through}, specs.declared.Estimate.{Estimate}, specs.declared.Estimate.the-variants.{EightBits}}
 use Rattle.recurrence.specs.Recurrence.{Operands, residue, cellAt, nextOf, after, digitOf, digits, value, endRemainder, correctedQuotient, correctedRemainder, resultOf}
 use Rattle.recurrence.specs.computed.{Run.{longest, mostDigits, runRules, RunOutcome, runRefused, runValues, runOf}, OnTheFly.{PairDemand, PairExample}, Demand.{RunsRight, RunClaim}}
 use Rattle.recurrence.specs.computed.Recheck.{exactResult}
-use Rattle.recurrence.proofs.{Steps.{residue-biased, range-of, table-digit-allowed, step-residue}, Digits.{divisor-after, digit-at}, Invariant.{invariant-after, quarter}}
+use Rattle.recurrence.proofs.{Steps.{residue-biased, range-of, table-digit-allowed, step-residue}, Digits.{divisor-after, digit-at}, Invariant.{fits-word, word-after, invariant-after, quarter}}
 use Rattle.recurrence.proofs.{Pair.{renews-next, pair-after, chosen}, Correction.{end-remainder, result-by-sign, corrected-result, exact-result}, Refusals.{spans, no-refusal}}
 
 -- § 6.6 Bench case 9 is shown step by step.
@@ -19,7 +18,7 @@ pair-example = record { one = (refl, refl); two = (refl, refl); three = (refl, r
 module _ (E : Estimate) where
   -- after i steps the remainder is in range
   pub range : (t : List ℕ) (N D : ℕ) → Passes E t → Operands N D → (i : ℕ) → Within 8 D (pos 3 *ℤ residue (after E t N D i))
-  range t N D p o i = rw (divisor-after E t N D i) at (range-of (after E t N D i) (invariant-after E t N D p o i .1 .in-range))
+  range t N D p o i = rw (divisor-after E t N D i) at (range-of (after E t N D i) (invariant-after E t N D p o i .1 .word .in-range))
 
   -- ---- after the last of n steps
 
@@ -39,17 +38,17 @@ module _ (E : Estimate) where
     quotient-chosen : n ≤ longest → resultOf E t N D n .quotient ≡ cond (nonNeg (endRemainder E t N D n)) (after E t N D n .value) (after E t N D n .decremented)
     quotient-chosen m =
         let k = invariant-after E t N D p o n .1 in
-        let f : resultOf E t N D n .quotient < 2 ^ 64 = rw (← (result-by-sign E) t N D n _ k h) (omega (arith, k .size, pow-le-pow-right {n = 4} (omega arith) {i = n} {j = 31} m)) in
+        let f : resultOf E t N D n .quotient < 2 ^ 64 = rw (← (result-by-sign E) t N D n _ k h) (omega (arith, fits-word (k .word) m)) in
         chosen _ (value (digits E t N D n)) (endRemainder E t N D n) (after E t N D n) f (result-formed .0) (pair-after E t N D (p .table .digits) n)
 
     -- the end remainder is a quarter of the last remainder
     close : Within 2 D (pos 3 *ℤ endRemainder E t N D n)
     close =
         let k = invariant-after E t N D p o n .1 in
-        let v = divisor-after E t N D n in
+        let m = word-after E t N D k in
         let q = quarter N n h in
         rw (end-remainder E t N D n _ k h)
-        (record { low = simp diffs (omega (arith, k .in-range .above, k .meets)); high = simp diffs (omega (arith, k .in-range .below, k .meets)) })
+        (record { low = simp diffs (omega (arith, m .in-range .above, m .meets)); high = simp diffs (omega (arith, m .in-range .below, m .meets)) })
 
 -- in a divider with either estimate
 -- § 6.8 All this holds of the steps of a divider with either estimate.
@@ -62,10 +61,10 @@ runs-right E t N D n p o h =
       selected = λ i m. digit-at E t N D n i m ∙ ap (λ (x : ℕ). getD t (128 * row x + column E (after E t N D i .sum) (after E t N D i .carry)) 0) (divisor-after E t N D i);
       step = λ i m.
           let s = after E t N D i in
-          let g = invariant-after E t N D p o i .1 .in-range in
+          let g = invariant-after E t N D p o i .1 .word .in-range in
           rw (digit-at E t N D n i m) (step-residue _ s g (table-digit-allowed E t s p g) ∙ ap (λ (x : ℕ). pos 4 *ℤ (residue s -ℤ digit (getD t (cellAt E s) 0) *ℤ pos x)) (divisor-after E t N D i));
       -- the two words' signed sum is the true remainder
-      exact = λ i m. let k = invariant-after E t N D p o i .1 in residue-biased (after E t N D i) ∙ rw (k .makes) (simp diffs (omega (arith, k .meets)));
+      exact = λ i m. let k = invariant-after E t N D p o i .1 in residue-biased (after E t N D i) ∙ rw (k .makes) (simp diffs (omega (arith, word-after E t N D k .meets)));
       range = λ i m. range E t N D p o i;
       pair = λ i m. pair-after E t N D (p .table .digits) i;
       renews = λ i m. renews-next E t (p .table .digits) (after E t N D i);

@@ -8,7 +8,7 @@ use Rattle.selection.{specs.computed.Allowed.{allowsOf}, specs.computed.Outcome
 use Rattle.selection.specs.declared.Estimate.the-variants.{EightBits}
 use Rattle.recurrence.specs.{Recurrence.{Operands, cellAt, stepBy, stateFrom, nextOf, after, digitOf, digits}, computed.Step.{stepRules, stepZeros, stepValues, stepOf, fedBack}}
 use Rattle.recurrence.specs.{Step.{StepTaken}, computed.StepDemand.{FeedsRun, StepDemand, StepExample}, declared.step.Stepped.{Stepped}}
-use Rattle.recurrence.proofs.{Steps.{residue-biased, InRange, range-of, table-digit-allowed, step-residue, step-in-range}, Digits.{divisor-after}, StepRange.{by-neither}}
+use Rattle.recurrence.proofs.{Steps.{biased, residue-biased, InRange, range-of, next-in-range, step-law, step-residue, table-digit-allowed}, Digits.{divisor-after}, StepRange.{by-neither}}
 use Rattle.recurrence.proofs.RunDemand.{range, run-claim}
 
 -- ---- one step
@@ -19,7 +19,7 @@ module _ (s k D : ℕ) (t : List ℕ) (ok : Passes EightBits t) (least : 2 ^ 60 
       ap (answerBy stepZeros (stepValues (nextOf EightBits t (stateFrom s k D))))
       (passed-last EightBits ok (stepRules s k D) ∙ by-neither s k D least most (⊎-elim (λ x. clashℤ x (w .low)) (λ x. clashℤ x (w .high))))
 
-  in-range : InRange (stateFrom s k D)
+  in-range : InRange (biased (stateFrom s k D)) D
   in-range =
       let e = residue-biased (stateFrom s k D) in
       record { least = least; most = most; above = omega (arith, simp diffs at (rw e at (w .low))); below = omega (arith, simp diffs at (rw e at (w .high))) }
@@ -39,7 +39,7 @@ module _ (s k D : ℕ) (t : List ℕ) (ok : Passes EightBits t) (least : 2 ^ 60 
         sum = refl;
         carry = refl;
         next = step-residue d p in-range f;
-        range = range-of (stepBy d p) (step-in-range d p in-range f);
+        range = range-of (stepBy d p) (next-in-range in-range f (step-law d p in-range f));
       })
 
 -- ---- each pair fed back

@@ -1,11 +1,11 @@
 // The digit recurrence, the middle layer: a quotient digit a step, read from a table by the truncated estimate of a carry-save partial remainder.
+pub mod one_word;
 pub mod recheck;
 mod state;
 pub mod step;
 pub mod visits;
 
 use crate::state::RunState;
-use crate::state::corrected;
 use crate::state::divisor_multiples;
 use selection::Admission;
 use selection::NO_REFUSAL;
@@ -33,8 +33,8 @@ const DIVISOR_LEAST: u64 = 0x1000_0000_0000_0000;
 
 const OPERAND_MOST: u64 = 0x1fff_ffff_ffff_ffff;
 
-// The most digits that `run_row` gives: whole-number division needs so many, and has room for them.
-pub const LONGEST: usize = 31;
+// The most digits of a run: whole-number division needs so many.
+const LONGEST: usize = 31;
 
 // The most digits that a caller may ask for.
 const MOST_DIGITS: usize = 28;
@@ -55,9 +55,8 @@ pub struct RunResult {
     pub remainder: u64,
 }
 
-// One digit byte a step, in each byte of out, through the 128 bytes of the divisor's row in a table that passes. Only our own crates
-// call it: it has a `requires`, so that a table checked once is not checked again, and the kept table is not copied.
-pub fn run_row(row: &[u8], dividend: u64, divisor: u64, out: &mut [u8]) -> RunResult
+// One digit byte a step, in each byte of out, through the 128 bytes of the divisor's row in a table that passes.
+fn run_row(row: &[u8], dividend: u64, divisor: u64, out: &mut [u8]) -> RunResult
     requires { ⌜ (Row divisor (now row)) × (Operands dividend divisor) × (1 ≤ length (now out)) × (length (now out) ≤ longest) ⌝ }
     ensures { λ r. ⌜ ((t : List ℕ) → Passes EightBits t → now (row .entry) ≡ rowBytes t (Cell.row divisor) → (now (out .exit) ≡ digits EightBits t dividend divisor (length (now (out .entry)))) × (r ≡ resultOf EightBits t dividend divisor (length (now (out .entry))))) ⌝ }
 {
@@ -69,7 +68,7 @@ pub fn run_row(row: &[u8], dividend: u64, divisor: u64, out: &mut [u8]) -> RunRe
         out[i] = state.digit;
         i += 1;
     }
-    corrected(state, i)
+    state.result(i)
 }
 
 // The answer, with n digits in the buffer from a place on.

@@ -94,7 +94,7 @@ fn column_of(sum: u64, carry: u64) -> u64
     ((sum >> 56) + (carry >> 56) + 128) % 256 / 2
 }
 
-fn digit_at(row: &[u8], column: usize) -> u8
+pub(crate) fn digit_at(row: &[u8], column: usize) -> u8
     requires { ⌜ (DigitBytes (now row)) × (column < 128) ⌝ }
     ensures { λ r. ⌜ (r ≡ getD (now (row .entry)) column 0) × (r ≤ 4) ⌝ }
 {
@@ -215,19 +215,33 @@ impl RunState {
         let digit = digit_at(row, self.column as usize);
         self.step_by(digit, multiples)
     }
+
+    // The answer after the last step: the partial remainder is the words' wrapping sum.
+    pub(crate) fn result(self, count: usize) -> RunResult
+        requires { ⌜ self .divisor < 2 ^ 61 ⌝ }
+        ensures { λ r. ⌜ r ≡ resultFromWord (self .value) (self .decremented) (self .divisor) ((self .sum + self .carry) % 2 ^ 64) count ⌝ }
+    {
+        let word = wrapping_add_u64(self.sum, self.carry);
+        corrected(self.value, self.decremented, self.divisor, word, count)
+    }
 }
 
-// The answer that the last state and the digits' number give: the partial remainder is the words' wrapping sum. Its sign, the top bit,
-// chooses the quotient, and adds the divisor to a quarter of the remainder, whose two top bits are then set: no branch on the sign.
-pub(crate) fn corrected(state: RunState, count: usize) -> RunResult
-    requires { ⌜ state .divisor < 2 ^ 61 ⌝ }
-    ensures { λ r. ⌜ r ≡ resultFromWord (state .value) (state .decremented) (state .divisor) ((state .sum + state .carry) % 2 ^ 64) count ⌝ }
+// The answer that the value of the digits, one less, the divisor, the partial remainder and the digits' number give. The remainder's sign, the
+// top bit, chooses the quotient, and adds the divisor to a quarter of the remainder, whose two top bits are then set: no branch on the sign.
+pub(crate) fn corrected(
+    value: u64,
+    decremented: u64,
+    divisor: u64,
+    word: u64,
+    count: usize,
+) -> RunResult
+    requires { ⌜ divisor < 2 ^ 61 ⌝ }
+    ensures { λ r. ⌜ r ≡ resultFromWord value decremented divisor word count ⌝ }
 {
-    let word = wrapping_add_u64(state.sum, state.carry);
     let sign = word >> 63;
     RunResult {
-        quotient: choose(word < SIGN, state.value, state.decremented),
-        remainder: wrapping_add_u64(word >> 2, sign * (state.divisor + 0xc000_0000_0000_0000)),
+        quotient: choose(word < SIGN, value, decremented),
+        remainder: wrapping_add_u64(word >> 2, sign * (divisor + 0xc000_0000_0000_0000)),
         count,
     }
 }

@@ -1,7 +1,7 @@
 use Rattle.laws.proofs.{Basics.{needs, _≡_, sym, _∙_, arith, ℕ, _-_, _<_, List, length}, Lists.{fill-none}}
 use Rattle.selection.specs.{Cell.{row}, Table.{Passes}, computed.Table.{rowBytes}, declared.Estimate.the-variants.{EightBits}}
 use Rattle.recurrence.specs.Recurrence.{after}
-use Rattle.recurrence.proofs.{Digits.{divisor-after}, Invariant.{invariant-after}, Pair.{pair-after}, Correction.{result-from-word}}
+use Rattle.recurrence.proofs.{Digits.{divisor-after}, Invariant.{invariant-after}, Pair.{pair-after}, Correction.{result-from-pair}}
 use Rattle.recurrence.proofs.{Loop.{Reached, stands-divisor, stands-ready, move, reached-length, done}, Rows.{row-digits}, run_row.Statement.{statement}}
 use Rattle.recurrence.proofs.run_row.Tie as tie
 
@@ -52,7 +52,7 @@ returns c t ok is =
     let d = done r (c .before .loop-test .left) in
     rw (← d .0) (
       d .1,
-      c .corrected .ensures ∙ rw (r .stands) (result-from-word EightBits _ _ _ i (k .0) (k .1) (omega (arith, d .0, s .pre)) (omega (arith, d .0, s .pre)) (pair-after EightBits t _ _ (ok .table .digits) i)),
+      c .result .ensures ∙ rw (r .stands) (result-from-pair EightBits _ _ _ i (k .0) (k .1) (omega (arith, d .0, s .pre)) (omega (arith, d .0, s .pre)) (pair-after EightBits t _ _ (ok .table .digits) i)),
     )
 
 pub run-row-spec : {M : Type 1} → statement M

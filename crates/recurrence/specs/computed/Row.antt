@@ -1,4 +1,4 @@
--- What `run_row`, which only our own crates call, asks of the 128 bytes that it is lent.
+-- What `result_row`, which only our own crates call, and `run_row` ask of the 128 bytes that they are lent.
 use mathlib.Core.Path.{_≡_}
 use mathlib.Core.List.{List}
 use Prim.Native.Nat.{ℕ}
