@@ -6,10 +6,10 @@ pub mod NextColumn
 pub mod Invariant
 pub mod Correction
 pub mod Rows
-pub mod OneWord
 pub mod Loop
 pub mod Refusals
 pub mod RunDemand
+pub mod OneWord
 pub mod StepRange
 pub mod StepDemand
 pub mod Visiting

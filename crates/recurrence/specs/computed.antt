@@ -1,6 +1,7 @@
 pub mod Demand
 pub mod FastRun
 pub mod OnTheFly
+pub mod OneWord
 pub mod Recheck
 pub mod Row
 pub mod Run

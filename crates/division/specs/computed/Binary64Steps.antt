@@ -5,11 +5,14 @@ use mathlib.Core.Bool.{Bool, cond}
 use mathlib.Core.List.{List}
 use Prim.Native.Nat.{ℕ, min, _+_, _-_, _*_, _/_, _%_, _^_, _≤_, _<_}
 use lib.Dec.{leb}
+use lib.ListN.{getD}
+use Rattle.laws.specs.Lists.{listFrom}
 use Rattle.selection.specs.Cell.{row}
 use Rattle.selection.specs.Table.{Passes}
 use Rattle.selection.specs.computed.Table.{rowBytes}
 use Rattle.recurrence.specs.Recurrence.{resultOf}
-use Rattle.division.specs.Format.{signOf}
+use Rattle.recurrence.specs.declared.one_word.Pair.{Pair}
+use Rattle.division.specs.Format.{FiniteNonzero, signOf}
 use Rattle.division.specs.computed.Significands.{significandOf}
 use Rattle.division.specs.Rounding.{modeOf}
 use Rattle.division.specs.computed.Rounding.{roundedResult, byClass, orRounded}
@@ -56,3 +59,27 @@ pub record RatioOf (bytes : List ℕ) (a b r : ℕ) : Type 0 where
   pub through : (t : List ℕ) → Passes EightBits t → bytes ≡ rowBytes t (row b) → r ≡ ratioThrough EightBits t a b
   pub low : 2 ^ 54 ≤ r
   pub high : r < 2 ^ 56
+
+-- r is a significand to divide for the pattern p: a finite number's own, unless it is a zero
+pub record SignificandFor (p r : ℕ) : Type 0 where
+  pub low : 2 ^ 60 ≤ r
+  pub high : r < 2 ^ 61
+  pub is : FiniteNonzero p → r ≡ significandOf p .sig
+
+-- w is the ratio of such significands for the patterns a and b, divided through the table t
+pub record RatioFor (t : List ℕ) (a b w : ℕ) : Type 0 where
+  pub low : 2 ^ 54 ≤ w
+  pub high : w < 2 ^ 56
+  pub is : FiniteNonzero a → FiniteNonzero b → w ≡ ratioThrough EightBits t (significandOf a .sig) (significandOf b .sig)
+
+-- four significands, and the ratios of two such lists through the table t
+abbrev pub Significands : List ℕ → Type 0
+Significands l = (j : ℕ) → j < 4 → (2 ^ 60 ≤ getD l j 0) × (getD l j 0 < 2 ^ 61)
+
+abbrev pub fourRatios : List ℕ → List ℕ → List ℕ → List ℕ
+fourRatios t a b = listFrom (λ j. ratioThrough EightBits t (getD a j 0) (getD b j 0)) 0 4
+
+-- the quotient of the patterns x, where w is the ratio of their significands
+abbrev pub ratioRounded : ℕ → Pair → ℕ → Binary64Result
+ratioRounded direction x w =
+    orRounded (roundedQuotient direction (signOf (x .dividend) (x .divisor)) w (significandOf (x .dividend) .exp + 1021) (significandOf (x .divisor) .exp)) (byClass (x .dividend) (x .divisor))
