@@ -51,7 +51,7 @@ module _ (E : Estimate) where
       let high = div-lt-iff-lt-mul {k = b} {x = a * 2 ^ 54} {y = 2 ^ 55} (omega arith) .1 (omega arith) in
       rw e (refl, high, omega arith, omega arith)
 
-  -- § 9.10 The digits of the quotient come through the table.
+  -- § 9.10 The quotient is that of a run of 28 digits through the table.
   pub binary64-through : (t : List ℕ) (direction a b : ℕ) → Passes E t → binary64Through E t direction a b ≡ quotientOf direction a b
   unfolding roundedQuotient
   binary64-through t direction a b p = rounded-same (byClass a b) (λ e.

@@ -4,7 +4,7 @@ use Rattle.laws.proofs.{Basics.{_≡_, List, ℕ, _+_, _-_, _*_, _/_, _%_, _^_,
 use Rattle.selection.{proofs.DigitBytes.{up-to-four}, specs.Word.{Within}, specs.Cell.{row, column, digit, Allows}, specs.Table.{Passes}, specs.Repair.{FaultyAt}}
 use Rattle.selection.proofs.{BiasedPoints.{signed-diff, digit-diff}, Columns.{row-in, column-small, column-of}, Reports.{passes-at}, Tables.{cell-row, cell-column}, RepairCells.{copied-byte}}
 use Rattle.selection.specs.declared.{Estimate.{Estimate}, Estimate.the-variants.{EightBits}}
-use Rattle.recurrence.specs.{CarrySave.{sum3, maj3, multiple, lowestCarry}, Recurrence.{State, residue, cellAt, stepBy, stateFrom}, computed.FastRun.{stepTerms}}
+use Rattle.recurrence.specs.{CarrySave.{sum3, maj3, multiple, lowestCarry}, Recurrence.{State, residue, cellAt, stepBy, stateFrom}, computed.OneWord.{stepTerms}}
 use Rattle.recurrence.proofs.CarrySave.{carry-save}
 
 abbrev pub biased : State → ℕ

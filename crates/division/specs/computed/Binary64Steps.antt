@@ -50,7 +50,7 @@ module _ (E : Estimate) where
   scaledThrough t direction s x y = roundedQuotient direction s (ratioThrough t (x .sig) (y .sig)) (x .exp + 1021) (y .exp)
 
   -- a / b, its significands' quotient by the digits of the table t
-  -- § 9.10 The digits of the quotient come through the table.
+  -- § 9.10 The quotient is that of a run of 28 digits through the table.
   abbrev pub binary64Through : List ℕ → ℕ → ℕ → ℕ → Binary64Result
   binary64Through t direction a b = orRounded (scaledThrough t direction (signOf a b) (significandOf a) (significandOf b)) (byClass a b)
 

@@ -73,7 +73,3 @@ distanceOf w = cond (ltb w (2 ^ 63)) w (2 ^ 64 - w)
 -- the answer from the last state's pair v, u, the divisor and the sum w of its two words: one of the pair, chosen by the sign; a quarter of the remainder, and one divisor added where the sign is set
 abbrev pub resultFromWord : ℕ → ℕ → ℕ → ℕ → ℕ → RunResult
 resultFromWord v u D w n = record { quotient = cond (ltb w (2 ^ 63)) v u; remainder = (w / 4 + w / 2 ^ 63 * (D + 3 * 2 ^ 62)) % 2 ^ 64; count = n }
-
--- the remainder in one word, P + 2^63: what a step by each digit byte adds to four times the word, −4qD and 2^63 again, modulo 2^64
-abbrev pub stepTerms : ℕ → List ℕ
-stepTerms D = (8 * D + 2 ^ 63) % 2 ^ 64 ∷ (4 * D + 2 ^ 63) ∷ 2 ^ 63 ∷ (2 ^ 63 - 4 * D) ∷ (3 * 2 ^ 63 - 8 * D) % 2 ^ 64 ∷ []
