@@ -1,6 +1,6 @@
 /* The same division in C, to measure against: the specification's recurrence step by step, with its estimate of eight bits and
-   the quotient by on-the-fly conversion, the same with the next column known ahead of the words, and binary64 division over
-   each. And the same roots. */
+   the quotient by on-the-fly conversion, the same with the next column known ahead of the words, the same
+   with the remainder in one word, and binary64 division over each. And the same roots. */
 #ifndef BASELINE_H
 #define BASELINE_H
 
@@ -25,8 +25,12 @@ baseline_ran plain_run(const uint8_t *table, uint64_t dividend, uint64_t divisor
 /* The same digits, the next column worked out from the top bits of the words and of the chosen multiple. */
 baseline_ran ahead_run(const uint8_t *table, uint64_t dividend, uint64_t divisor, int digits, uint8_t *out);
 
+/* Quotient and remainder alone, the remainder in one word, as the unit's number forms find them. */
+baseline_ran one_word_run(const uint8_t *table, uint64_t dividend, uint64_t divisor, int digits);
+
 baseline_binary64 plain_binary64(const uint8_t *table, uint64_t a, uint64_t b, uint64_t direction);
 baseline_binary64 ahead_binary64(const uint8_t *table, uint64_t a, uint64_t b, uint64_t direction);
+baseline_binary64 one_word_binary64(const uint8_t *table, uint64_t a, uint64_t b, uint64_t direction);
 
 /* Roots by the unit's algorithm, a binary digit a step. */
 baseline_root digit_root(uint64_t a);

