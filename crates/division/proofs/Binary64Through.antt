@@ -5,7 +5,8 @@ use native.Mathlib.Nat.{mul-assoc, eq-zero-or-pos, le-div-iff-mul-le, div-lt-iff
 use lib.Pow.{pow-add}
 use Rattle.selection.specs.{Table.{Passes}, declared.Estimate.{Estimate}}
 use Rattle.recurrence.{specs.Recurrence.{resultOf}, proofs.RunDemand.{result-divides}}
-use Rattle.division.proofs.Binary64Names.{magnitude, field, fraction, signOf, byClass, orRounded, quotientOf, significandOf, FiniteNonzero, Binary64Result, ByClass, Decided, Undecided, sticky, ratioThrough, alignedOf, roundedQuotient, binary64Through}
+use Rattle.division.proofs.Binary64Names.{magnitude, field, fraction, signOf, byClass, orRounded, quotientOf, significandOf, FiniteNonzero, Binary64Result, ByClass, Decided, Undecided, sticky}
+use Rattle.division.proofs.Binary64Names.{ratioThrough, alignedOf, roundedQuotient, binary64Through}
 use Rattle.division.proofs.{Sticky.{cut-high, cut-low}, Quotient.{ScaledTo, AlignedTo, aligned-is}, Classes.{nonzero-operand, quotient-nonzero}}
 
 pub significand-right : (p : ℕ) → FiniteNonzero p → ScaledTo (magnitude p) (significandOf p)

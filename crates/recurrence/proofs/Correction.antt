@@ -1,6 +1,7 @@
 -- The correction of the last digit: the sign of the last remainder says whether S is one too large. The code corrects by the words;
 -- S and the end remainder, corrected, are the same numbers, and they are quotient and remainder of N·4^(n−1) by D.
-use Rattle.laws.proofs.Basics.{_≡_, refl, sym, ap, ap₂, subst, _∙_, false, cond, List, ℕ, zero, suc, _+_, _-_, _*_, _/_, _%_, _^_, _≤_, _<_, arith, ltb, ltb→lt, nltb→le, ℤ, pos, negsuc, natAbs, _+ℤ_, nonNeg}
+use Rattle.laws.proofs.Basics.{_≡_, refl, sym, ap, ap₂, subst, _∙_, false, cond, List, ℕ, zero, suc, _+_, _-_, _*_, _/_, _%_, _^_, _≤_, _<_, arith, ltb, ltb→lt, nltb→le, ℤ, pos, negsuc, natAbs, _+ℤ_}
+use Rattle.laws.proofs.Basics.{nonNeg}
 use Rattle.laws.proofs.{Diff.{diff, diffs, diff-sub}, Division.{quotient}, Tests.{by-cond}}
 use native.Mathlib.Nat.{add-zero}
 use Rattle.recurrence.specs.{Recurrence.{after, digits, value, correctedQuotient, correctedRemainder, endRemainder, resultOf}, computed.Run.{longest}, computed.FastRun.{resultFromWord}}

@@ -1,6 +1,7 @@
 -- One step for a caller: what its answer says, and that the steps of someone who feeds each pair back are the run's.
 use Rattle.laws.proofs.Lists.{list-value}
-use Rattle.laws.proofs.Basics.{_≡_, refl, sym, ap, _∙_, ⊎-elim, List, _++_, ℕ, zero, suc, _+_, _*_, _^_, _≤_, _<_, arith, length, getD, take, drop, length-take, T, leb, leb→le, ltb, ltb→lt, pos, negℤ, _*ℤ_}
+use Rattle.laws.proofs.Basics.{_≡_, refl, sym, ap, _∙_, ⊎-elim, List, _++_, ℕ, zero, suc, _+_, _*_, _^_, _≤_, _<_, arith, length, getD, take, drop, length-take, T, leb, leb→le, ltb, ltb→lt, pos, negℤ}
+use Rattle.laws.proofs.Basics.{_*ℤ_}
 use Rattle.laws.{proofs.Diff.{diffs}, specs.Lists.{listFrom}}
 use lib.{ListN.{List·getD-append}, Seq.{getD-append-add}, Signed.{leZ, leZ-yes, clashℤ}}
 use Rattle.selection.{proofs.RefusalNames.{answerBy, passed-last}, specs.Cell.{row, column, digit}, specs.Table.{Passes}, specs.Word.{signed, Within}, proofs.BiasedPoints.{digit-diff}}
