@@ -1,10 +1,10 @@
-/* Numbers rounded to so many decimals, and whether a filed number is the right one rounded so. Nothing is approximate:
-   printf and strtod of the C library round correctly, and decimal numbers are compared digit by digit. */
+/* Numbers rounded to so many decimals, and whether a filed number is such a rounding. Nothing is approximate: printf and
+   strtod of the C library round correctly, decimal numbers are compared digit by digit, and ratios by the unit. */
 
 #ifndef DECIMALS_H
 #define DECIMALS_H
 
-#include "records.h"
+#include "numbers.h"
 
 enum { MOST_DECIMALS = 17, TEXT = 1 + 310 + 1 + MOST_DECIMALS + 1 + 1 };
 
@@ -57,7 +57,7 @@ static void read_magnitude(const char *text, decimal *number) {
   for (; *text != '\0' && *text != 'e' && *text != 'E'; text++) {
     if (*text == '.')
       fraction = true;
-    if (*text < '0' || *text > '9')
+    if (!is_digit(*text))
       continue;
     const bool leading = number->length == 0 && *text == '0';
     if (!leading)
@@ -95,6 +95,58 @@ static bool is_rounded(const char *text, uint64_t right, int decimals) {
     return true;
   add_one(rounded);
   return same_magnitude(&filed, rounded);
+}
+
+/* So many units of the last decimal. Below 2^30 of them the roundings of operands, quotient and product are together
+   below 2^-20, which is less than 1e-6: what is not so close to a half is sure, for the ratio as it is written too. */
+static bool is_small(double units) { return units > -1073741824.0 && units < 1073741824.0; }
+static bool is_less(double distance) { return distance < 0.5 - 1e-6; }
+static bool is_more(double distance) { return distance > 0.5 + 1e-6; }
+
+enum sure { IS_NOT, IS, NOT_SURE };
+
+/* Is the plain number surely the right one, rounded to so many decimals? */
+static enum sure is_plainly(plain filed, uint64_t right, int decimals) {
+  const double units = quendaric_double(right) * tens[decimals];
+  if (FLT_EVAL_METHOD != 0 || filed.decimals > decimals || !is_small(units))
+    return NOT_SURE;
+  const double magnitude = (double)filed.digits * tens[decimals - filed.decimals];
+  const double taken = filed.negative ? -magnitude : magnitude;
+  const double distance = taken < units ? units - taken : taken - units;
+  return is_less(distance) ? IS : is_more(distance) ? IS_NOT : NOT_SURE;
+}
+
+/* The number times a power of ten, or 2^60, which the calls refuse, where it is that or more. */
+static uint64_t times_ten(uint64_t number, int power) {
+  const uint64_t limit = (uint64_t)1 << 60;
+  for (; power > 0 && number > 0 && number < limit; power--)
+    number = number < limit / 10 ? 10 * number : limit;
+  return number;
+}
+
+/* The same number without zeros at the end of its digits; its decimals can then be below zero. */
+static plain stripped(plain number) {
+  for (; number.digits > 0 && number.digits % 10 == 0; number.decimals--)
+    number.digits /= 10;
+  return number;
+}
+
+/* Does the ratio a / b, as it is written, lie at most half a unit of so many decimals from the filed number? */
+static bool is_near_ratio(plain filed, plain a, plain b, int decimals) {
+  filed = stripped(filed), a = stripped(a), b = stripped(b);
+  if ((filed.digits > 0 && filed.decimals > decimals) ||
+      (filed.digits > 0 && filed.negative != (a.negative != b.negative)))
+    return false;
+  const uint64_t units = times_ten(filed.digits, decimals - filed.decimals), twice = times_ten(2, decimals);
+  const uint64_t top = times_ten(a.digits, b.decimals - a.decimals);
+  const uint64_t bottom = a.digits == 0 ? b.digits : times_ten(b.digits, a.decimals - b.decimals);
+  const quendaric_comparison above = quendaric_compare_ratios(top, bottom, 2 * units + 1, twice);
+  if (above.refusal != 0 || above.order > 0)
+    return false;
+  if (units == 0)
+    return true;
+  const quendaric_comparison below = quendaric_compare_ratios(top, bottom, 2 * units - 1, twice);
+  return below.refusal == 0 && below.order >= 0;
 }
 
 #endif

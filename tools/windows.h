@@ -1,178 +1,160 @@
-/* The windows of readings that hold a wrong record, with their right averages. The readings come one a second: a time
-   is a whole number of seconds, one more than the time before it, or one less in a file with the newest record first.
-   At any other time a new series begins, and no window reaches from one series into the next. */
+/* The windows of a monitor's readings that hold a wrong record, with their right and filed averages. */
 
 #ifndef WINDOWS_H
 #define WINDOWS_H
 
-#include "decimals.h"
-#include <inttypes.h>
+#include "stretches.h"
 
-enum { SPAN = 4 * QUENDARIC_WIDEST_WINDOW, STRETCHES = 20 };
+enum { SPANS = 4 };
 
-/* Windows one second apart that all hold a wrong record: when the earliest begins and the latest ends, how many they
-   are, and the highest average with the beginning of its window. */
+/* What stands at a time: a wrong record; no reading that can be averaged; no filed one. */
+enum { IS_WRONG = 1, IS_MISSING = 2, IS_UNFILED = 4 };
+
+/* A monitor's readings, a step apart, in the order of the file. The one at i has the time anchor + (i - at) * order *
+   step. The arrays have room for SPANS widths. */
 typedef struct {
-  int64_t from, to;
-  uint64_t count, mean, remainder;
-  int64_t highest;
-} stretch;
+  const char *monitor; /* its name, or NULL */
+  size_t length;
+  int64_t anchor, at, last;
+  int order;        /* 1, -1, or 0 before it is known */
+  bool is_full;     /* there has been a window */
+  uint64_t number;  /* how many readings of the series stood before the first */
+  stretch open[KINDS];
+  uint64_t *right, *filed;
+  unsigned char *what;
+} series;
 
-/* A reading is the right value in whole units, which are of so many decimals. Those of the series that is being read
-   stand in the first places; the time of the one at i is begin + i * step. */
+/* What is asked of windows, and what is counted. */
 typedef struct {
   size_t width; /* 0 where no windows are wanted */
-  int decimals;
-  FILE *file; /* for a line of each window, or NULL */
-  int64_t begin, step;
-  size_t length;
-  uint64_t readings[SPAN], means[SPAN], remainders[SPAN];
-  bool wrong[SPAN];
-  bool is_full;                    /* the series has had a whole window */
-  uint64_t series, untimed, large; /* series, records without a time in seconds, readings of 2^40 units or more */
-  uint64_t count, outside, more;   /* windows with a wrong record; wrong records in none; stretches beyond the list */
-  size_t stretches;
-  stretch list[STRETCHES], last;
+  int64_t step;
+  bool limited;
+  uint64_t limit;
+  FILE *file; /* for a line of each whole window, or NULL */
+  char separator;
+  bool named; /* lines have the monitor's name */
+  bool refused;
+  uint64_t untimed, large, missing, doubled, back, outside, unfiled;
+  stretches found;
+  uint64_t means[2][SPANS * QUENDARIC_WIDEST_WINDOW], remainders[2][SPANS * QUENDARIC_WIDEST_WINDOW];
 } windows;
 
-/* So many units, in decimals. */
-static void units_text(uint64_t units, int decimals, char text[TEXT]) {
-  const int length = snprintf(text, TEXT, "%0*" PRIu64, decimals + 1, units);
-  if (decimals > 0) {
-    memmove(text + length - decimals + 1, text + length - decimals, (size_t)decimals + 1);
-    text[length - decimals] = '.';
+/* The series of a monitor, or NULL where there is no room. */
+static series *new_series(const windows *all, const char *monitor) {
+  const size_t room = SPANS * all->width;
+  series *one = calloc(1, sizeof *one);
+  uint64_t *readings = one != NULL ? calloc(room, 2 * sizeof *readings) : NULL;
+  unsigned char *what = readings != NULL ? calloc(room, 1) : NULL;
+  if (what == NULL)
+    return NULL;
+  *one = (series){.monitor = monitor, .right = readings, .filed = readings + room, .what = what};
+  return one;
+}
+
+static int64_t time_at(const windows *all, const series *one, size_t at) {
+  return one->anchor + ((int64_t)at - one->at) * (one->order < 0 ? -all->step : all->step);
+}
+
+static bool is_above(const windows *all, uint64_t mean, uint64_t remainder) {
+  return mean > all->limit || (mean == all->limit && remainder > 0);
+}
+
+/* A line of the file of averages. */
+static void put_average(const windows *all, const series *one, const window *next) {
+  char from[TIME_TEXT], to[TIME_TEXT], mean[TEXT], filed[TEXT];
+  const char c = all->separator;
+  time_text(all->found.form, next->from, from);
+  time_text(all->found.form, next->to, to);
+  units_text(next->mean, all->found.unit, mean);
+  units_text(next->filed_mean, all->found.unit, filed);
+  if (c == ';') {
+    mean[strcspn(mean, ".")] = all->found.unit > 0 ? ',' : '\0';
+    filed[strcspn(filed, ".")] = all->found.unit > 0 ? ',' : '\0';
   }
-}
-
-/* The right value in whole units, ties to even; 0 for a value below zero. Is that below 2^40? */
-static bool in_units(uint64_t right, int decimals, uint64_t *units) {
-  char text[TEXT];
-  *units = 0;
-  if (right >> 63 != 0)
-    return true;
-  round_magnitude(right, decimals, text);
-  for (const char *at = text; *at != '\0'; at++)
-    if (*at != '.' && (*units = 10 * *units + (uint64_t)(*at - '0')) >> 40 != 0)
-      return false;
-  return true;
-}
-
-/* Keeps the stretch that ended. */
-static void end_stretch(windows *all) {
-  if (all->last.count == 0)
-    return;
-  if (all->stretches < STRETCHES)
-    all->list[all->stretches++] = all->last;
+  fprintf(all->file, "%s%c%s%c%s%c%" PRIu64 "%c", from, c, to, c, mean, c, next->remainder, c);
+  if (next->filed)
+    fprintf(all->file, "%s%c%" PRIu64 "%c%zu", filed, c, next->filed_remainder, c, next->wrong);
   else
-    all->more++;
-  all->last.count = 0;
+    fprintf(all->file, "%c%c%zu", c, c, next->wrong);
+  if (all->named) {
+    putc(c, all->file);
+    put_field(all->file, text_of(one->monitor != NULL ? one->monitor : ""), c);
+  }
+  putc('\n', all->file);
 }
 
-/* Adds a window that holds so many wrong records. */
-static void add_window(windows *all, int64_t from, uint64_t mean, uint64_t remainder, size_t wrong) {
-  const int64_t to = from + (int64_t)all->width - 1;
-  stretch *last = &all->last;
-  if (all->file != NULL) {
-    char text[TEXT];
-    units_text(mean, all->decimals, text);
-    fprintf(all->file, "%" PRId64 ",%" PRId64 ",%s,%" PRIu64 ",%zu\n", from, to, text, remainder, wrong);
-  }
-  all->count++;
-  if (last->count > 0 && from != last->from - 1 && to != last->to + 1)
-    end_stretch(all);
-  if (last->count == 0)
-    *last = (stretch){from, to, 0, mean, remainder, from};
-  last->count++;
-  last->from = from < last->from ? from : last->from;
-  last->to = to > last->to ? to : last->to;
-  if (mean > last->mean || (mean == last->mean && remainder > last->remainder)) {
-    last->mean = mean;
-    last->remainder = remainder;
-    last->highest = from;
+/* Adds a whole window. */
+static void add_whole(windows *all, series *one, const window *next, uint64_t number) {
+  if (all->file != NULL)
+    put_average(all, one, next);
+  all->unfiled += !next->filed;
+  add_to_stretch(&all->found, &one->open[WHOLE], WHOLE, next, number, one->monitor);
+  if (!all->limited || !next->filed)
+    return;
+  const bool above = is_above(all, next->mean, next->remainder);
+  if (above != is_above(all, next->filed_mean, next->filed_remainder)) {
+    const enum kind kind = above ? RAISED : LOWERED;
+    add_to_stretch(&all->found, &one->open[kind], kind, next, number, one->monitor);
   }
 }
 
-/* Averages the readings that are there. Does the unit take them? */
-static bool average(windows *all) {
-  if (all->length < all->width)
-    return true;
-  all->is_full = true;
-  const quendaric_averages answer =
-      quendaric_average_windows(all->readings, all->length, all->width, false, all->means, SPAN, all->remainders, SPAN);
-  if (answer.refusal != 0)
-    return false;
-  size_t wrong = 0;
-  for (size_t i = 0; i < all->length; i++) {
-    wrong += all->wrong[i];
+/* How many of the last width readings are wrong, missing, without a filed one. */
+typedef struct {
+  size_t wrong, missing, unfiled;
+} held;
+
+static void count_in(held *now, unsigned char what, size_t by) {
+  now->wrong += what & IS_WRONG ? by : 0;
+  now->missing += what & IS_MISSING ? by : 0;
+  now->unfiled += what & IS_UNFILED ? by : 0;
+}
+
+/* Adds the window that begins at the place, if it holds a wrong record. */
+static void add_window(windows *all, series *one, size_t at, const held *now) {
+  const int64_t first = time_at(all, one, at), last = time_at(all, one, at + all->width - 1);
+  window next = {.from = first < last ? first : last, .to = first < last ? last : first, .wrong = now->wrong};
+  if (now->missing > 0) {
+    add_to_stretch(&all->found, &one->open[GAP], GAP, &next, one->number + at, one->monitor);
+    return;
+  }
+  next.filed = now->unfiled == 0;
+  next.mean = all->means[0][at];
+  next.remainder = all->remainders[0][at];
+  next.filed_mean = next.filed ? all->means[1][at] : 0;
+  next.filed_remainder = next.filed ? all->remainders[1][at] : 0;
+  add_whole(all, one, &next, one->number + at);
+}
+
+/* Averages the readings that are there, right and filed. */
+static bool average(windows *all, const series *one) {
+  const size_t room = SPANS * QUENDARIC_WIDEST_WINDOW;
+  const quendaric_averages right = quendaric_average_windows(one->right, one->length, all->width, false, all->means[0],
+                                                             room, all->remainders[0], room);
+  const quendaric_averages filed = quendaric_average_windows(one->filed, one->length, all->width, false, all->means[1],
+                                                             room, all->remainders[1], room);
+  all->refused = all->refused || right.refusal != 0 || filed.refusal != 0;
+  return right.refusal == 0 && filed.refusal == 0;
+}
+
+/* Finds the windows in the readings that are there. */
+static void find_windows(windows *all, series *one) {
+  held now = {0, 0, 0};
+  bool some = false;
+  if (one->length < all->width)
+    return;
+  one->is_full = true;
+  for (size_t i = 0; i < one->length && !some; i++)
+    some = (one->what[i] & IS_WRONG) != 0;
+  if (!some || !average(all, one))
+    return;
+  for (size_t i = 0; i < one->length; i++) {
+    count_in(&now, one->what[i], 1);
     if (i + 1 < all->width)
       continue;
-    const size_t at = i + 1 - all->width;
-    const int64_t first = all->begin + (int64_t)at * all->step, last = all->begin + (int64_t)i * all->step;
-    if (wrong > 0)
-      add_window(all, first < last ? first : last, all->means[at], all->remainders[at], wrong);
-    wrong -= all->wrong[at];
+    if (now.wrong > 0)
+      add_window(all, one, i + 1 - all->width, &now);
+    count_in(&now, one->what[i + 1 - all->width], (size_t)-1);
   }
-  return true;
-}
-
-/* Ends the series. */
-static bool end_series(windows *all) {
-  const bool taken = average(all);
-  for (size_t i = 0; i < all->length && !all->is_full; i++)
-    all->outside += all->wrong[i];
-  all->length = 0;
-  all->step = 0;
-  all->is_full = false;
-  return taken;
-}
-
-/* Keeps the readings that later windows need. */
-static bool average_and_keep(windows *all) {
-  const bool taken = average(all);
-  const size_t kept = all->width - 1, gone = all->length - kept;
-  memmove(all->readings, all->readings + gone, kept * sizeof *all->readings);
-  memmove(all->wrong, all->wrong + gone, kept * sizeof *all->wrong);
-  all->begin += (int64_t)gone * all->step;
-  all->length = kept;
-  return taken;
-}
-
-/* Does a record of this time go on with the series? */
-static bool goes_on(windows *all, int64_t seconds) {
-  if (all->length == 1 && all->step == 0)
-    all->step = seconds == all->begin + 1 ? 1 : seconds == all->begin - 1 ? -1 : 0;
-  return all->step != 0 && seconds == all->begin + (int64_t)all->length * all->step;
-}
-
-/* Adds a record. Does the unit take what is averaged? */
-static bool add_reading(windows *all, field time, uint64_t right, bool wrong) {
-  int64_t seconds;
-  uint64_t units;
-  bool taken = true;
-  if (all->width == 0)
-    return true;
-  const bool timed = read_seconds(time, &seconds), large = !in_units(right, all->decimals, &units);
-  if (!timed || large) {
-    all->untimed += !timed;
-    all->large += timed && large;
-    all->outside += wrong;
-    return end_series(all);
-  }
-  if (!goes_on(all, seconds)) {
-    taken = end_series(all);
-    all->begin = seconds;
-    all->series++;
-  }
-  all->readings[all->length] = units;
-  all->wrong[all->length++] = wrong;
-  return all->length == SPAN ? average_and_keep(all) && taken : taken;
-}
-
-/* The last series ends with the file. */
-static bool end_windows(windows *all) {
-  const bool taken = all->width == 0 || end_series(all);
-  end_stretch(all);
-  return taken;
 }
 
 #endif

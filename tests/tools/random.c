@@ -70,14 +70,15 @@ static uint64_t write_file(void) {
 
 /* Runs the program with drawn options. */
 static int run(char *program, char *table) {
-  char decimals[24], window[24], *arguments[16] = {program, "--estimate", draw(2) == 0 ? "7" : "8", table, file_name};
+  char decimals[24], window[24], *arguments[24] = {program, "--estimate", draw(2) == 0 ? "7" : "8", table, file_name};
   int count = 5;
   snprintf(decimals, sizeof decimals, "%" PRIu64, draw(18));
   snprintf(window, sizeof window, "%" PRIu64, 1 + draw(draw(2) == 0 ? 4 : 4096));
   char *more[][2] = {
-      {"--decimals", decimals}, {"--window", window}, {"--picture", "/dev/null"}, {"--json", NULL}, {"--comma", NULL}};
+      {"--decimals", decimals}, {"--window", window}, {"--picture", "/dev/null"}, {"--json", NULL}, {"--comma", NULL},
+      {"--patterns", NULL},     {"--monitor", "2"},   {"--step", "2"}};
   for (size_t i = 0; i < sizeof more / sizeof *more; i++)
-    for (int k = 0, is_taken = draw(2) == 0; k < 2 && is_taken && more[i][k] != NULL; k++)
+    for (int k = 0, is_taken = draw(i < 5 ? 2 : 8) == 0; k < 2 && is_taken && more[i][k] != NULL; k++)
       arguments[count++] = more[i][k];
   int status;
   const pid_t child = fork();
@@ -92,21 +93,23 @@ static int run(char *program, char *table) {
 
 /* Does what was counted add up to the lines, and fit the status? */
 static int is_whole(uint64_t lines, int status) {
-  uint64_t all = 0, header, empty, records = 0, again = 0, right, wrong = 0, unreadable = 0;
-  int found = 0;
+  uint64_t all = 0, header, empty, repeated, records = 0, again = 0, right, wrong = 0, unreadable = 0;
+  int found = 0, refused = 0;
   char line[4096];
   FILE *file = fopen(said_name, "rb");
   while (file != NULL && fgets(line, sizeof line, file) != NULL) {
-    if (sscanf(line, "lines: %" SCNu64 " = %" SCNu64 " header + %" SCNu64 " empty + %" SCNu64 " records", &all, &header,
-               &empty, &records) == 4)
-      found += all == lines && all == header + empty + records;
+    refused = refused || strncmp(line, "recheck: ", 9) == 0;
+    if (sscanf(line, "lines: %" SCNu64 " = %" SCNu64 " header + %" SCNu64 " empty + %" SCNu64 " repeated + %" SCNu64 " records",
+               &all, &header, &empty, &repeated, &records) == 5)
+      found += (refused || all == lines) && all == header + empty + repeated + records;
     if (sscanf(line, "records: %" SCNu64 " = %" SCNu64 " right + %" SCNu64 " wrong + %" SCNu64 " unreadable", &again,
                &right, &wrong, &unreadable) == 4)
       found += again == records && again == right + wrong + unreadable;
   }
   if (file != NULL)
     fclose(file);
-  return found == 2 && status == (unreadable > 0 ? 2 : wrong > 0);
+  const int less = refused || unreadable > 0 || records == 0;
+  return found == 2 && (status == 2 || (!less && status == (wrong > 0)));
 }
 
 int main(int argc, char **argv) {
