@@ -119,9 +119,9 @@ extern "C" {
 #endif
 
 /* The version of these calls. CHANGELOG.md says what changed in each. */
-#define QUENDARIC_VERSION "3.2.0"
+#define QUENDARIC_VERSION "3.3.0"
 #define QUENDARIC_VERSION_MAJOR 3
-#define QUENDARIC_VERSION_MINOR 2
+#define QUENDARIC_VERSION_MINOR 3
 #define QUENDARIC_VERSION_PATCH 0
 
 #define QUENDARIC_TABLE_LENGTH 2048
