@@ -68,7 +68,8 @@ static bool are_patterns(const options *chosen, const finding *found) {
 
 /* Is all settled, whatever the rest of the file has? */
 static bool is_settled(const options *chosen, const source *from, const finding *found) {
-  const bool decimal = chosen->numbers == NUMBERS || (found->some && !found->all_patterns);
+  const bool decimal =
+      chosen->numbers == NUMBERS || (chosen->numbers == FIND_NUMBERS && found->some && !found->all_patterns);
   return from->form.known && (chosen->numbers != FIND_NUMBERS || decimal) &&
          (chosen->decimals != FIND_DECIMALS || !from->form.filed || found->filed[0].full ||
           (decimal && found->filed[1].full));
