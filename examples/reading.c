@@ -2,12 +2,13 @@
 
      reading TABLE-FILE CURRENT SENSITIVITY
 
-   With the current in nA and the sensitivity in nA a ppm the reading is in ppm.
+   The current is in nA, the sensitivity in nA a ppm, and the reading in ppm.
    Status: 0 the reading was printed, 1 the table was refused or there is no reading, 2 the arguments are wrong, or the table
    could not be read, or not all was written; what is wrong stands on standard error.
-   Build: gcc -Iinclude examples/reading.c target/staticlib/libquendaric.a -o reading */
+   Build: gcc -Iinclude examples/reading.c target/staticlib/libquendaric.a -o build/reading */
 
 #include "quendaric.h"
+#include "cell.h"
 #include "parse.h"
 #include "read_table.h"
 #include "written.h"
@@ -31,9 +32,11 @@ static int print_reading(const table_file *table, double current, double sensiti
 
   const uint64_t a = quendaric_pattern(current), b = quendaric_pattern(sensitivity);
   const quendaric_binary64 r = quendaric_divide_binary64(table->bytes, table->length, a, b, QUENDARIC_NEAREST);
-  if (r.refusal != 0 || !quendaric_is_finite(a) || !quendaric_is_finite(b) || !quendaric_is_finite(r.pattern) ||
-      (r.flags & ~(uint64_t)(QUENDARIC_INEXACT | QUENDARIC_UNDERFLOW)) != 0) {
-    fprintf(stderr, "no reading: refusal %" PRIu64 ", flags %" PRIu64 "\n", r.refusal, r.flags);
+  if (!is_reading(&in_ppm, r, a, b)) {
+    fprintf(stderr, "no reading: refusal %" PRIu64 ", flags %" PRIu64 ", quotient %.17g\n", r.refusal, r.flags,
+            quendaric_double(r.pattern));
+    fprintf(stderr, "this cell has %g to %g nA a %s and reads %g to %g\n", in_ppm.least_sensitivity,
+            in_ppm.most_sensitivity, in_ppm.unit, in_ppm.least, in_ppm.most);
     return REFUSED;
   }
   printf("reading %.17g%s\n", quendaric_double(r.pattern), r.flags & QUENDARIC_INEXACT ? " (rounded)" : "");

@@ -2,9 +2,10 @@
 //!
 //!     reading CURRENT SENSITIVITY
 //!
+//! The current is in nA, the sensitivity in nA a ppm, and the reading in ppm.
 //! Status: 0 the reading was printed, 1 there is none, 2 the arguments are wrong or not all was written; what is wrong stands
 //! on standard error.
-//! Build: rustc -L target/staticlib examples/reading.rs -o reading
+//! Build: rustc -L target/staticlib examples/reading.rs -o build/reading
 
 use std::io::Write;
 use std::process::ExitCode;
@@ -26,6 +27,19 @@ const NEAREST: u64 = 0;
 const INEXACT: u64 = 1;
 const UNDERFLOW: u64 = 2;
 
+/// What the cell can be, in nA a ppm, and what it can read, in ppm. Put in the figures of yours.
+const SENSITIVITIES: std::ops::RangeInclusive<f64> = 10.0..=10000.0;
+const READINGS: std::ops::RangeInclusive<f64> = -5.0..=500.0;
+
+/// The rule of `quendaric_reading` in the header, with the sensitivities of this cell.
+fn is_reading(answer: &Binary64, current: f64, sensitivity: f64) -> bool {
+    answer.refusal == 0
+        && current.is_finite()
+        && SENSITIVITIES.contains(&sensitivity)
+        && answer.flags & !(INEXACT | UNDERFLOW) == 0
+        && READINGS.contains(&f64::from_bits(answer.pattern))
+}
+
 /// The number in an argument, where it is one that is finite and in the range of f64.
 fn number(place: usize) -> Option<f64> {
     let word = std::env::args_os().nth(place)?.into_string().ok()?;
@@ -44,8 +58,9 @@ fn main() -> ExitCode {
     // the call takes three numbers and has no pointer
     let answer = unsafe { quendaric_divide_binary64_kept(current.to_bits(), sensitivity.to_bits(), NEAREST) };
     let reading = f64::from_bits(answer.pattern);
-    if answer.refusal != 0 || !reading.is_finite() || answer.flags & !(INEXACT | UNDERFLOW) != 0 {
-        eprintln!("no reading: refusal {}, place {}, flags {}", answer.refusal, answer.place, answer.flags);
+    if !is_reading(&answer, current, sensitivity) {
+        eprintln!("no reading: refusal {}, flags {}, quotient {reading:e}", answer.refusal, answer.flags);
+        eprintln!("this cell has {SENSITIVITIES:?} nA a ppm and reads {READINGS:?}");
         return ExitCode::from(1);
     }
     let mut output = std::io::stdout();

@@ -509,6 +509,31 @@ quendaric_binary64 quendaric_root_binary64(uint64_t a, uint64_t direction);
    point. */
 static inline bool quendaric_is_finite(uint64_t pattern) { return (pattern >> 52 & 0x7FF) != 0x7FF; }
 
+/* The place of a number that is no NaN in the order of all numbers; both zeros have the place 0. */
+static inline int64_t quendaric_rank(uint64_t pattern) {
+  const int64_t size = (int64_t)(pattern & 0x7FFFFFFFFFFFFFFF);
+  return pattern >> 63 != 0 ? -size : size;
+}
+
+/* Is this the pattern of a finite number from least to most? These two are patterns as well, and may be infinite. Where
+   one of the three is a NaN, the answer is false. It needs neither a library nor floating point. */
+static inline bool quendaric_is_within(uint64_t pattern, uint64_t least, uint64_t most) {
+  const int64_t infinity = 0x7FF0000000000000;
+  return quendaric_is_finite(pattern) && -infinity <= quendaric_rank(least) &&
+         quendaric_rank(least) <= quendaric_rank(pattern) && quendaric_rank(pattern) <= quendaric_rank(most) &&
+         quendaric_rank(most) <= infinity;
+}
+
+/* Is r, the answer of a division of the current a by the sensitivity b, a reading from least to most? True exactly if the
+   call was not refused, a, b and the quotient are finite, b is above zero, no flag but inexact and underflow was raised,
+   and the quotient lies from least to most (patterns, as in quendaric_is_within). Which sensitivities your cell can have,
+   it does not know: one that is far too large gives a quotient near zero, as clean air does. Ask quendaric_is_within. */
+static inline bool quendaric_reading(quendaric_binary64 r, uint64_t a, uint64_t b, uint64_t least, uint64_t most) {
+  const uint64_t harmless = QUENDARIC_INEXACT | QUENDARIC_UNDERFLOW;
+  return r.refusal == 0 && quendaric_is_finite(a) && quendaric_is_finite(b) && quendaric_rank(b) > 0 &&
+         (r.flags & ~harmless) == 0 && quendaric_is_within(r.pattern, least, most);
+}
+
 /* The 64 bits of a double, and the double of 64 bits. Neither needs a library. */
 static inline uint64_t quendaric_pattern(double number) {
 #ifdef __cplusplus

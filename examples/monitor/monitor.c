@@ -3,22 +3,14 @@
 
 #include "monitor.h"
 
-/* The concentration in whole parts per billion. There is none where
-   - the current or the sensitivity is infinite or a NaN: a quiet NaN raises no flag, an infinite sensitivity gives 0;
-   - the sensitivity is below zero; where it is zero, the cell is dead, and the flag is division by zero or invalid;
-   - the call refuses: its pattern is then 0, which reads as clean air;
-   - a flag other than inexact and underflow is raised, or the quotient is not finite;
-   - it would be more than a billion parts in a billion: the sensitivity is almost zero. */
+/* The concentration in whole parts per billion. There is none where the sensitivity is not one of this cell, or the
+   quotient is no reading (quendaric_reading): a refused call's pattern is 0, which reads as clean air. */
 static bool concentration(uint64_t current, uint64_t sensitivity, uint64_t *ppb) {
-  const uint64_t harmless = QUENDARIC_INEXACT | QUENDARIC_UNDERFLOW;
-  if (!quendaric_is_finite(current) || !quendaric_is_finite(sensitivity) || sensitivity >> 63 != 0)
-    return false;
   const quendaric_binary64 r = quendaric_divide_binary64_kept(current, sensitivity, QUENDARIC_NEAREST);
-  if (r.refusal != 0 || (r.flags & ~harmless) != 0 || !quendaric_is_finite(r.pattern))
+  if (!quendaric_is_within(sensitivity, quendaric_pattern(LEAST_SENSITIVITY), quendaric_pattern(MOST_SENSITIVITY)) ||
+      !quendaric_reading(r, current, sensitivity, quendaric_pattern(LEAST_PPB), quendaric_pattern(MOST_PPB)))
     return false;
   const double quotient = quendaric_double(r.pattern);
-  if (quotient > 1e9)
-    return false;
   *ppb = quotient > 0 ? (uint64_t)(quotient + 0.5) : 0; /* a current drifts below zero in clean air */
   return true;
 }

@@ -10,6 +10,12 @@ enum {
   MOST_MISSED = 3 /* seconds without a reading, before the fault is shown */
 };
 
+/* What the cell can be: in nA a part per billion, and in parts per billion. */
+#define LEAST_SENSITIVITY 0.01
+#define MOST_SENSITIVITY 10.0
+#define LEAST_PPB -5000.0
+#define MOST_PPB 500000.0
+
 typedef struct {
   quendaric_report table; /* of the burned table, at start */
   unsigned missed;        /* seconds since the last reading */

@@ -21,11 +21,13 @@ static const uint64_t samples[][2] = {
     {0x40AF400000000000u, INFINITE},            /* the third second: a fault */
     {0x40AF400000000000u, 0x8000000000000000u}, /* minus zero */
     {0x40AF400000000000u, 0x0000000000000001u}, /* almost dead: the quotient overflows */
-    {0x40AF400000000000u, 0x3EB0000000000000u}, /* 2^-20: above a billion */
+    {0x40AF400000000000u, 0x3EB0000000000000u}, /* 2^-20: no sensitivity of this cell */
+    {0x4156E36000000000u, PER_PPB},             /* 6000000: no reading of this cell */
+    {0x40AF400000000000u, PER_PPB + ((uint64_t)1 << 62)}, /* almost infinite: the quotient looks like clean air */
     {0x40AF400000000000u, 0xBFE6666666666666u}, /* -0.7 */
     {INFINITE, PER_PPB},
     {0x40AF400000000000u, PER_PPB}, /* back: the fault ends */
-    {0x0000000000000001u, PER_PPB + ((uint64_t)1 << 62)}, /* a quotient that underflows: clean air */
+    {0x0000000000000001u, PER_PPB}, /* a quotient that underflows: clean air */
 };
 
 bool board_sample(uint64_t *current, uint64_t *sensitivity) {

@@ -1,4 +1,4 @@
-/* README's lines for a reading, as they stand: readings, overflows, zeros, infinities and NaNs; no warning.
+/* README's lines for a reading, as they stand: readings, limits, overflows, zeros, infinities and NaNs; no warning.
 
    tests/c/run writes them to firmware.h, and here they are run. As C and as C++. */
 
@@ -42,11 +42,24 @@ int main(void) {
   const uint64_t sign = (uint64_t)1 << 63, infinity = 0x7FF0000000000000, quiet = 0x7FF8000000000000;
   const uint64_t no_numbers[] = {infinity, infinity | sign, quiet, quiet | sign, infinity + 1, 0x7FFFFFFFFFFFFFFF};
   const uint64_t some = quendaric_pattern(8400), other = quendaric_pattern(700);
-  int right = gives(some, other, 0, 12) && gives(some | sign, other, 0, -12) && gives(0, other, 0, 0) &&
-              gives(quendaric_pattern(1e-300), quendaric_pattern(3e300), 0, 0) && /* underflow and inexact */
+  int right = gives(some, other, 0, 12) && gives(0, other, 0, 0) && gives(1, other, 0, 0) && /* underflow and inexact */
+              gives(quendaric_pattern(5) | sign, quendaric_pattern(10), 0, -0.5) &&
+              /* readings that are not plausible, and sensitivities */
+              gives(some | sign, other, 1, 0) && gives(some, other | sign, 1, 0) &&
+              gives(some, quendaric_pattern(1e300), 1, 0) && gives(some, quendaric_pattern(1e-300), 1, 0) &&
+              gives(some, 1, 1, 0) && gives(quendaric_pattern(1e9), other, 1, 0) &&
               gives(quendaric_pattern(1e300), quendaric_pattern(1e-300), 1, 0) &&
               gives(quendaric_pattern(1e300) | sign, quendaric_pattern(1e-300), 1, 0) && gives(some, 0, 1, 0) &&
-              gives(some | sign, 0, 1, 0) && gives(some, sign, 1, 0) && gives(0, 0, 1, 0);
+              gives(some | sign, 0, 1, 0) && gives(some, sign, 1, 0) && gives(0, 0, 1, 0) &&
+              /* just at the limits, and just beyond */
+              gives(quendaric_pattern(5000), quendaric_pattern(10), 0, 500) &&
+              gives(quendaric_pattern(5000.001), quendaric_pattern(10), 1, 0) &&
+              gives(quendaric_pattern(-50), quendaric_pattern(10), 0, -5) &&
+              gives(quendaric_pattern(-50.001), quendaric_pattern(10), 1, 0) &&
+              gives(quendaric_pattern(10), quendaric_pattern(10), 0, 1) &&
+              gives(quendaric_pattern(10), quendaric_pattern(10) - 1, 1, 0) &&
+              gives(quendaric_pattern(10000), quendaric_pattern(10000), 0, 1) &&
+              gives(quendaric_pattern(10000), quendaric_pattern(10000) + 1, 1, 0);
   for (size_t i = 0; i < sizeof no_numbers / sizeof *no_numbers; i++) {
     right = right && gives(no_numbers[i], other, 1, 0) && gives(some, no_numbers[i], 1, 0);
     for (size_t j = 0; j < sizeof no_numbers / sizeof *no_numbers; j++)
