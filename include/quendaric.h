@@ -52,37 +52,51 @@
 #error "libquendaric.a is for x86-64 with System V calls, and as cross/build makes it for little-endian Arm, AArch64 and RISC-V; elsewhere compile the C of `cross/build c99` and define QUENDARIC_C99"
 #endif
 
-/* Elsewhere than on x86-64 the calls have these names in the archive that cross/build makes. An archive that was made
-   otherwise of the same functions, so that its calls are not those of the target's C, has no such names: it cannot be
-   linked. */
+/* Elsewhere than on x86-64 the calls have these names in the archive that cross/build makes: with the version, and on a
+   Cortex-M with the instruction set. So an archive of another version than this header's, one for another Cortex-M, and
+   one that was made otherwise of the same functions, so that its calls are not those of the target's C, cannot be
+   linked. (A Cortex-M23 runs the archive for the M0, a Cortex-M55 that for the M33.) */
 #if defined(QUENDARIC_C99) || !defined(__x86_64__)
-#define quendaric_check_cell quendaric_cross_check_cell
-#define quendaric_check_cell_for quendaric_cross_check_cell_for
-#define quendaric_check_table quendaric_cross_check_table
-#define quendaric_check_table_for quendaric_cross_check_table_for
-#define quendaric_row_limits quendaric_cross_row_limits
-#define quendaric_row_limits_for quendaric_cross_row_limits_for
-#define quendaric_make_table quendaric_cross_make_table
-#define quendaric_make_table_for quendaric_cross_make_table_for
-#define quendaric_repair_table quendaric_cross_repair_table
-#define quendaric_repair_table_for quendaric_cross_repair_table_for
-#define quendaric_run quendaric_cross_run
-#define quendaric_run_kept quendaric_cross_run_kept
-#define quendaric_step quendaric_cross_step
-#define quendaric_divide_whole quendaric_cross_divide_whole
-#define quendaric_divide_whole_kept quendaric_cross_divide_whole_kept
-#define quendaric_divide_binary64 quendaric_cross_divide_binary64
-#define quendaric_divide_binary64_kept quendaric_cross_divide_binary64_kept
-#define quendaric_divide_samples quendaric_cross_divide_samples
-#define quendaric_affected_samples quendaric_cross_affected_samples
-#define quendaric_affected_whole quendaric_cross_affected_whole
-#define quendaric_affected_run quendaric_cross_affected_run
-#define quendaric_average_windows quendaric_cross_average_windows
-#define quendaric_divide_packed quendaric_cross_divide_packed
-#define quendaric_count_visits quendaric_cross_count_visits
-#define quendaric_compare_ratios quendaric_cross_compare_ratios
-#define quendaric_root_whole quendaric_cross_root_whole
-#define quendaric_root_binary64 quendaric_cross_root_binary64
+#if defined(QUENDARIC_C99)
+#define QUENDARIC_NAME(call) quendaric_cross_3_4_0_c99_##call
+#elif defined(__ARM_ARCH_6M__) || defined(__ARM_ARCH_8M_BASE__)
+#define QUENDARIC_NAME(call) quendaric_cross_3_4_0_v6m_##call
+#elif defined(__ARM_ARCH_7M__)
+#define QUENDARIC_NAME(call) quendaric_cross_3_4_0_v7m_##call
+#elif defined(__ARM_ARCH_7EM__)
+#define QUENDARIC_NAME(call) quendaric_cross_3_4_0_v7em_##call
+#elif defined(__ARM_ARCH_8M_MAIN__) || defined(__ARM_ARCH_8_1M_MAIN__)
+#define QUENDARIC_NAME(call) quendaric_cross_3_4_0_v8m_##call
+#else
+#define QUENDARIC_NAME(call) quendaric_cross_3_4_0_##call
+#endif
+#define quendaric_check_cell QUENDARIC_NAME(check_cell)
+#define quendaric_check_cell_for QUENDARIC_NAME(check_cell_for)
+#define quendaric_check_table QUENDARIC_NAME(check_table)
+#define quendaric_check_table_for QUENDARIC_NAME(check_table_for)
+#define quendaric_row_limits QUENDARIC_NAME(row_limits)
+#define quendaric_row_limits_for QUENDARIC_NAME(row_limits_for)
+#define quendaric_make_table QUENDARIC_NAME(make_table)
+#define quendaric_make_table_for QUENDARIC_NAME(make_table_for)
+#define quendaric_repair_table QUENDARIC_NAME(repair_table)
+#define quendaric_repair_table_for QUENDARIC_NAME(repair_table_for)
+#define quendaric_run QUENDARIC_NAME(run)
+#define quendaric_run_kept QUENDARIC_NAME(run_kept)
+#define quendaric_step QUENDARIC_NAME(step)
+#define quendaric_divide_whole QUENDARIC_NAME(divide_whole)
+#define quendaric_divide_whole_kept QUENDARIC_NAME(divide_whole_kept)
+#define quendaric_divide_binary64 QUENDARIC_NAME(divide_binary64)
+#define quendaric_divide_binary64_kept QUENDARIC_NAME(divide_binary64_kept)
+#define quendaric_divide_samples QUENDARIC_NAME(divide_samples)
+#define quendaric_affected_samples QUENDARIC_NAME(affected_samples)
+#define quendaric_affected_whole QUENDARIC_NAME(affected_whole)
+#define quendaric_affected_run QUENDARIC_NAME(affected_run)
+#define quendaric_average_windows QUENDARIC_NAME(average_windows)
+#define quendaric_divide_packed QUENDARIC_NAME(divide_packed)
+#define quendaric_count_visits QUENDARIC_NAME(count_visits)
+#define quendaric_compare_ratios QUENDARIC_NAME(compare_ratios)
+#define quendaric_root_whole QUENDARIC_NAME(root_whole)
+#define quendaric_root_binary64 QUENDARIC_NAME(root_binary64)
 #endif
 
 #ifndef __cplusplus
@@ -119,9 +133,9 @@ extern "C" {
 #endif
 
 /* The version of these calls. CHANGELOG.md says what changed in each. */
-#define QUENDARIC_VERSION "3.3.0"
+#define QUENDARIC_VERSION "3.4.0"
 #define QUENDARIC_VERSION_MAJOR 3
-#define QUENDARIC_VERSION_MINOR 3
+#define QUENDARIC_VERSION_MINOR 4
 #define QUENDARIC_VERSION_PATCH 0
 
 #define QUENDARIC_TABLE_LENGTH 2048

@@ -21,5 +21,5 @@ for place in 'README.md:In a docking station' 'docs/ONE-WRONG-CELL.md:Which reco
     [ "$count" -gt 0 ] || echo "FAILED: no command in ${place%%:*}"
     total=$((total + count))
 done
-cp season.svg found && same 'the picture of the sample' "$root/docs/season.svg"
+cp build/season.svg found && same 'the picture of the sample' "$root/docs/season.svg"
 ends pages $((total + 1))

@@ -71,15 +71,17 @@ function typedef(of,    i, text) {
 function prototype(call) { return c_comment(call_comment[call]) "\nQUENDARIC_ANSWER\n" head_of(call, "quendaric_" call, ");") "\n" }
 # Version, names for other targets, answers and calls are replaced, each where it stands.
 FNR == 1 { header_made = made "/quendaric.h" }
+FNR == 1 && split(version, part, ".") != 3 { fail("the changelog has no version") }
+/^#define QUENDARIC_NAME\(call\)/ { sub(/_cross_[0-9]+_[0-9]+_[0-9]+_/, "_cross_" part[1] "_" part[2] "_" part[3] "_") }
 /^#define QUENDARIC_VERSION/ {
-    if (!versions++ && split(version, part, ".") != 3) fail("the changelog has no version")
+    versions++
     sub(/".*"/, "\"" version "\"")
     if ($2 ~ /_MAJOR$/) sub(/[0-9]+$/, part[1])
     if ($2 ~ /_MINOR$/) sub(/[0-9]+$/, part[2])
     if ($2 ~ /_PATCH$/) sub(/[0-9]+$/, part[3])
 }
 /^#define quendaric_/ {
-    if (!named++) for (i = 1; i <= number; i++) print "#define quendaric_" calls[i] " quendaric_cross_" calls[i] >header_made
+    if (!named++) for (i = 1; i <= number; i++) print "#define quendaric_" calls[i] " QUENDARIC_NAME(" calls[i] ")" >header_made
     next
 }
 /^\/\* ---- Answers and calls/ {
