@@ -96,15 +96,16 @@ static void draw_frame(FILE *file, const picture *all, scale shown, uint64_t rec
           "font-size=\"13\">\n<rect width=\"1000\" height=\"480\" fill=\"#ffffff\"/>\n"
           "<text x=\"%d\" y=\"28\" font-size=\"20\">%" PRIu64 " of %" PRIu64 " records %s wrong</text>\n",
           LEFT, wrong, records, wrong == 1 ? "is" : "are");
+  /* in a wide font a letter takes 9 of these units: no text reaches the next */
   fprintf(file,
-          "<g fill=\"#444444\">\n<text x=\"%d\" y=\"52\">each bar: %s</text>\n"
-          "<rect x=\"240\" y=\"42\" width=\"12\" height=\"12\" fill=\"#9db4d0\"/>"
-          "<text x=\"258\" y=\"52\">right readings, lowest to highest</text>\n"
-          "<circle cx=\"540\" cy=\"48\" r=\"4\" fill=\"#006d2c\"/>"
-          "<text x=\"550\" y=\"52\">the wrong record farthest off: right</text>\n"
-          "<circle cx=\"830\" cy=\"48\" r=\"4\" fill=\"none\" stroke=\"#cb181d\" stroke-width=\"2\"/>"
-          "<text x=\"840\" y=\"52\">as filed</text>\n",
-          LEFT, text);
+          "<g fill=\"#444444\">\n<text x=\"%d\" y=\"28\" text-anchor=\"end\">each bar: %s</text>\n"
+          "<rect x=\"%d\" y=\"42\" width=\"12\" height=\"12\" fill=\"#9db4d0\"/>"
+          "<text x=\"88\" y=\"52\">right readings, lowest to highest</text>\n"
+          "<circle cx=\"420\" cy=\"48\" r=\"4\" fill=\"#006d2c\"/>"
+          "<text x=\"430\" y=\"52\">the wrong record farthest off: right</text>\n"
+          "<circle cx=\"800\" cy=\"48\" r=\"4\" fill=\"none\" stroke=\"#cb181d\" stroke-width=\"2\"/>"
+          "<text x=\"810\" y=\"52\">as filed</text>\n",
+          RIGHT, text, LEFT);
   const double step = step_of(shown.high - shown.low);
   for (double k = -60; k <= 60; k++) {
     const double reading = k * step, y = height_of(shown, reading);
