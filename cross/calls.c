@@ -244,3 +244,10 @@ quendaric_binary64 quendaric_root_binary64(uint64_t a, uint64_t direction) {
   quendaric_proved_root_binary64(&answer, a, direction);
   return answer;
 }
+
+void quendaric_proved_version_3_4_0(void *);
+quendaric_linked quendaric_version_3_4_0(void) {
+  quendaric_linked answer;
+  quendaric_proved_version_3_4_0(&answer);
+  return answer;
+}

@@ -97,6 +97,7 @@
 #define quendaric_compare_ratios QUENDARIC_NAME(compare_ratios)
 #define quendaric_root_whole QUENDARIC_NAME(root_whole)
 #define quendaric_root_binary64 QUENDARIC_NAME(root_binary64)
+#define quendaric_version_3_4_0 QUENDARIC_NAME(version_3_4_0)
 #endif
 
 #ifndef __cplusplus
@@ -137,6 +138,9 @@ extern "C" {
 #define QUENDARIC_VERSION_MAJOR 3
 #define QUENDARIC_VERSION_MINOR 4
 #define QUENDARIC_VERSION_PATCH 0
+/* The call that is named after it. On x86-64 each file that includes this header refers to it, elsewhere each call has
+   the version in its name: with an archive of another version GNU's linkers end with an undefined reference. */
+#define quendaric_version quendaric_version_3_4_0
 
 #define QUENDARIC_TABLE_LENGTH 2048
 #define QUENDARIC_MOST_DIGITS 28
@@ -320,6 +324,12 @@ typedef struct {
   uint64_t root;
   uint64_t remainder;
 } quendaric_root;
+
+/* Nothing but that the archive has the version of the call's name. */
+typedef struct {
+  uint64_t refusal;
+  uint64_t place;
+} quendaric_linked;
 
 /* Examines one cell for a divider that adds eight bits: may the digit byte - 2 stand in it? That it may not is an
    ordinary answer, not a refusal. Writes nothing. Refuses 1, then 9 with the place 128 * row + column. */
@@ -515,8 +525,20 @@ quendaric_root quendaric_root_whole(uint64_t a);
 QUENDARIC_ANSWER
 quendaric_binary64 quendaric_root_binary64(uint64_t a, uint64_t direction);
 
+/* Does nothing, and refuses nothing. Its name has the version in it, and this header refers to it: a program that was
+   compiled with the header of another version is not linked with this archive. */
+QUENDARIC_ANSWER
+quendaric_linked quendaric_version_3_4_0(void);
+
 #ifdef __cplusplus
 }
+#endif
+
+#if defined(__x86_64__) && defined(__ELF__) && !defined(QUENDARIC_C99)
+/* A reference to the call that is named after the version, in an ELF note that takes no memory and is not left out by
+   --gc-sections. With an archive of another version than this header's it is undefined: GNU's linkers then refuse. */
+__asm__(".pushsection .note.quendaric,\"\",%note\n\t.balign 4\n\t.long 10, 8, 1\n\t.asciz \"quendaric\"\n\t.balign 4\n\t"
+        ".quad quendaric_version_3_4_0\n\t.popsection");
 #endif
 
 /* Is this the pattern of a finite number, and not of an infinity or a NaN? It needs neither a library nor floating

@@ -13,6 +13,7 @@ function length_of(call, i) { return arg_count[call] == 1 ? "length" : arg_name[
 
 # head, the n parts with commas between them, and the tail, in lines of at most 120 columns; a further line begins below the first part.
 function wrapped(head, part, n, tail,    i, line, all, next_part) {
+    if (n == 0) return head tail
     line = head
     for (i = 1; i <= n; i++) {
         next_part = part[i] (i < n ? "," : tail)
@@ -34,6 +35,7 @@ function parameters(call, part,    i, n, type, name) {
         if (arg_shape[call, i] == "written") part[++n] = type " *QUENDARIC_RESTRICT " name
         if (arg_shape[call, i] ~ /read|written/) part[++n] = "size_t " length_of(call, i)
     }
+    if (n == 0) part[++n] = "void"
     return n
 }
 # What is passed to a call, behind the n parts: a list's start and its length by the two patterns, in which NAME and LENGTH stand for theirs.
@@ -80,7 +82,13 @@ FNR == 1 && split(version, part, ".") != 3 { fail("the changelog has no version"
     if ($2 ~ /_MINOR$/) sub(/[0-9]+$/, part[2])
     if ($2 ~ /_PATCH$/) sub(/[0-9]+$/, part[3])
 }
-/^#define quendaric_/ {
+# The call that is named after the version: where the header refers to it, and in the exports.
+FNR == 1 {
+    for (i = 1; i <= number; i++) if (calls[i] ~ /^version_/) named_version = calls[i]
+    if (named_version != "version_" part[1] "_" part[2] "_" part[3]) fail("crates/quendaric and crates/callers name another version: quendaric_" named_version)
+}
+{ gsub(/quendaric_version_[0-9]+_[0-9]+_[0-9]+/, "quendaric_" named_version) }
+/^#define quendaric_[a-z0-9_]+ QUENDARIC_NAME/ {
     if (!named++) for (i = 1; i <= number; i++) print "#define quendaric_" calls[i] " QUENDARIC_NAME(" calls[i] ")" >header_made
     next
 }

@@ -682,6 +682,7 @@ static void orders(const uint8_t *kept) {
   ORDER(quendaric_compare_ratios(x[0], x[1], x[2], x[3]), (3, 3, 0, 3), quendaric_comparison, 0, 0, 1);
   ORDER(quendaric_compare_ratios(1, x[0], 1, x[1]), (3, 2), quendaric_comparison, 0, 0, -1);
   ORDER(quendaric_root_whole(x[0]), (4195835), quendaric_root, 0, 0, 2048, 1531);
+  ORDER(quendaric_version(), (0), quendaric_linked, 0, 0);
   /* a, direction: the root of 3 upward */
   ORDER(quendaric_root_binary64(x[0], x[1]), (three, 2), quendaric_binary64, 0, 0, 0x3FFBB67AE8584CABull, 1);
 }

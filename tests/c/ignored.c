@@ -129,3 +129,7 @@ void ignored_root_whole(uint64_t a) {
 void ignored_root_binary64(uint64_t a, uint64_t direction) {
   quendaric_root_binary64(a, direction);
 }
+
+void ignored_version_3_4_0(void) {
+  quendaric_version_3_4_0();
+}

@@ -97,3 +97,7 @@ FIELD(quendaric_root, place, 8, 8);
 FIELD(quendaric_root, root, 16, 8);
 FIELD(quendaric_root, remainder, 24, 8);
 SIZE(quendaric_root, 32);
+
+FIELD(quendaric_linked, refusal, 0, 8);
+FIELD(quendaric_linked, place, 8, 8);
+SIZE(quendaric_linked, 16);

@@ -337,6 +337,13 @@ static void turn_root_binary64(void) {
   end(r.refusal, r.place);
 }
 
+static void turn_version_3_4_0(void) {
+  before_call();
+  const quendaric_linked r = quendaric_version_3_4_0();
+  after_call();
+  end(r.refusal, r.place);
+}
+
 #define EACH_TURN(TURN) \
   TURN(check_cell, SETS) \
   TURN(check_cell_for, SETS) \
@@ -364,6 +371,7 @@ static void turn_root_binary64(void) {
   TURN(count_visits, TABLE_SETS) \
   TURN(compare_ratios, SETS) \
   TURN(root_whole, SETS) \
-  TURN(root_binary64, SETS)
+  TURN(root_binary64, SETS) \
+  TURN(version_3_4_0, SETS)
 
 typedef char enough_lists[LISTS >= 4 ? 1 : -1];

@@ -1,6 +1,6 @@
 // A C program's side of the interface: each export called as C calls it, and what comes back, in numbers (Calls of the crate demands, in the order of the specification). Where an export and its contract
 // are changed together, a contract here refuses it.
-ghost use Rattle.demands.specs.Calls.{ChecksTable, ChecksCell, TellsLimits, MakesTable, Runs, RunsKept, StepsOnce, DividesWhole, DividesWholeKept, DividesBinary64, DividesBinary64Kept, DividesSamples, AveragesWindows, RootsWhole, RootsBinary64, DividesPacked, RepairsTable, CountsVisits, ComparesRatios, ChecksTableFor, ChecksCellFor, TellsLimitsFor, MakesTableFor, RepairsTableFor, AffectsSamplesFor, AffectsWholeFor, AffectsRunFor};
+ghost use Rattle.demands.specs.Calls.{ChecksTable, ChecksCell, TellsLimits, MakesTable, Runs, RunsKept, StepsOnce, DividesWhole, DividesWholeKept, DividesBinary64, DividesBinary64Kept, DividesSamples, AveragesWindows, RootsWhole, RootsBinary64, DividesPacked, RepairsTable, CountsVisits, ComparesRatios, ChecksTableFor, ChecksCellFor, TellsLimitsFor, MakesTableFor, RepairsTableFor, AffectsSamplesFor, AffectsWholeFor, AffectsRunFor, NamesVersion};
 ghost use Rattle.selection.specs.declared.Estimate.the-variants.{EightBits};
 use division::format::Binary64;
 use division::packed::Packed;
@@ -216,4 +216,10 @@ pub fn affects_run(
     ensures { λ r. ⌜ AffectsRunFor «estimate_bits» (now (table .entry)) dividend divisor digits r ⌝ }
 {
     quendaric::quendaric_affected_run(estimate_bits, table, dividend, divisor, digits)
+}
+
+pub fn names_version() -> Refusal
+    ensures { λ r. ⌜ NamesVersion r ⌝ }
+{
+    quendaric::quendaric_version_3_4_0()
 }

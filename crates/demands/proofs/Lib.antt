@@ -20,6 +20,7 @@ pub mod OfDivision
 pub mod OfExposure
 pub mod OfRecords
 pub mod OfBits
+pub mod OfVersion
 pub mod OnlySelection
 pub mod OnlyRuns
 pub mod OnlyWhole

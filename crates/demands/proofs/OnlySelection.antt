@@ -6,7 +6,7 @@ use lib.Signed.{_≤ℤ_}
 use Rattle.selection.specs.{computed.Repair.{RepairedTable}, Demand.{RefusedExactly}, Table.{Table}, declared.Refusal.{Refusal}, declared.numbers.Report.{Report}, declared.repair.Repaired.{Repaired}}
 use Rattle.selection.proofs.{BiasedPoints.{cell-rules}, UniqueCell.{one-witness}, UniqueMade.{limits-rules, limits-one, make-rules, byte-one}, RepairAnswers.{repair-rules, lists-one}}
 use Rattle.selection.{proofs.RepairDemand.{repair-demand}, specs.declared.Estimate.{Estimate}}
-use Rattle.demands.specs.{Calls.{told, ChecksTable, ChecksCell, TellsLimits, MakesTable, RepairsTable}, Determined.{Determined}}
+use Rattle.demands.specs.{Calls.{told, ChecksTable, ChecksCell, TellsLimits, MakesTable, RepairsTable, NamesVersion}, Determined.{Determined}}
 use Rattle.demands.proofs.{ByCases.{one-rule, two-rules, table-cases, sole, sole-pair, sole-triple}, OfSelection.{checks-table, checks-cell, tells-limits, makes-table}}
 
 -- integers that are not above one another
@@ -78,4 +78,9 @@ module _ (E : Estimate) where
       let e = lists-one E r (d .repaired) in
       ((λ i. record { refusal = (m .nothing ∙ sym (d .done)) i; count = e .2 i }), e .0, e .1)))
 
-pub ruleset only-tables = (table-only, cell-only, limits-only, make-only, repair-only)
+-- ---- the version
+
+pub version-only : Determined NamesVersion
+version-only = sole (λ x k. k .nothing)
+
+pub ruleset only-tables = (table-only, cell-only, limits-only, make-only, repair-only, version-only)

@@ -456,3 +456,9 @@ pub record AffectsRun (E : Estimate) (t : List ℕ) (N D n : ℕ) (x : AffectedM
 
 abbrev pub AffectsRunFor : ℕ → List ℕ → ℕ → ℕ → ℕ → AffectedMark → Type 0
 AffectsRunFor bits t N D n x = ForBits bits (x ≡ markOnly 17) (λ E. AffectsRun E t N D n x)
+
+-- ---- the version
+
+-- what the call that is named after the version tells: nothing
+pub record NamesVersion (f : Refusal) : Type 0 where
+  pub nothing : f ≡ told 0 0

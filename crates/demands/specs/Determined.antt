@@ -5,7 +5,7 @@ use mathlib.Core.Bool.{Bool}
 use mathlib.Core.List.{List}
 use Prim.Native.Nat.{ℕ}
 use lib.ListN.{length}
-use Rattle.demands.specs.Calls.{ChecksTable, ChecksCell, TellsLimits, MakesTable, Runs, RunsKept, StepsOnce, DividesWhole, DividesWholeKept, DividesBinary64, DividesBinary64Kept, DividesSamples, AveragesWindows, RootsWhole, RootsBinary64, DividesPacked, RepairsTable, CountsVisits, ComparesRatios, ChecksTableFor, ChecksCellFor, TellsLimitsFor, MakesTableFor, RepairsTableFor, AffectsSamplesFor, AffectsWholeFor, AffectsRunFor}
+use Rattle.demands.specs.Calls.{ChecksTable, ChecksCell, TellsLimits, MakesTable, Runs, RunsKept, StepsOnce, DividesWhole, DividesWholeKept, DividesBinary64, DividesBinary64Kept, DividesSamples, AveragesWindows, RootsWhole, RootsBinary64, DividesPacked, RepairsTable, CountsVisits, ComparesRatios, ChecksTableFor, ChecksCellFor, TellsLimitsFor, MakesTableFor, RepairsTableFor, AffectsSamplesFor, AffectsWholeFor, AffectsRunFor, NamesVersion}
 use Rattle.selection.specs.declared.Refusal.{Refusal}
 use Rattle.selection.specs.declared.repair.Repaired.{Repaired}
 use Rattle.recurrence.specs.declared.Ran.{Ran}
@@ -50,3 +50,4 @@ pub record EachDetermined : Type 0 where
   pub affected-samples : (bits : ℕ) (t currents sensitivities given : List ℕ) → Determined (λ (z : AffectedCount × List ℕ). AffectsSamplesFor bits t currents sensitivities given (z .1) (z .0))
   pub affected-whole : (bits : ℕ) (t : List ℕ) (a b : ℕ) → Determined (AffectsWholeFor bits t a b)
   pub affected-run : (bits : ℕ) (t : List ℕ) (N D n : ℕ) → Determined (AffectsRunFor bits t N D n)
+  pub version : Determined NamesVersion

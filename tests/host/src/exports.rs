@@ -150,6 +150,13 @@ pub struct Root {
     pub remainder: u64,
 }
 
+#[repr(C)]
+#[derive(Clone, Copy, Debug, Default, PartialEq, Eq)]
+pub struct Linked {
+    pub refusal: u64,
+    pub place: u64,
+}
+
 extern "C" {
     pub fn quendaric_check_cell(row: u64, column: u64, byte: u8) -> Cell;
     pub fn quendaric_check_cell_for(estimate_bits: u64, row: u64, column: u64, byte: u8) -> Cell;
@@ -258,6 +265,7 @@ extern "C" {
     pub fn quendaric_compare_ratios(a: u64, b: u64, c: u64, d: u64) -> Comparison;
     pub fn quendaric_root_whole(a: u64) -> Root;
     pub fn quendaric_root_binary64(a: u64, direction: u64) -> Binary64;
+    pub fn quendaric_version_3_4_0() -> Linked;
 }
 
 pub fn check_cell(row: u64, column: u64, byte: u8) -> Cell {
@@ -499,4 +507,8 @@ pub fn root_whole(a: u64) -> Root {
 
 pub fn root_binary64(a: u64, direction: u64) -> Binary64 {
     unsafe { quendaric_root_binary64(a, direction) }
+}
+
+pub fn version_3_4_0() -> Linked {
+    unsafe { quendaric_version_3_4_0() }
 }
