@@ -35,12 +35,14 @@
    Target. The archive of `rt staticlib` is for x86-64 with the System V calling convention and a size_t of 64 bits. It
    needs no library and uses vector registers. cross/build makes archives for little-endian Arm, AArch64 and RISC-V from
    the same proved functions (docs/TARGETS.md). A call uses at most QUENDARIC_STACK bytes of stack below its caller's.
+   dist/quendaric.c has the same calls as C99, for any other little-endian target or where there is no kit;
+   dist/quendaric.h is include/quendaric.h with QUENDARIC_C99 defined and another QUENDARIC_STACK.
 
    Interrupts. The archive for x86-64 is compiled with System V's red zone: a call keeps values in the 128 bytes below
    its stack pointer. An interrupt that is taken on the same stack overwrites them; the call may then crash, or return a
    wrong answer with refusal 0. Where interrupts do not change the stack, as in firmware without a user mode, give each
    of them a stack of its own (an IST entry), or disable them during a call; an NMI, which cannot be disabled, needs its
-   own stack. A Linux signal handler spares the red zone. */
+   own stack. A Linux signal handler spares the red zone. quendaric.c has none if it is compiled with -mno-red-zone. */
 
 #ifndef QUENDARIC_H
 #define QUENDARIC_H
@@ -49,17 +51,16 @@
     (defined(_WIN32) || defined(__CYGWIN__) || defined(__APPLE__) || __BYTE_ORDER__ != __ORDER_LITTLE_ENDIAN__ ||      \
      !(defined(__x86_64__) && !defined(__ILP32__) || defined(__ARM_EABI__) ||                                          \
        defined(__aarch64__) && !defined(__ILP32__) || defined(__riscv) && !defined(__riscv_abi_rve)))
-#error "libquendaric.a is for x86-64 with System V calls, and as cross/build makes it for little-endian Arm, AArch64 and RISC-V; elsewhere compile the C of `cross/build c99` and define QUENDARIC_C99"
+#error "libquendaric.a is for x86-64 with System V calls, and as cross/build makes it for little-endian Arm, AArch64 and RISC-V; elsewhere take dist/quendaric.c with the header beside it"
 #endif
 
 /* Elsewhere than on x86-64 the calls have these names in the archive that cross/build makes: with the version, and on a
    Cortex-M with the instruction set. So an archive of another version than this header's, one for another Cortex-M, and
    one that was made otherwise of the same functions, so that its calls are not those of the target's C, cannot be
-   linked. (A Cortex-M23 runs the archive for the M0, a Cortex-M55 that for the M33.) */
-#if defined(QUENDARIC_C99) || !defined(__x86_64__)
-#if defined(QUENDARIC_C99)
-#define QUENDARIC_NAME(call) quendaric_cross_3_4_0_c99_##call
-#elif defined(__ARM_ARCH_6M__) || defined(__ARM_ARCH_8M_BASE__)
+   linked. (A Cortex-M23 runs the archive for the M0, a Cortex-M55 that for the M33.) dist/quendaric.c, which your own
+   compiler compiles, has the calls by their own names on every target. */
+#if !defined(QUENDARIC_C99) && !defined(__x86_64__)
+#if defined(__ARM_ARCH_6M__) || defined(__ARM_ARCH_8M_BASE__)
 #define QUENDARIC_NAME(call) quendaric_cross_3_4_0_v6m_##call
 #elif defined(__ARM_ARCH_7M__)
 #define QUENDARIC_NAME(call) quendaric_cross_3_4_0_v7m_##call
@@ -106,7 +107,7 @@
 #include <stddef.h>
 #include <stdint.h>
 
-#if defined(__GNUC__) && defined(__x86_64__)
+#if !defined(QUENDARIC_C99) && defined(__GNUC__) && defined(__x86_64__)
 /* gcc -mabi=ms makes Microsoft's calls and defines no macro for them, but its va_list is a mere pointer. */
 typedef char quendaric_wants_system_v_calls[sizeof(__builtin_va_list) == 24 ? 1 : -1];
 #endif
