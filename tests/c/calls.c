@@ -617,7 +617,7 @@ static void orders(const uint8_t *kept) {
   static uint8_t table[QUENDARIC_TABLE_LENGTH], burned[QUENDARIC_TABLE_LENGTH], read_back[QUENDARIC_TABLE_LENGTH];
   static const uint64_t five[5] = {10, 20, 31, 40, 51}, n = 0x1234567890ABCDEFull, d = 0x1FEDCBA987654321ull;
   static const uint64_t ones[2] = {0x3FF0000000000000ull, 0x3FF0000000000000ull},
-                        three_and_one[2] = {0x4008000000000000ull, 0x3FF0000000000000ull}, three = three_and_one[0];
+                        three_and_one[2] = {0x4008000000000000ull, 0x3FF0000000000000ull}, three = 0x4008000000000000ull;
   memcpy(table, kept, sizeof table);
   table[1991] = 3;
   memcpy(burned, table, sizeof burned);
