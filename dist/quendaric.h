@@ -56,37 +56,51 @@
 #error "libquendaric.a is for x86-64 with System V calls, and as cross/build makes it for little-endian Arm, AArch64 and RISC-V; elsewhere take dist/quendaric.c with the header beside it"
 #endif
 
-/* Elsewhere than on x86-64 the calls have these names in the archive that cross/build makes. An archive that was made
-   otherwise of the same functions, so that its calls are not those of the target's C, has no such names: it cannot be
-   linked. dist/quendaric.c, which your own compiler compiles, has the calls by their own names on every target. */
+/* Elsewhere than on x86-64 the calls have these names in the archive that cross/build makes: with the version, and on a
+   Cortex-M with the instruction set. So an archive of another version than this header's, one for another Cortex-M, and
+   one that was made otherwise of the same functions, so that its calls are not those of the target's C, cannot be
+   linked. (A Cortex-M23 runs the archive for the M0, a Cortex-M55 that for the M33.) dist/quendaric.c, which your own
+   compiler compiles, has the calls by their own names on every target. */
 #if !defined(QUENDARIC_C99) && !defined(__x86_64__)
-#define quendaric_check_cell quendaric_cross_check_cell
-#define quendaric_check_cell_for quendaric_cross_check_cell_for
-#define quendaric_check_table quendaric_cross_check_table
-#define quendaric_check_table_for quendaric_cross_check_table_for
-#define quendaric_row_limits quendaric_cross_row_limits
-#define quendaric_row_limits_for quendaric_cross_row_limits_for
-#define quendaric_make_table quendaric_cross_make_table
-#define quendaric_make_table_for quendaric_cross_make_table_for
-#define quendaric_repair_table quendaric_cross_repair_table
-#define quendaric_repair_table_for quendaric_cross_repair_table_for
-#define quendaric_run quendaric_cross_run
-#define quendaric_run_kept quendaric_cross_run_kept
-#define quendaric_step quendaric_cross_step
-#define quendaric_divide_whole quendaric_cross_divide_whole
-#define quendaric_divide_whole_kept quendaric_cross_divide_whole_kept
-#define quendaric_divide_binary64 quendaric_cross_divide_binary64
-#define quendaric_divide_binary64_kept quendaric_cross_divide_binary64_kept
-#define quendaric_divide_samples quendaric_cross_divide_samples
-#define quendaric_affected_samples quendaric_cross_affected_samples
-#define quendaric_affected_whole quendaric_cross_affected_whole
-#define quendaric_affected_run quendaric_cross_affected_run
-#define quendaric_average_windows quendaric_cross_average_windows
-#define quendaric_divide_packed quendaric_cross_divide_packed
-#define quendaric_count_visits quendaric_cross_count_visits
-#define quendaric_compare_ratios quendaric_cross_compare_ratios
-#define quendaric_root_whole quendaric_cross_root_whole
-#define quendaric_root_binary64 quendaric_cross_root_binary64
+#if defined(__ARM_ARCH_6M__) || defined(__ARM_ARCH_8M_BASE__)
+#define QUENDARIC_NAME(call) quendaric_cross_3_5_0_v6m_##call
+#elif defined(__ARM_ARCH_7M__)
+#define QUENDARIC_NAME(call) quendaric_cross_3_5_0_v7m_##call
+#elif defined(__ARM_ARCH_7EM__)
+#define QUENDARIC_NAME(call) quendaric_cross_3_5_0_v7em_##call
+#elif defined(__ARM_ARCH_8M_MAIN__) || defined(__ARM_ARCH_8_1M_MAIN__)
+#define QUENDARIC_NAME(call) quendaric_cross_3_5_0_v8m_##call
+#else
+#define QUENDARIC_NAME(call) quendaric_cross_3_5_0_##call
+#endif
+#define quendaric_check_cell QUENDARIC_NAME(check_cell)
+#define quendaric_check_cell_for QUENDARIC_NAME(check_cell_for)
+#define quendaric_check_table QUENDARIC_NAME(check_table)
+#define quendaric_check_table_for QUENDARIC_NAME(check_table_for)
+#define quendaric_row_limits QUENDARIC_NAME(row_limits)
+#define quendaric_row_limits_for QUENDARIC_NAME(row_limits_for)
+#define quendaric_make_table QUENDARIC_NAME(make_table)
+#define quendaric_make_table_for QUENDARIC_NAME(make_table_for)
+#define quendaric_repair_table QUENDARIC_NAME(repair_table)
+#define quendaric_repair_table_for QUENDARIC_NAME(repair_table_for)
+#define quendaric_run QUENDARIC_NAME(run)
+#define quendaric_run_kept QUENDARIC_NAME(run_kept)
+#define quendaric_step QUENDARIC_NAME(step)
+#define quendaric_divide_whole QUENDARIC_NAME(divide_whole)
+#define quendaric_divide_whole_kept QUENDARIC_NAME(divide_whole_kept)
+#define quendaric_divide_binary64 QUENDARIC_NAME(divide_binary64)
+#define quendaric_divide_binary64_kept QUENDARIC_NAME(divide_binary64_kept)
+#define quendaric_divide_samples QUENDARIC_NAME(divide_samples)
+#define quendaric_affected_samples QUENDARIC_NAME(affected_samples)
+#define quendaric_affected_whole QUENDARIC_NAME(affected_whole)
+#define quendaric_affected_run QUENDARIC_NAME(affected_run)
+#define quendaric_average_windows QUENDARIC_NAME(average_windows)
+#define quendaric_divide_packed QUENDARIC_NAME(divide_packed)
+#define quendaric_count_visits QUENDARIC_NAME(count_visits)
+#define quendaric_compare_ratios QUENDARIC_NAME(compare_ratios)
+#define quendaric_root_whole QUENDARIC_NAME(root_whole)
+#define quendaric_root_binary64 QUENDARIC_NAME(root_binary64)
+#define quendaric_version_3_5_0 QUENDARIC_NAME(version_3_5_0)
 #endif
 
 #ifndef __cplusplus
@@ -123,10 +137,13 @@ extern "C" {
 #endif
 
 /* The version of these calls. CHANGELOG.md says what changed in each. */
-#define QUENDARIC_VERSION "3.1.0"
+#define QUENDARIC_VERSION "3.5.0"
 #define QUENDARIC_VERSION_MAJOR 3
-#define QUENDARIC_VERSION_MINOR 1
+#define QUENDARIC_VERSION_MINOR 5
 #define QUENDARIC_VERSION_PATCH 0
+/* The call that is named after it. On x86-64 each file that includes this header refers to it, elsewhere each call has
+   the version in its name: with an archive of another version GNU's linkers end with an undefined reference. */
+#define quendaric_version quendaric_version_3_5_0
 
 #define QUENDARIC_TABLE_LENGTH 2048
 #define QUENDARIC_MOST_DIGITS 28
@@ -311,6 +328,12 @@ typedef struct {
   uint64_t remainder;
 } quendaric_root;
 
+/* Nothing but that the archive has the version of the call's name. */
+typedef struct {
+  uint64_t refusal;
+  uint64_t place;
+} quendaric_linked;
+
 /* Examines one cell for a divider that adds eight bits: may the digit byte - 2 stand in it? That it may not is an
    ordinary answer, not a refusal. Writes nothing. Refuses 1, then 9 with the place 128 * row + column. */
 QUENDARIC_ANSWER
@@ -479,11 +502,11 @@ quendaric_averages quendaric_average_windows(const uint64_t *readings, size_t re
 QUENDARIC_ANSWER
 quendaric_packed quendaric_divide_packed(const uint8_t dividend[8], const uint8_t divisor[8]);
 
-/* Counts how often each cell is met. It takes all 4^(bits - 1) pairs of operands that have 1 to 6 significant bits,
-   both with their leading one at bit 60, and runs 1 to 28 digits of each pair through the table. visits[128 * row +
-   column] becomes the number of these digits that were taken at that cell. The call writes the first 2,048 numbers,
-   which add up to digits * 4^(bits - 1), and leaves later ones as they are. visits may not overlap the table. The call
-   checks the table once. Refuses 2, 16, 7, 8, 9, 10, in this order. */
+/* Counts how often each cell is met. It takes all 4^(bits - 1) pairs of operands that have exactly `bits` significant
+   bits, 1 to 6, both with their leading one at bit 60, and runs `digits` digits, 1 to 28, of each pair through the
+   table. visits[128 * row + column] becomes the number of these digits that were taken at that cell. The call writes
+   the first 2,048 numbers, which add up to digits * 4^(bits - 1), and leaves later ones as they are. visits may not
+   overlap the table. The call checks the table once. Refuses 2, 16, 7, 8, 9, 10, in this order. */
 QUENDARIC_ANSWER
 quendaric_visits quendaric_count_visits(const uint8_t *table, size_t table_length, uint64_t bits, size_t digits,
                                         uint32_t *QUENDARIC_RESTRICT visits, size_t visits_length);
@@ -505,13 +528,50 @@ quendaric_root quendaric_root_whole(uint64_t a);
 QUENDARIC_ANSWER
 quendaric_binary64 quendaric_root_binary64(uint64_t a, uint64_t direction);
 
+/* Does nothing, and refuses nothing. Its name has the version in it, and this header refers to it: a program that was
+   compiled with the header of another version is not linked with this archive. */
+QUENDARIC_ANSWER
+quendaric_linked quendaric_version_3_5_0(void);
+
 #ifdef __cplusplus
 }
+#endif
+
+#if defined(__x86_64__) && defined(__ELF__) && !defined(QUENDARIC_C99)
+/* A reference to the call that is named after the version, in an ELF note that takes no memory and is not left out by
+   --gc-sections. With an archive of another version than this header's it is undefined: GNU's linkers then refuse. */
+__asm__(".pushsection .note.quendaric,\"\",%note\n\t.balign 4\n\t.long 10, 8, 1\n\t.asciz \"quendaric\"\n\t.balign 4\n\t"
+        ".quad quendaric_version_3_5_0\n\t.popsection");
 #endif
 
 /* Is this the pattern of a finite number, and not of an infinity or a NaN? It needs neither a library nor floating
    point. */
 static inline bool quendaric_is_finite(uint64_t pattern) { return (pattern >> 52 & 0x7FF) != 0x7FF; }
+
+/* The place of a number that is no NaN in the order of all numbers; both zeros have the place 0. */
+static inline int64_t quendaric_rank(uint64_t pattern) {
+  const int64_t size = (int64_t)(pattern & 0x7FFFFFFFFFFFFFFF);
+  return pattern >> 63 != 0 ? -size : size;
+}
+
+/* Is this the pattern of a finite number from least to most? These two are patterns as well, and may be infinite. Where
+   one of the three is a NaN, the answer is false. It needs neither a library nor floating point. */
+static inline bool quendaric_is_within(uint64_t pattern, uint64_t least, uint64_t most) {
+  const int64_t infinity = 0x7FF0000000000000;
+  return quendaric_is_finite(pattern) && -infinity <= quendaric_rank(least) &&
+         quendaric_rank(least) <= quendaric_rank(pattern) && quendaric_rank(pattern) <= quendaric_rank(most) &&
+         quendaric_rank(most) <= infinity;
+}
+
+/* Is r, the answer of a division of the current a by the sensitivity b, a reading from least to most? True exactly if the
+   call was not refused, a, b and the quotient are finite, b is above zero, no flag but inexact and underflow was raised,
+   and the quotient lies from least to most (patterns, as in quendaric_is_within). Which sensitivities your cell can have,
+   it does not know: one that is far too large gives a quotient near zero, as clean air does. Ask quendaric_is_within. */
+static inline bool quendaric_reading(quendaric_binary64 r, uint64_t a, uint64_t b, uint64_t least, uint64_t most) {
+  const uint64_t harmless = QUENDARIC_INEXACT | QUENDARIC_UNDERFLOW;
+  return r.refusal == 0 && quendaric_is_finite(a) && quendaric_is_finite(b) && quendaric_rank(b) > 0 &&
+         (r.flags & ~harmless) == 0 && quendaric_is_within(r.pattern, least, most);
+}
 
 /* The 64 bits of a double, and the double of 64 bits. Neither needs a library. */
 static inline uint64_t quendaric_pattern(double number) {
