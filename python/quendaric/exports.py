@@ -1,6 +1,6 @@
 """The calls of include/quendaric.h. tools/prototypes makes this file: do not edit it."""
 
-VERSION = "3.1.1"
+VERSION = "3.6.0"
 
 # What each refusal means.
 REFUSALS = {
@@ -96,6 +96,10 @@ refusals 8 and 9 no cell was examined, and the count is 0 too.""",
     "root": (
         """remainder is a - root * root.""",
         [("refusal", "u64", 0), ("place", "u64", 0), ("root", "u64", 0), ("remainder", "u64", 0)],
+    ),
+    "linked": (
+        """Nothing but that the archive has the version of the call's name.""",
+        [("refusal", "u64", 0), ("place", "u64", 0)],
     ),
 }
 
@@ -301,5 +305,11 @@ sign, and plus infinity gives itself. A number below zero, and minus infinity, g
 invalid. A NaN gives 7FF8000000000000, and the flag invalid where it is signalling. For all others inexact is the
 only flag. Writes nothing and uses no table. Refuses 6, with the pattern 0.""",
         [("a", "number", "binary64", 0), ("direction", "number", "u64", 0)],
+    ),
+    "version_3_6_0": (
+        "linked",
+        """Does nothing, and refuses nothing. Its name has the version in it, and this header refers to it: a program that was
+compiled with the header of another version is not linked with this archive.""",
+        [],
     ),
 }
