@@ -41,7 +41,7 @@ programs: $(library)
 	@for source in tools/*.c; do \
 	    program=build/$$(basename "$$source" .c); \
 	    [ -n "$$(find $(library) tools examples -newer "$$program" 2>&1)" ] || continue; \
-	    (set -x; $(CC) -std=c99 $(CFLAGS) $(LDFLAGS) -Idist "$$source" $(library) -o "$$program"); \
+	    (set -x; $(CC) -std=c99 $(CFLAGS) $(LDFLAGS) -Idist "$$source" $(library) -o "$$program") || exit 1; \
 	done
 
 check: all
@@ -55,7 +55,7 @@ install: all
 	ln -sf $(soname) $(DESTDIR)$(PREFIX)/lib/libquendaric.so
 	for source in tools/*.c; do \
 	    name=$$(basename "$$source" .c); \
-	    cp "build/$$name" "$(DESTDIR)$(PREFIX)/bin/quendaric-$$name"; \
+	    cp "build/$$name" "$(DESTDIR)$(PREFIX)/bin/quendaric-$$name" || exit 1; \
 	done
 	version=$$(sed -n 's/^#define QUENDARIC_VERSION "\(.*\)"$$/\1/p' dist/quendaric.h); \
 	printf '%s\n' 'prefix=$(PREFIX)' 'Name: quendaric' \
