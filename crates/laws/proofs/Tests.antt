@@ -1,9 +1,9 @@
 -- Tests that antt computes, and what a passed one says: one test over all entries of a table, and a law that carries it to each.
-use Rattle.laws.proofs.Basics.{◌≡◌, refl, subst, sym, Bool, true, false, not, cond, ◌⊎◌, inl, inr, ⊎_elim, List, [], ◌∷◌, ℕ, zero, suc, ◌+◌, ◌<◌, needs, lt-ltb, le-ltb, le-leb, lt-leb, eq-eqb, ne_eqb, ltb, ltb-true, ltb-false, T, length, get_or}
+use Rattle.laws.proofs.Basics.{◌≡◌, refl, subst, sym, Bool, true, false, not, cond, ◌⊎◌, inl, inr, ⊎_elim, List, [], ◌∷◌, ℕ, zero, suc, ◌+◌, ◌<◌, rules, lt-ltb, le-ltb, le-leb, lt-leb, eq-eqb, ne_eqb, ltb, ltb-true, ltb-false, T, length, get_or}
 use native.Mathlib.Nat.{add-zero, zero-add, add-suc, suc-add, le_of_suc-le-suc, not-suc-le-zero, not-le_of_lt, eq-or-lt_of_le}
 
 -- what code that climbs a list of tests asks at each way out: `search tests`
-pub ruleset tests = (needs, lt-ltb, le-ltb, le-leb, lt-leb, eq-eqb, ne_eqb)
+pub ruleset tests = (rules, lt-ltb, le-ltb, le-leb, lt-leb, eq-eqb, ne_eqb)
 
 -- a choice by a test, by its two cases
 pub by_cond : {X : Type 0} (P : X → Type 0) (c : Bool) (x y : X) → (T c → P x) → (T (not c) → P y) → P (cond c x y)

@@ -1,4 +1,6 @@
 // The listing program: the bad cells of a table that is read from standard input, in a divider that adds as many bits as the argument says, 7 or 8 (8 where there is none).
+#![tactic(auto)]
+
 ghost use Rattle.std.specs.Prelude.{◌+◌, ◌*◌, ◌≤◌, ◌<◌, ◌≡◌, length, take, drop};
 ghost use Rattle.io.specs.Counts.{IsPrefixLen};
 ghost use Rattle.selection.specs.Table.{Table};

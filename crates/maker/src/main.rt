@@ -1,4 +1,6 @@
 // The table maker as a program: writes the made table's 2,048 bytes to standard output, for a divider that adds as many bits as the argument says, 7 or 8 (8 where there is none).
+#![tactic(auto)]
+
 ghost use Rattle.std.specs.Prelude.{◌≡◌};
 ghost use Rattle.selection.specs.computed.Outcomes.{made_table};
 

@@ -1,5 +1,7 @@
 // The P-D plot of a table as an SVG picture: divisor rows from left to right, partial-remainder columns from below. Its cells show the digits, or with
 // the argument `visits` how often each is met. With the argument 7 what is allowed is that of a divider that adds seven bits, with 8 or none eight.
+#![tactic(auto)]
+
 mod cells;
 mod picture;
 mod print;

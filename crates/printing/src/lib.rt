@@ -1,4 +1,6 @@
 // Text in a lent buffer, reading into one and writing what one holds, for the programs.
+#![tactic(auto)]
+
 pub mod argument;
 pub mod input;
 pub mod output;

@@ -1,6 +1,8 @@
 // The C interface: thin exports of the three layers and of the averages. A slice is a pointer and a length; an answer comes back as the layer's own struct.
 // tools/prototypes makes answers and calls of include/quendaric.h from here: the comment of an export is that of its call, the comment of a `use` that of the answer.
 // An export whose answer is a mere refusal says behind `->` how C names it, and at its first call what it then tells.
+#![tactic(auto)]
+
 ghost use Rattle.std.specs.Prelude.{◌≡◌};
 ghost use Rattle.selection.specs.computed.Answer.{cell_numbers, report_numbers};
 ghost use Rattle.selection.specs.computed.Bits.{check_cell_for, check_table_for, row_limits_for, make_for, repair_for};

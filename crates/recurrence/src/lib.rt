@@ -1,4 +1,6 @@
 // The digit recurrence, the middle layer: a quotient digit a step, read from a table by the truncated estimate of a carry-save partial remainder.
+#![tactic(auto)]
+
 pub mod one_word;
 pub mod recheck;
 mod state;

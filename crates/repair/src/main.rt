@@ -1,5 +1,7 @@
 // The repair program: a table as it was read back comes from standard input, its repair goes to standard output and a line for each change to standard error. It is for a divider that
 // adds as many bits as the argument says, 7 or 8 (8 where there is none).
+#![tactic(auto)]
+
 ghost use Rattle.std.specs.Prelude.{◌+◌, ◌*◌, ◌≤◌, ◌≡◌, length, take};
 ghost use Rattle.io.specs.Counts.{IsPrefixLen};
 ghost use Rattle.printing.specs.Text.{Appended};

@@ -1,4 +1,6 @@
 // Quotient-digit selection, the lowest layer: the check of a cell, the check of a table, its maker, its repair and the kept table.
+#![tactic(auto)]
+
 pub mod bits;
 pub mod cell;
 pub mod kept;

@@ -1,4 +1,6 @@
 // Public test vectors of IEEE 754 division and square root through the unit: of each file how many lines were run, and how many of them differ.
+#![tactic(auto)]
+
 ghost use Rattle.std.specs.Prelude.{◌≡◌, ◌+◌, ◌*◌, ◌^◌, ◌≤◌, ◌<◌, length, take};
 ghost use Rattle.io.specs.Counts.{IsPrefixLen as Counts·io};
 ghost use Rattle.printing.specs.Text.{ascii, Appended};

@@ -1,5 +1,5 @@
 -- `listing::append_line` meets its contract: no text, or three numbers and the witness, one after another.
-use Rattle.laws.proofs.Basics.{arith, needs}
+use Rattle.laws.proofs.Basics.{arith, rules}
 use borrow.Author.Rules.{sfits_of}
 use mir.Facts.{to_z-of_z}
 use Rattle.printing.proofs.Texts.{appended_none, appended_then}
@@ -19,6 +19,6 @@ returns_2 c =
 
 pub append_line_spec : {M : Type 1} → statement M
 append_line_spec =
-    tie.close (tie.spec (λ c. search needs) (λ c. search needs) (λ c. search needs)
-    (λ c κs. search needs) (λ c. search needs) (λ c κs. search needs) (λ c. search needs)
-    (λ c κs. search needs) (λ c κs. search needs) (λ c. (rw c.enum_told.given.1 (appended_none _ _), omega arith)) (λ c. search needs) returns_2)
+    tie.close (tie.spec (λ c. search rules) (λ c. search rules) (λ c. search rules)
+    (λ c κs. search rules) (λ c. search rules) (λ c κs. search rules) (λ c. search rules)
+    (λ c κs. search rules) (λ c κs. search rules) (λ c. (rw c.enum_told.given.1 (appended_none _ _), omega arith)) (λ c. search rules) returns_2)

@@ -1,5 +1,5 @@
 -- `listing::append_witness` meets its contract: two numbers, one after another.
-use Rattle.laws.proofs.Basics.{arith, needs}
+use Rattle.laws.proofs.Basics.{arith, rules}
 use borrow.Author.Rules.{sfits_of}
 use mir.Facts.{to_z-of_z}
 use Rattle.printing.proofs.Texts.{appended_then}
@@ -15,5 +15,5 @@ returns c =
 
 pub append_witness_spec : {M : Type 1} → statement M
 append_witness_spec =
-    tie.close (tie.spec (λ c. search needs) (λ c κs. search needs) (λ c. search needs)
-    (λ c κs. search needs) (λ c. search needs) returns)
+    tie.close (tie.spec (λ c. search rules) (λ c κs. search rules) (λ c. search rules)
+    (λ c κs. search rules) (λ c. search rules) returns)

@@ -1,5 +1,5 @@
 -- `listing::line_of` meets its contract: a line is what the check of the single cell says.
-use Rattle.laws.proofs.Basics.{◌/◌, ◌%◌, arith, get_or, now, needs}
+use Rattle.laws.proofs.Basics.{◌/◌, ◌%◌, arith, get_or, rules}
 use borrow.Author.Rules.{sfits_of}
 use mir.Facts.{to_z-of_z}
 use Rattle.selection.proofs.Verdicts.{never_refused}
@@ -14,8 +14,8 @@ returns_2 c =
 
 pub line_of_spec : {M : Type 1} → statement M
 line_of_spec =
-    tie.close (tie.spec (λ c. search needs) (λ c κs. search needs) (λ c. search needs)
-    (λ c. search needs) (λ c κs. search needs) (λ c. search needs)
+    tie.close (tie.spec (λ c. search rules) (λ c κs. search rules) (λ c. search rules)
+    (λ c. search rules) (λ c κs. search rules) (λ c. search rules)
     (λ c. let k = c.before.before in let p = k.before.before.before.requires in told_line _ _ _ p.0 p.1 k.check-cell.ensures (rw c.enum_told.given.1))
     returns_2
-    (λ c. let k = c.before.before in let s = k.before.before.before in never_refused s.args.estimate (s.args.k / 128) (s.args.k % 128) (get_or (now s.args.table) s.args.k 0) (omega arith) (omega arith) (s.requires.0.digits _) k.check-cell.ensures c.enum-told2.given.1))
+    (λ c. let k = c.before.before in let s = k.before.before.before in never_refused s.args.estimate (s.args.k / 128) (s.args.k % 128) (get_or s.args.table.now s.args.k 0) (omega arith) (omega arith) (s.requires.0.digits _) k.check-cell.ensures c.enum-told2.given.1))

@@ -1,5 +1,5 @@
 -- `printing::magnitude` meets its contract: a number below zero is -n - 1, and then n fits and so does n + 1.
-use Rattle.laws.proofs.Basics.{◌≡◌, refl, sym, ◌∙◌, ℕ, zero, suc, ◌+◌, ◌^◌, ◌<◌, add-one, arith, ℤ, pos, negsuc, neg_ℤ, nat_abs, neg_ℤ-neg_ℤ, ◌+ℤ◌, ◌-ℤ◌, +ℤ_one, +ℤ_idl, needs}
+use Rattle.laws.proofs.Basics.{◌≡◌, refl, sym, ◌∙◌, ℕ, zero, suc, ◌+◌, ◌^◌, ◌<◌, add-one, arith, ℤ, pos, negsuc, neg_ℤ, nat_abs, neg_ℤ-neg_ℤ, ◌+ℤ◌, ◌-ℤ◌, +ℤ_one, +ℤ_idl, rules}
 use mir.{Facts.{to_z-of_z, Fits-nat_abs}, Syntax.{w64}, Val.{SFits}}
 use Rattle.printing.proofs.{Signs.{held, negative, positive}, magnitude.Statement.{statement}}
 use Rattle.printing.proofs.magnitude.Tie as tie
@@ -42,4 +42,4 @@ magnitude_spec =
     tie.close (tie.spec (λ c. rw (at c).raised (opposite_fits (at c).n (at c).small))
     (λ c. rw (negated (at c)) (record { sfits = (at c).small })) (λ c. rw (cast (at c)) (tt, omega (arith, (at c).small)))
     (λ c. rw (cast (at c)) (omega (arith, (at c).small))) (λ c. rw (cast (at c)) (sym (at c).size))
-    cast_result_2 (λ c. search needs))
+    cast_result_2 (λ c. search rules))

@@ -1,5 +1,5 @@
 -- `run` meets its contract: the arguments' refusal, then the table's, else the run through the table.
-use Rattle.laws.proofs.Basics.{◌≡◌, refl, sym, ◌∙◌, needs}
+use Rattle.laws.proofs.Basics.{◌≡◌, refl, sym, ◌∙◌, rules}
 use Rattle.selection.{specs.Table.{Passes}, specs.declared.Admission.TheVariants.{Admitted}, proofs.TableRefusals.{admitted_both, first_lent}, specs.declared.Estimate.TheVariants.{EightBits}}
 use Rattle.recurrence.proofs.{Refusals.{spans}, Rows.{row_of}, run.Statement.{statement}}
 use Rattle.recurrence.proofs.run.Tie as tie
@@ -26,6 +26,6 @@ returns_2 c =
 
 pub run_spec : {M : Type 1} → statement M
 run_spec =
-    tie.close (tie.spec (λ c κs. search needs) (λ c κs. search needs) (λ c. search needs)
-    (λ c κs. search needs) (λ c. search needs) (λ c κs. (passed c).1.table.size) run_part_requires returns
-    (λ c. search needs) returns_2)
+    tie.close (tie.spec (λ c κs. search rules) (λ c κs. search rules) (λ c. search rules)
+    (λ c κs. search rules) (λ c. search rules) (λ c κs. (passed c).1.table.size) run_part_requires returns
+    (λ c. search rules) returns_2)

@@ -1,5 +1,5 @@
 -- `run_kept` meets its contract: the kept table passes, so only the arguments can be refused.
-use Rattle.laws.proofs.Basics.{refl, sym, ◌∙◌, needs}
+use Rattle.laws.proofs.Basics.{refl, sym, ◌∙◌, rules}
 use Rattle.selection.{specs.computed.Outcomes.{made_table}, proofs.MadeTables.{kept_passes}, proofs.TableRefusals.{first_kept}, specs.declared.Estimate.TheVariants.{EightBits}}
 use Rattle.recurrence.proofs.{Refusals.{spans}, Rows.{row_of_kept}, run_kept.Statement.{statement}}
 use Rattle.recurrence.proofs.run_kept.Tie as tie
@@ -23,5 +23,5 @@ returns_2 c =
 
 pub run_kept_spec : {M : Type 1} → statement M
 run_kept_spec =
-    tie.close (tie.spec (λ c κs. search needs) (λ c. search needs) (λ c κs. search needs)
-    (λ c. search needs) (λ c κs. search needs) (λ c. search needs) run_part_requires returns (λ c. search needs) returns_2)
+    tie.close (tie.spec (λ c κs. search rules) (λ c. search rules) (λ c κs. search rules)
+    (λ c. search rules) (λ c κs. search rules) (λ c. search rules) run_part_requires returns (λ c. search rules) returns_2)

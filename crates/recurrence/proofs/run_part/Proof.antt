@@ -1,4 +1,4 @@
-use Rattle.laws.proofs.{Basics.{refl, needs, arith}, Lists.{part_length, put_back}}
+use Rattle.laws.proofs.{Basics.{refl, rules, arith}, Lists.{part_length, put_back}}
 use Rattle.recurrence.proofs.run_part.Statement.{statement}
 use Rattle.recurrence.proofs.run_part.Tie as tie
 
@@ -11,5 +11,5 @@ returns c t ok is =
 
 pub run_part_spec : {M : Type 1} → statement M
 run_part_spec =
-    tie.close (tie.spec (λ c. search needs) (λ c. search needs) (λ c. search needs)
-    (λ c. search needs) (λ c κs. search needs) (λ c κs. search needs) (λ c. search needs) returns)
+    tie.close (tie.spec (λ c. search rules) (λ c. search rules) (λ c. search rules)
+    (λ c. search rules) (λ c κs. search rules) (λ c κs. search rules) (λ c. search rules) returns)

@@ -1,4 +1,4 @@
-use Rattle.laws.proofs.{Basics.{needs, ◌≡◌, sym, ◌∙◌, arith, ℕ, ◌-◌, ◌<◌, List, length}, Lists.{fill_none}}
+use Rattle.laws.proofs.{Basics.{rules, ◌≡◌, sym, ◌∙◌, arith, ℕ, ◌-◌, ◌<◌, List, length}, Lists.{fill_none}}
 use Rattle.selection.specs.{Cell.{row}, Table.{Passes}, computed.Table.{row_bytes}, declared.Estimate.TheVariants.{EightBits}}
 use Rattle.recurrence.specs.Recurrence.{after}
 use Rattle.recurrence.proofs.{Digits.{divisor_after}, Invariant.{invariant-after}, Pair.{pair_after}, Correction.{result_from_pair}}
@@ -58,7 +58,7 @@ returns c t ok is =
 pub run_row_spec : {M : Type 1} → statement M
 run_row_spec =
     tie.close (tie.spec invariant-loop decreases-loop (λ c κs. c.before.before.requires.1.most)
-    (λ c κs. search needs) loop_holds next_requires
+    (λ c κs. search rules) loop_holds next_requires
     (λ c. c.before.before.loop-test.true) (λ c. let w = c.before.before in omega (arith, turn w, (start w.before).pre))
     (λ c. omega (arith, turn c.before.before)) loop_again
     (λ c κs. rw ((reached c.before).stands, divisor_after EightBits) (start c.before).pre.1.most) (λ c. reached_length (reached c.before.before)) returns)

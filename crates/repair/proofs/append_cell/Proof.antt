@@ -1,5 +1,5 @@
 -- `repair::append_cell` meets its contract: no text, or four numbers, one after another.
-use Rattle.laws.proofs.Basics.{arith, needs, eq-eqb, ne_eqb}
+use Rattle.laws.proofs.Basics.{arith, rules, eq-eqb, ne_eqb}
 use Rattle.printing.proofs.Texts.{appended_none, appended_then}
 use Rattle.repair.proofs.append_cell.Statement.{statement}
 use Rattle.repair.proofs.append_cell.Tie as tie
@@ -15,6 +15,6 @@ returns_2 c =
 
 pub append_cell_spec : {M : Type 1} → statement M
 append_cell_spec =
-    tie.close (tie.spec (λ c. (rw (eq-eqb _ _ c.if1.true) (appended_none _ _), omega arith)) (λ c. search needs) (λ c κs. search needs) (λ c. search needs)
-    (λ c κs. search needs) (λ c. search needs) (λ c κs. search needs) (λ c. search needs)
-    (λ c κs. search needs) (λ c. search needs) returns_2)
+    tie.close (tie.spec (λ c. (rw (eq-eqb _ _ c.if1.true) (appended_none _ _), omega arith)) (λ c. search rules) (λ c κs. search rules) (λ c. search rules)
+    (λ c κs. search rules) (λ c. search rules) (λ c κs. search rules) (λ c. search rules)
+    (λ c κs. search rules) (λ c. search rules) returns_2)

@@ -1,5 +1,5 @@
 -- `repair::append_changes` meets its contract: the line of names, the lines of the cells, and the number of changes with the divider's bits.
-use Rattle.laws.proofs.Basics.{arith, needs}
+use Rattle.laws.proofs.Basics.{arith, rules}
 use Rattle.printing.proofs.Texts.{appended_then}
 use Rattle.repair.proofs.append_changes.Statement.{statement}
 use Rattle.repair.proofs.append_changes.Tie as tie
@@ -17,6 +17,6 @@ returns c =
 
 pub append_changes_spec : {M : Type 1} → statement M
 append_changes_spec =
-    tie.close (tie.spec (λ c. search needs) (λ c κs. search needs) (λ c κs. search needs)
-    (λ c. search needs) (λ c κs. search needs) (λ c. search needs) (λ c κs. search needs)
-    (λ c κs. search needs) (λ c. search needs) (λ c κs. search needs) (λ c. search needs) returns)
+    tie.close (tie.spec (λ c. search rules) (λ c κs. search rules) (λ c κs. search rules)
+    (λ c. search rules) (λ c κs. search rules) (λ c. search rules) (λ c κs. search rules)
+    (λ c κs. search rules) (λ c. search rules) (λ c κs. search rules) (λ c. search rules) returns)

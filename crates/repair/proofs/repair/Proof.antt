@@ -1,5 +1,5 @@
 -- `repair::repair` meets its contract: the call's answer tells a repair from a refusal.
-use Rattle.laws.proofs.Basics.{ℕ, arith, replicate, length-replicate, needs}
+use Rattle.laws.proofs.Basics.{ℕ, arith, replicate, length-replicate, rules}
 use lib.Seq.{take_all}
 use Rattle.printing.proofs.Texts.{appended_size, appended_take, counts}
 use Rattle.repair.proofs.{Writing.{Called, sizes, writes_table, writes_refusal}, repair.Statement.{statement}}
@@ -31,5 +31,5 @@ returns_2 c =
 
 pub repair_spec : {M : Type 1} → statement M
 repair_spec =
-    tie.close (tie.spec (λ c. search needs) (λ c κs. search needs) (λ c κs. search needs) returns
+    tie.close (tie.spec (λ c. search rules) (λ c κs. search rules) (λ c κs. search rules) returns
     (λ c κs. let e = c.before.before.before in let r = e.before.before.before in omega (arith, sizes _ (called r) e.if1.false)) returns_2)

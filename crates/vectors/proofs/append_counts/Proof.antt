@@ -1,5 +1,5 @@
 -- `vectors::append_counts` meets its contract: four texts, one after another.
-use Rattle.laws.proofs.Basics.{arith, needs}
+use Rattle.laws.proofs.Basics.{arith, rules}
 use Rattle.printing.proofs.Texts.{appended_then}
 use Rattle.vectors.proofs.append_counts.Statement.{statement}
 use Rattle.vectors.proofs.append_counts.Tie as tie
@@ -14,5 +14,5 @@ returns c =
 
 pub append_counts_spec : {M : Type 1} → statement M
 append_counts_spec =
-    tie.close (tie.spec (λ c κs. search needs) (λ c. search needs) (λ c κs. search needs) (λ c. search needs) (λ c κs. search needs)
-    (λ c κs. search needs) (λ c. search needs) returns)
+    tie.close (tie.spec (λ c κs. search rules) (λ c. search rules) (λ c κs. search rules) (λ c. search rules) (λ c κs. search rules)
+    (λ c κs. search rules) (λ c. search rules) returns)

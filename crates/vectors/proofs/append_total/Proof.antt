@@ -1,5 +1,5 @@
 -- `vectors::append_total` meets its contract: two numbers, and a third one where a file was not read.
-use Rattle.laws.proofs.Basics.{arith, needs, eq-eqb, ne_eqb}
+use Rattle.laws.proofs.Basics.{arith, rules, eq-eqb, ne_eqb}
 use Rattle.printing.proofs.Texts.{appended_then}
 use Rattle.vectors.proofs.append_total.Statement.{statement}
 use Rattle.vectors.proofs.append_total.Tie as tie
@@ -12,6 +12,6 @@ returns_2 c =
 
 pub append_total_spec : {M : Type 1} → statement M
 append_total_spec =
-    tie.close (tie.spec (λ c. search needs) (λ c. search needs) (λ c κs. omega arith) (λ c. search needs)
+    tie.close (tie.spec (λ c. search rules) (λ c. search rules) (λ c κs. omega arith) (λ c. search rules)
     (λ c. (rw (eq-eqb _ _ c.before.before.before.before.before.before.if1.true) c.before.before.append-counts.ensures.0, omega arith))
-    (λ c. search needs) (λ c. search needs) (λ c κs. omega arith) (λ c. search needs) (λ c κs. omega arith) (λ c. search needs) returns_2)
+    (λ c. search rules) (λ c. search rules) (λ c κs. omega arith) (λ c. search rules) (λ c κs. omega arith) (λ c. search rules) returns_2)

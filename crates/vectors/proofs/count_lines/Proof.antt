@@ -1,5 +1,5 @@
 -- `vectors::count_lines` meets its contract: after k lines, so many of them differ.
-use Rattle.laws.{proofs.Basics.{◌≡◌, sym, ap, ◌∙◌, ⊎_elim, ◌-◌, ◌≤◌, arith, needs}, specs.Counting.{count_below}, proofs.Counting.{count_start, count_one, count_other, count_most}}
+use Rattle.laws.{proofs.Basics.{◌≡◌, sym, ap, ◌∙◌, ⊎_elim, ◌-◌, ◌≤◌, arith, rules}, specs.Counting.{count_below}, proofs.Counting.{count_start, count_one, count_other, count_most}}
 use Rattle.vectors.specs.Vectors.{line_differs, differs_at, lines_in, counts_of}
 use Rattle.vectors.proofs.count_lines.Statement.{statement}
 use Rattle.vectors.proofs.count_lines.Tie as tie
@@ -32,4 +32,4 @@ returns c = let e : c.before.loop.k ≡ lines_in c.before.before.before.args.byt
 pub count_lines_spec : {M : Type 1} → statement M
 count_lines_spec =
     tie.close (tie.spec invariant-loop decreases-loop (λ c. omega arith) (λ c. (omega arith, sym (count_start _))) (λ c κs. omega arith)
-    (λ c κs. search needs) add_differ (λ c. omega arith) (λ c. omega arith) loop_again returns)
+    (λ c κs. search rules) add_differ (λ c. omega arith) (λ c. omega arith) loop_again returns)

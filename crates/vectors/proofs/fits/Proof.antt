@@ -1,5 +1,5 @@
 -- `vectors::fits` meets its contract: the arms are the definition's cases.
-use Rattle.laws.proofs.Basics.{◌≡◌, ◌∙◌, false, cond, ◌∷◌, [], ◌⊎◌, ⊎_elim, inl, inr, ℕ, ◌<◌, arith, ltb, needs, lt-ltb, le-ltb, ne_eqb}
+use Rattle.laws.proofs.Basics.{◌≡◌, ◌∙◌, false, cond, ◌∷◌, [], ◌⊎◌, ⊎_elim, inl, inr, ℕ, ◌<◌, arith, ltb, rules, lt-ltb, le-ltb, ne_eqb}
 use Prim.{⊥}
 use types.Run.{OneOf}
 use Rattle.vectors.specs.Vectors.{parts}
@@ -28,6 +28,6 @@ returns_5 c =
 
 pub fits_spec : {M : Type 1} → statement M
 fits_spec =
-    tie.close (tie.spec (λ c κs. search needs) (λ c κs. search needs) (λ c κs. search needs)
+    tie.close (tie.spec (λ c κs. search rules) (λ c κs. search rules) (λ c κs. search rules)
     (λ c. ⊎_elim (λ e. rw e) (⊎_elim (λ e. rw e) (⊎_elim (λ e. rw e) (λ e. rw e))) c.match.keys1)
     (λ c. c.is-decimal.ensures ∙ rw c.before.match.keys2) (λ c. rw c.match.keys3) returns_4 returns_5)

@@ -1,5 +1,5 @@
 -- `vectors::hex` meets its contract: after i digits the value is what they spell, below 16^i.
-use Rattle.laws.proofs.Basics.{◌≡◌, refl, List, ℕ, ◌+◌, ◌*◌, ◌-◌, ◌^◌, ◌≤◌, ◌<◌, add-one, arith, get_or, needs}
+use Rattle.laws.proofs.Basics.{◌≡◌, refl, List, ℕ, ◌+◌, ◌*◌, ◌-◌, ◌^◌, ◌≤◌, ◌<◌, add-one, arith, get_or, rules}
 use native.Mathlib.Nat.{pow-succ', pow-le-pow_right}
 use Rattle.vectors.specs.Vectors.{hex_of, nibble_of}
 use Rattle.vectors.proofs.hex.Statement.{statement}
@@ -29,7 +29,7 @@ pub hex_spec : {M : Type 1} → statement M
 unfolding hex_of
 hex_spec =
     tie.close (tie.spec invariant-loop decreases-loop (λ c. record { read = omega arith; spells = refl; small = omega arith })
-    (λ c. omega (arith, room _ c.before.loop.invariant.small (omega arith))) (λ c. omega arith) (λ c. omega arith) (λ c κs. search needs)
+    (λ c. omega (arith, room _ c.before.loop.invariant.small (omega arith))) (λ c. omega arith) (λ c. omega arith) (λ c κs. search rules)
     (λ c. omega (arith, room _ c.before.before.before.loop.invariant.small (omega arith))) (λ c. omega arith) (λ c. omega arith)
     (λ c. one_more _ _ _ c.before.before.before.loop.invariant (omega arith) c.nibble.ensures.0 c.nibble.ensures.1)
     (λ c. let e : c.before.loop.i ≡ c.before.before.before.args.n = omega arith in (rw e at c.before.loop.invariant.spells, rw e at c.before.loop.invariant.small)))

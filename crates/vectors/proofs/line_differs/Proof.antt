@@ -1,5 +1,5 @@
 -- `vectors::line_differs` meets its contract, test by test.
-use Rattle.laws.proofs.{Basics.{ap, ◌∙◌, needs, eq-eqb}, Tests.{tests}}
+use Rattle.laws.proofs.{Basics.{ap, ◌∙◌, rules, eq-eqb}, Tests.{tests}}
 use borrow.Author.Tests.{not-true, not-false}
 use Rattle.vectors.specs.Vectors.{differs_in}
 use Rattle.vectors.proofs.line_differs.Statement.{statement}
@@ -12,6 +12,6 @@ returns_3 c =
 
 pub line_differs_spec : {M : Type 1} → statement M
 line_differs_spec =
-    tie.close (tie.spec (λ c. search tests) (λ c κs. search needs)
+    tie.close (tie.spec (λ c. search tests) (λ c κs. search rules)
     (λ c. rw (eq-eqb _ _ c.before.before.if1.false, ← c.before.well-formed-2.ensures, not-true c.before.well-formed-2.result c.if2.true))
-    (λ c κs. search needs) (λ c κs. search needs) returns_3)
+    (λ c κs. search rules) (λ c κs. search rules) returns_3)

@@ -1,5 +1,5 @@
 -- `vectors::report` meets its contract: nine texts, one after another, and the sums of the counts.
-use Rattle.laws.proofs.Basics.{ℕ, ◌≤◌, arith, needs}
+use Rattle.laws.proofs.Basics.{ℕ, ◌≤◌, arith, rules}
 use Rattle.printing.proofs.Texts.{appended_then, appended_take, appended_size, counts}
 use Rattle.vectors.specs.declared.Page.{Page}
 use Rattle.vectors.proofs.report.Statement.{statement}
@@ -57,8 +57,8 @@ returns c =
 
 pub report_spec : {M : Type 1} → statement M
 report_spec =
-    tie.close (tie.spec (λ c. search needs) (λ c κs. search needs) (λ c. search needs)
-    (λ c κs. search needs) (λ c. search needs) (λ c κs. search needs) (λ c. search needs)
-    (λ c κs. search needs) (λ c. search needs) (λ c κs. omega (arith, within_3 c.before.before)) (λ c. search needs)
-    (λ c κs. omega (arith, within_4 c.before.before)) (λ c. search needs) (λ c κs. omega (arith, within_5 c.before.before)) (λ c. search needs)
+    tie.close (tie.spec (λ c. search rules) (λ c κs. search rules) (λ c. search rules)
+    (λ c κs. search rules) (λ c. search rules) (λ c κs. search rules) (λ c. search rules)
+    (λ c κs. search rules) (λ c. search rules) (λ c κs. omega (arith, within_3 c.before.before)) (λ c. search rules)
+    (λ c κs. omega (arith, within_4 c.before.before)) (λ c. search rules) (λ c κs. omega (arith, within_5 c.before.before)) (λ c. search rules)
     (λ c κs. omega (arith, within_6 c.before.before)) (λ c κs. omega (arith, within_7 c.before)) returns)

@@ -1,5 +1,5 @@
 -- `vectors::well_formed` meets its contract: the bytes so far fit, and one that does not settles it.
-use Rattle.laws.proofs.Basics.{◌≡◌, refl, sym, ◌∙◌, true, false, List, ⊎_elim, ℕ, zero, suc, ◌+◌, ◌-◌, ◌≤◌, ◌<◌, add-one, arith, get_or, needs}
+use Rattle.laws.proofs.Basics.{◌≡◌, refl, sym, ◌∙◌, true, false, List, ⊎_elim, ℕ, zero, suc, ◌+◌, ◌-◌, ◌≤◌, ◌<◌, add-one, arith, get_or, rules}
 use native.Mathlib.Nat.{eq-or-lt_of_le}
 use borrow.Author.Tests.{not-true, not-false}
 use Rattle.vectors.specs.Vectors.{is_root, line_fits, formed_upto}
@@ -34,7 +34,7 @@ told c = rw (← c.before.before.before.before.is-root.ensures) (sym c.line-fits
 
 pub well_formed_spec : {M : Type 1} → statement M
 well_formed_spec =
-    tie.close (tie.spec invariant-loop decreases-loop (λ c κs. search needs) loop_holds (λ c. omega arith) (λ c κs. search needs)
+    tie.close (tie.spec invariant-loop decreases-loop (λ c κs. search rules) loop_holds (λ c. omega arith) (λ c κs. search rules)
     (λ c. settled _ _ c.before.before.before.before.loop.invariant.1 56 (omega arith) (told c.before ∙ not-true _ c.if1.true)) (λ c. omega arith) (λ c. omega arith)
     (λ c. (omega arith, one_more _ _ c.before.before.before.before.loop.invariant.1 (told c.before ∙ not-false _ c.if1.false)))
     (λ c. let e : c.before.loop.i ≡ 56 = omega arith in sym (rw e at c.before.loop.invariant.1)))

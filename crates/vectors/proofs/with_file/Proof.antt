@@ -1,5 +1,5 @@
 -- `vectors::with_file` meets its contract: nothing, or one line more. What is told of a file is small.
-use Rattle.laws.proofs.{Basics.{◌≡◌, refl, sym, subst, ◌∙◌, Bool, true, false, cond, List, ℕ, ◌≤◌, arith, leb, length, take, length-take, needs, leb-false}, Counting.{count_most}}
+use Rattle.laws.proofs.{Basics.{◌≡◌, refl, sym, subst, ◌∙◌, Bool, true, false, cond, List, ℕ, ◌≤◌, arith, leb, length, take, length-take, rules, leb-false}, Counting.{count_most}}
 use Rattle.printing.proofs.Texts.{appended_none}
 use Rattle.vectors.specs.{Vectors.{Ran, counts_of, differs_at, lines_in}, declared.Counts.{Counts}, declared.FileRun.{FileRun}, declared.FileRun.TheVariants.{Unread, Counted}}
 use Rattle.vectors.proofs.with_file.Statement.{statement}
@@ -43,5 +43,5 @@ returns_2 c =
 
 pub with_file_spec : {M : Type 1} → statement M
 with_file_spec =
-    tie.close (tie.spec (λ c κs. search needs) (λ c. search needs) (λ c κs. search needs) (λ c. search needs) with_counts_requires
-    returns (λ c. search needs) returns_2)
+    tie.close (tie.spec (λ c κs. search rules) (λ c. search rules) (λ c κs. search rules) (λ c. search rules) with_counts_requires
+    returns (λ c. search rules) returns_2)

@@ -1,5 +1,5 @@
 -- `bytes_of` meets its contract: two digits a byte, the last byte first.
-use Rattle.laws.proofs.Basics.{arith, needs}
+use Rattle.laws.proofs.Basics.{arith, rules}
 use Rattle.division.proofs.{PackedBytes.{SetFrom, set_none, set_more, set_all}, packed.bytes_of.Statement.{statement}}
 use Rattle.division.proofs.packed.bytes_of.Tie as tie
 
@@ -11,6 +11,6 @@ decreases-loop number bytes₀ rest₀ i₀ bytes rest i = i
 
 pub bytes_of_spec : {M : Type 1} → statement M
 bytes_of_spec =
-    tie.close (tie.spec invariant-loop decreases-loop (λ c. set_none _) (λ c. search needs) (λ c. search needs) (λ c. search needs)
-    (λ c. search needs) (λ c. search needs) (λ c. search needs) (λ c. set_more c.before.loop.invariant (omega arith))
+    tie.close (tie.spec invariant-loop decreases-loop (λ c. set_none _) (λ c. search rules) (λ c. search rules) (λ c. search rules)
+    (λ c. search rules) (λ c. search rules) (λ c. search rules) (λ c. set_more c.before.loop.invariant (omega arith))
     (λ c. set_all c.before.loop.invariant (omega arith)))

@@ -1,5 +1,5 @@
 -- `divide_packed` meets its contract: 15, then 5, or else the division of the two numbers.
-use Rattle.laws.proofs.Basics.{sym, ◌∙◌, arith, needs}
+use Rattle.laws.proofs.Basics.{sym, ◌∙◌, arith, rules}
 use Rattle.division.proofs.{PackedCalls.{byte_refused, zero_refused, none_refused}, packed.divide_packed.Statement.{statement}}
 use Rattle.division.proofs.packed.divide_packed.Tie as tie
 
@@ -23,5 +23,5 @@ returns_3 c =
 
 pub divide_packed_spec : {M : Type 1} → statement M
 divide_packed_spec =
-    tie.close (tie.spec (λ c κs. search needs) (λ c κs. search needs) (λ c κs. search needs) returns (λ c κs. search needs) returns_2
-    (λ c κs. search needs) (λ c κs. search needs) (λ c κs. search needs) returns_3)
+    tie.close (tie.spec (λ c κs. search rules) (λ c κs. search rules) (λ c κs. search rules) returns (λ c κs. search rules) returns_2
+    (λ c κs. search rules) (λ c κs. search rules) (λ c κs. search rules) returns_3)

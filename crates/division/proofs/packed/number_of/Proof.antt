@@ -1,5 +1,5 @@
 -- `number_of` meets its contract: two digits a byte, and no product overflows, also where a half byte is above 9.
-use Rattle.laws.proofs.Basics.{◌≡◌, refl, List, ℕ, ◌+◌, ◌-◌, ◌*◌, ◌^◌, ◌≤◌, add-one, arith, needs}
+use Rattle.laws.proofs.Basics.{◌≡◌, refl, List, ℕ, ◌+◌, ◌-◌, ◌*◌, ◌^◌, ◌≤◌, add-one, arith, rules}
 use Rattle.std.proofs.Common.{pow-suc}
 use native.Mathlib.Nat.{pow-le-pow_right}
 use Rattle.division.specs.Packed.{number_to}
@@ -28,6 +28,6 @@ pub number_of_spec : {M : Type 1} → statement M
 unfolding number_to
 number_of_spec =
     tie.close (tie.spec invariant-loop decreases-loop (λ c. record { within = omega arith; is = refl; small = omega arith })
-    (λ c. omega (arith, pow-le-pow_right {n = 100} (omega arith) {i = c.before.loop.i} {j = 7} (omega arith))) (λ c. search needs) (λ c κs. search needs)
+    (λ c. omega (arith, pow-le-pow_right {n = 100} (omega arith) {i = c.before.loop.i} {j = 7} (omega arith))) (λ c. search rules) (λ c κs. search rules)
     (λ c. omega (arith, pow-le-pow_right {n = 100} (omega arith) {i = c.before.before.loop.i} {j = 7} (omega arith)))
     (λ c. omega arith) (λ c. omega arith) loop_again (λ c. let e : c.before.loop.i ≡ 8 = omega arith in rw e at c.before.loop.invariant.is))

@@ -1,6 +1,6 @@
 -- `comparison_of` meets its contract: the whole parts or the remainders tell, or the next two ratios compare alike, over a smaller sum of their divisors.
 use Rattle.std.proofs.Common.{pos_of_ne-zero}
-use Rattle.laws.proofs.Basics.{◌≡◌, refl, sym, ◌∙◌, ◌+◌, ◌*◌, arith, needs}
+use Rattle.laws.proofs.Basics.{◌≡◌, refl, sym, ◌∙◌, ◌+◌, ◌*◌, arith, rules}
 use Rattle.division.specs.computed.Ratios.{Ratios, Round, comparison_of}
 use Rattle.division.proofs.{Ratios.{code_round, round_next}, ratio.comparison_of.Statement.{statement}}
 use Rattle.division.proofs.ratio.comparison_of.Tie as tie
@@ -30,7 +30,7 @@ loop_again c =
 
 pub comparison_of_spec : {M : Type 1} → statement M
 comparison_of_spec =
-    tie.close (tie.spec invariant-loop decreases-loop (λ c. (c.requires, refl)) (λ c κs. search needs) (λ c κs. search needs)
+    tie.close (tie.spec invariant-loop decreases-loop (λ c. (c.requires, refl)) (λ c κs. search rules) (λ c κs. search rules)
     (λ c. let k = c.before.before.before in sym ((turn k).less c.if1.true) ∙ k.before.before.loop.invariant.1)
     (λ c. let e = c.before.before.before in let k = e.before.before.before in sym ((turn k).greater c.if2.true) ∙ k.before.before.loop.invariant.1)
     (λ c. let k = both c.before.before.before.before in sym ((turn k).both_end (omega arith) c.before.before.if3.true c.if4.true) ∙ k.before.before.loop.inv.1)

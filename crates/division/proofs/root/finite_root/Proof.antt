@@ -1,5 +1,5 @@
 -- `finite_root` meets its contract: 54 digits of the significand, rounded once.
-use Rattle.laws.proofs.Basics.{arith, needs}
+use Rattle.laws.proofs.Basics.{arith, rules}
 use Rattle.division.proofs.{RootCalls.{word_is, root_below, rounded_ready, finite_root_is}, root.finite_root.Statement.{statement}}
 use Rattle.division.proofs.root.finite_root.Tie as tie
 
@@ -17,6 +17,6 @@ returns c =
 
 pub finite_root_spec : {M : Type 1} → statement M
 finite_root_spec =
-    tie.close (tie.spec (λ c κs. search needs) (λ c. search needs)
+    tie.close (tie.spec (λ c κs. search rules) (λ c. search rules)
     (λ c κs. let s = c.before.before in ((word_is s.before.args.p _ s.before.requires.0 s.significand.ensures.0).1, omega arith, omega arith))
-    (λ c κs. root_below c.before.root-digits.ensures) (λ c κs. search needs) (λ c. search needs) rounded_result_requires returns)
+    (λ c κs. root_below c.before.root-digits.ensures) (λ c κs. search rules) (λ c. search rules) rounded_result_requires returns)

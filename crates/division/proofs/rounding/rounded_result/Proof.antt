@@ -1,5 +1,5 @@
 -- `rounded_result` meets its contract: the pattern overflows exactly where the magnitude does.
-use Rattle.laws.proofs.Basics.{sym, arith, needs}
+use Rattle.laws.proofs.Basics.{sym, arith, rules}
 use Rattle.division.proofs.{RoundedResults.{rounded_near, sign_le, huge_le, result_over, result_fits}, rounding.rounded_result.Statement.{statement}}
 use Rattle.division.proofs.rounding.rounded_result.Tie as tie
 
@@ -18,7 +18,7 @@ returns_2 c =
 
 pub rounded_result_spec : {M : Type 1} → statement M
 rounded_result_spec =
-    tie.close (tie.spec (λ c κs. search needs) (λ c κs. search needs) (λ c. search needs)
-    (λ c. let a = c.before.before.args in omega (arith, rounded_near a.mode a.k a.tail)) (λ c κs. search needs)
-    (λ c. let a = c.before.before.before.before.args in omega (arith, sign_le a.negative, huge_le a.mode)) (λ c. search needs)
-    (λ c. omega (arith, sign_le c.before.before.before.args.negative)) (λ c κs. search needs) returns returns_2)
+    tie.close (tie.spec (λ c κs. search rules) (λ c κs. search rules) (λ c. search rules)
+    (λ c. let a = c.before.before.args in omega (arith, rounded_near a.mode a.k a.tail)) (λ c κs. search rules)
+    (λ c. let a = c.before.before.before.before.args in omega (arith, sign_le a.negative, huge_le a.mode)) (λ c. search rules)
+    (λ c. omega (arith, sign_le c.before.before.before.args.negative)) (λ c κs. search rules) returns returns_2)

@@ -1,5 +1,5 @@
 -- `digits_after` meets its contract: there are four zeros at least above a number below 2^60.
-use Rattle.laws.proofs.Basics.{◌≡◌, ℕ, ◌^◌, ◌≤◌, ◌<◌, refl, arith, needs}
+use Rattle.laws.proofs.Basics.{◌≡◌, ℕ, ◌^◌, ◌≤◌, ◌<◌, refl, arith, rules}
 use Rattle.division.specs.computed.WholeSteps.{digits_after, DigitCount}
 use Rattle.division.proofs.{WholeThrough.{room_above, after_bounds}, whole.digits_after.Statement.{statement}}
 use Rattle.division.proofs.whole.digits_after.Tie as tie
@@ -11,4 +11,4 @@ counted a s h l e = let b = after_bounds a s h l in rw e (record { is = refl; fe
 pub digits_after_spec : {M : Type 1} → statement M
 digits_after_spec =
     tie.close (tie.spec (λ c. omega (arith, (room_above c.args.a c.requires.0).0)) (λ c. counted _ _ c.before.requires.0 c.before.requires.1 (omega arith))
-    (λ c. search needs) (λ c. search needs) (λ c. counted _ _ c.before.requires.0 c.before.requires.1 (omega arith)))
+    (λ c. search rules) (λ c. search rules) (λ c. counted _ _ c.before.requires.0 c.before.requires.1 (omega arith)))

@@ -1,5 +1,5 @@
 -- `printing::input::read_input` meets its contract: a read brings no more bytes than there is room for.
-use Rattle.laws.proofs.Basics.{◌≡◌, refl, ◌∙◌, ◌-◌, ◌≤◌, arith, length, needs}
+use Rattle.laws.proofs.Basics.{◌≡◌, refl, ◌∙◌, ◌-◌, ◌≤◌, arith, length, rules}
 use Rattle.io.specs.Counts.{IsPrefixLen}
 use Rattle.printing.proofs.{SystemCalls.{few}, Texts.{counts}, input.read_input.Statement.{statement}}
 use Rattle.printing.proofs.input.read_input.Tie as tie
@@ -27,7 +27,7 @@ fits c =
 pub read_input_spec : {M : Type 1} → statement M
 read_input_spec =
     tie.close (tie.spec invariant-loop decreases-loop (λ c. (omega arith, refl)) (λ c κs. omega arith)
-    (λ c. let b = c.before.before in b.buffer.given ∙ (turn b).loop.invariant.1) (λ c. kept c.before.before) (λ c κs. search needs)
+    (λ c. let b = c.before.before in b.buffer.given ∙ (turn b).loop.invariant.1) (λ c. kept c.before.before) (λ c κs. search rules)
     (λ c. let b = c.before.before.before.before.before in b.buffer.given ∙ (turn b).loop.invariant.1) (λ c. kept c.before.before.before.before.before)
     (λ c. omega (arith, fits c.before)) (λ c. omega (arith, fits c.before, c.before.before.before.before.before.buffer.given))
     (λ c. omega (arith, fits c.before, c.before.before.before.before.before.buffer.given))

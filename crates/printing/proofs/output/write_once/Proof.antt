@@ -1,10 +1,10 @@
 -- `printing::output::write_once` meets its contract: what is lent are the bytes from the index on.
-use Rattle.laws.proofs.Basics.{needs}
+use Rattle.laws.proofs.Basics.{rules}
 use mir.Facts.{to_z-of_z}
 use Rattle.printing.proofs.{SystemCalls.{rest_length}, output.write_once.Statement.{statement}}
 use Rattle.printing.proofs.output.write_once.Tie as tie
 
 pub write_once_spec : {M : Type 1} → statement M
 write_once_spec =
-    tie.close (tie.spec (λ c. search needs) (λ c. search needs) (λ c. search needs) (λ c κs. search needs)
+    tie.close (tie.spec (λ c. search rules) (λ c. search rules) (λ c. search rules) (λ c κs. search rules)
     (λ c. let got = c.write in rw (to_z-of_z (record { sfits = got.type-inv })) (rw rest_length at got.ensures)))

@@ -1,5 +1,5 @@
 -- `printing::text::append_number` meets its contract: what `io::decimal` makes is the number in decimal, of at most 20 digits.
-use Rattle.laws.proofs.Basics.{◌≤◌, ◌∙◌, arith, needs}
+use Rattle.laws.proofs.Basics.{◌≤◌, ◌∙◌, arith, rules}
 use Rattle.printing.proofs.{Decimals.{decimal_count, decimal_is}, Texts.{appended_then, appended_as}, text.append_number.Statement.{statement}}
 use Rattle.printing.proofs.text.append_number.Tie as tie
 
@@ -16,7 +16,7 @@ returns c =
 
 pub append_number_spec : {M : Type 1} → statement M
 append_number_spec =
-    tie.close (tie.spec (λ c κs. search needs) (λ c. search needs) (λ c. search needs)
+    tie.close (tie.spec (λ c κs. search rules) (λ c. search rules) (λ c. search rules)
     (λ c κs. omega (arith, c.before.before.decimal.ensures.0.1, few c.before.before))
     (λ c κs. let a = c.before.before.before in let d = a.before.before.before in omega (arith, a.append.ensures.past, d.decimal.ensures.0.1, few d))
-    (λ c. search needs) returns)
+    (λ c. search rules) returns)

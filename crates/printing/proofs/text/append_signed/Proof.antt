@@ -1,5 +1,5 @@
 -- `printing::text::append_signed` meets its contract: below zero a sign goes first, and the magnitude's digits follow.
-use Rattle.laws.proofs.Basics.{arith, needs}
+use Rattle.laws.proofs.Basics.{arith, rules}
 use Rattle.printing.proofs.{Signs.{with_sign, without_sign}, Texts.{appended_then, appended_as}, text.append_signed.Statement.{statement}}
 use Rattle.printing.proofs.text.append_signed.Tie as tie
 
@@ -20,6 +20,6 @@ returns_2 c =
 
 pub append_signed_spec : {M : Type 1} → statement M
 append_signed_spec =
-    tie.close (tie.spec (λ c. search needs) (λ c κs. search needs) (λ c κs. search needs)
-    (λ c κs. search needs) (λ c. search needs) returns (λ c κs. search needs) (λ c κs. search needs)
-    (λ c. search needs) returns_2)
+    tie.close (tie.spec (λ c. search rules) (λ c κs. search rules) (λ c κs. search rules)
+    (λ c κs. search rules) (λ c. search rules) returns (λ c κs. search rules) (λ c κs. search rules)
+    (λ c. search rules) returns_2)

@@ -1,5 +1,5 @@
 -- `recheck_row` meets its contract: a turn whose step does not stray makes the run's next step.
-use Rattle.laws.proofs.Basics.{needs, ◌≡◌, arith, ℕ, ◌≤◌, ◌<◌, ◌-◌, List}
+use Rattle.laws.proofs.Basics.{rules, ◌≡◌, arith, ℕ, ◌≤◌, ◌<◌, ◌-◌, List}
 use Rattle.selection.specs.{Cell.{row}, declared.Estimate.{Estimate}, computed.Table.{row_bytes}}
 use Rattle.recurrence.specs.computed.FastRun.{mask_of, StepReady}
 use Rattle.recurrence.proofs.{RecheckRow.{Followed, row_size, followed_start, followed_above, followed_strayed, followed_more, followed_all, column_below}, Loop.{stands_divisor, stands_ready}}
@@ -70,9 +70,9 @@ loop_again c =
 
 pub recheck_row_spec : {M : Type 1} → statement M
 recheck_row_spec =
-    tie.close (tie.spec invariant-loop decreases-loop (λ c κs. search needs) (λ c κs. search needs) (λ c κs. search needs)
-    (λ c κs. search needs) (λ c κs. search needs) loop_holds
+    tie.close (tie.spec invariant-loop decreases-loop (λ c κs. search rules) (λ c κs. search rules) (λ c κs. search rules)
+    (λ c κs. search rules) (λ c κs. search rules) loop_holds
     (λ c. omega (arith, column_below _ _ _ _ (followed c.before.before), row_size (start c.before.before).pre.0))
     (λ c t e. followed_above _ t _ _ (standing c.before.before.before t e) e c.if1.true c.before.before.loop-test.true)
-    (λ c. omega arith) left_by_requires returns_2 (λ c κs. search needs) (λ c κs. let k = c.before.before.before.before.before in (k.if1.false, ready k.before.before.before))
+    (λ c. omega arith) left_by_requires returns_2 (λ c κs. search rules) (λ c κs. let k = c.before.before.before.before.before in (k.if1.false, ready k.before.before.before))
     (λ c. omega (arith, turn c, start (at c))) (λ c. omega (arith, turn c)) loop_again (λ c t e. followed_all _ t _ _ (standing c.before t e) (omega (arith, c.before.loop.invariant.0))))

@@ -1,4 +1,4 @@
-use Rattle.laws.proofs.Basics.{arith, ◌+◌, ◌*◌, ◌/◌, ◌^◌, ◌≤◌, needs}
+use Rattle.laws.proofs.Basics.{arith, ◌+◌, ◌*◌, ◌/◌, ◌^◌, ◌≤◌, rules}
 use Rattle.std.proofs.Common.{mul-le-mul_right}
 use Rattle.recurrence.proofs.state.corrected.Statement.{statement}
 use Rattle.recurrence.proofs.state.corrected.Tie as tie
@@ -11,6 +11,6 @@ mul_wrapping_add_u64 c =
 
 pub corrected_spec : {M : Type 1} → statement M
 corrected_spec =
-    tie.close (tie.spec (λ c κs. search needs) (λ c. search needs)
-    mul_wrapping_add_u64 (λ c κs. search needs)
+    tie.close (tie.spec (λ c κs. search rules) (λ c. search rules)
+    mul_wrapping_add_u64 (λ c κs. search rules)
     (λ c. simp (c.wrapping-add-u64.ensures, c.before.choose.ensures)))

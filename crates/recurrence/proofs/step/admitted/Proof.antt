@@ -1,4 +1,4 @@
-use Rattle.laws.proofs.Basics.{needs, refl, ◌∙◌}
+use Rattle.laws.proofs.Basics.{rules, refl, ◌∙◌}
 use Rattle.recurrence.proofs.{Rows.{row_of, row_digits}, step.admitted.Statement.{statement}}
 use Rattle.recurrence.proofs.step.admitted.Tie as tie
 
@@ -18,4 +18,4 @@ returns c =
 
 pub admitted_spec : {M : Type 1} → statement M
 admitted_spec =
-    tie.close (tie.spec (λ c κs. search needs) (λ c κs. search needs) (λ c κs. search needs) next_requires returns)
+    tie.close (tie.spec (λ c κs. search rules) (λ c κs. search rules) (λ c κs. search rules) next_requires returns)

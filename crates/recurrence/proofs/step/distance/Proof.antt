@@ -1,6 +1,6 @@
-use Rattle.laws.proofs.{Basics.{needs, arith, ◌^◌, le-ltb}, Tests.{tests}}
+use Rattle.laws.proofs.{Basics.{rules, arith, ◌^◌, le-ltb}, Tests.{tests}}
 use Rattle.recurrence.proofs.step.distance.Statement.{statement}
 use Rattle.recurrence.proofs.step.distance.Tie as tie
 
 pub distance_spec : {M : Type 1} → statement M
-distance_spec = tie.close (tie.spec (λ c. search tests) (λ c. search needs) (λ c. rw (le-ltb c.before.args.word (2 ^ 63) c.if1.false) (omega arith)))
+distance_spec = tie.close (tie.spec (λ c. search tests) (λ c. search rules) (λ c. rw (le-ltb c.before.args.word (2 ^ 63) c.if1.false) (omega arith)))

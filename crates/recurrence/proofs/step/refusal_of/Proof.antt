@@ -1,5 +1,5 @@
 -- `step::refusal_of` meets its contract: 3, then 14.
-use Rattle.laws.proofs.{Basics.{needs, ⊎_elim, sym, ◌∙◌, arith, ◌+◌, ◌*◌, ◌/◌, ◌%◌, ◌^◌, ◌≤◌, ◌<◌, ltb-false}, Tests.{tests}}
+use Rattle.laws.proofs.{Basics.{rules, ⊎_elim, sym, ◌∙◌, arith, ◌+◌, ◌*◌, ◌/◌, ◌%◌, ◌^◌, ◌≤◌, ◌<◌, ltb-false}, Tests.{tests}}
 use Rattle.recurrence.specs.computed.{Step.{step_rules}, FastRun.{distance_of}}
 use Rattle.recurrence.proofs.{StepRange.{outside, inside, by_range, by_neither}, step.refusal_of.Statement.{statement}}
 use Rattle.recurrence.proofs.step.refusal_of.Tie as tie
@@ -20,5 +20,5 @@ returns_3 c =
 pub refusal_of_spec : {M : Type 1} → statement M
 unfolding step_rules
 refusal_of_spec =
-    tie.close (tie.spec (λ c κs. search needs) (λ c. ⊎_elim (λ w. search tests) (λ w. search tests) c.before.if1.branch)
-    (λ c. omega (arith, ltb-false)) (λ c κs. search needs) (λ c κs. search needs) (λ c κs. search needs) returns_2 returns_3)
+    tie.close (tie.spec (λ c κs. search rules) (λ c. ⊎_elim (λ w. search tests) (λ w. search tests) c.before.if1.branch)
+    (λ c. omega (arith, ltb-false)) (λ c κs. search rules) (λ c κs. search rules) (λ c κs. search rules) returns_2 returns_3)

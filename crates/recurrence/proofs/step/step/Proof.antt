@@ -1,5 +1,5 @@
 -- `step::step` meets its contract: the arguments' refusal, then the table's, else the run's step.
-use Rattle.laws.proofs.Basics.{needs, sym, ap, ◌∙◌}
+use Rattle.laws.proofs.Basics.{rules, sym, ap, ◌∙◌}
 use Rattle.selection.{proofs.TableRefusals.{admitted_both, first_lent}, specs.declared.Estimate.TheVariants.{EightBits}}
 use Rattle.recurrence.specs.{computed.FastRun.{state_of}, declared.state.RunState.{RunState}, computed.Step.{step_values}}
 use Rattle.recurrence.proofs.{StepRange.{step_span}, step.step.Statement.{statement}}
@@ -23,6 +23,6 @@ returns_2 c =
 
 pub step_spec : {M : Type 1} → statement M
 step_spec =
-    tie.close (tie.spec (λ c κs. search needs) (λ c κs. search needs) (λ c. search needs)
-    (λ c κs. search needs) (λ c. search needs) admitted_requires (λ c κs. search needs) returns
+    tie.close (tie.spec (λ c κs. search rules) (λ c κs. search rules) (λ c. search rules)
+    (λ c κs. search rules) (λ c. search rules) admitted_requires (λ c κs. search rules) returns
     returns_2)

@@ -1,5 +1,5 @@
 -- `count_visits` meets its contract: the arguments' refusal, then the table's, else the visits.
-use Rattle.laws.proofs.Basics.{refl, sym, ◌∙◌, needs}
+use Rattle.laws.proofs.Basics.{refl, sym, ◌∙◌, rules}
 use Rattle.selection.{proofs.TableRefusals.{admitted_both, first_lent}, specs.declared.Estimate.TheVariants.{EightBits}}
 use Rattle.recurrence.proofs.{VisitCounts.{visits_spans}, visits.count_visits.Statement.{statement}}
 use Rattle.recurrence.proofs.visits.count_visits.Tie as tie
@@ -22,5 +22,5 @@ returns_2 c =
 
 pub count_visits_spec : {M : Type 1} → statement M
 count_visits_spec =
-    tie.close (tie.spec (λ c κs. search needs) (λ c κs. search needs) (λ c. search needs)
-    (λ c. search needs) visit_all_requires returns (λ c. search needs) returns_2)
+    tie.close (tie.spec (λ c κs. search rules) (λ c κs. search rules) (λ c. search rules)
+    (λ c. search rules) visit_all_requires returns (λ c. search rules) returns_2)

@@ -1,4 +1,4 @@
-use Rattle.laws.proofs.Basics.{needs, arith, ◌+◌, ◌*◌, ◌-◌}
+use Rattle.laws.proofs.Basics.{rules, arith, ◌+◌, ◌*◌, ◌-◌}
 use Rattle.recurrence.specs.computed.VisitSteps.{visits_by_divisors, visits_by_pairs}
 use Rattle.recurrence.proofs.{Visiting.{Turned, turned_none, turned_more, turned_all, turned_room, divisors_most, placed_span}, visits.visit_pairs.Statement.{statement}}
 use Rattle.recurrence.proofs.visits.visit_pairs.Tie as tie
@@ -18,7 +18,7 @@ visit_divisors_requires c κs =
 pub visit_pairs_spec : {M : Type 1} → statement M
 unfolding visits_by_pairs
 visit_pairs_spec =
-    tie.close (tie.spec invariant-loop decreases-loop (λ c. turned_none _) (λ c. search needs)
-    (λ c. omega (arith, (placed_span c.before.loop.x c.before.before.before.before.requires.1 c.loop-test.true).1)) visit_divisors_requires (λ c. search needs) (λ c. omega arith)
+    tie.close (tie.spec invariant-loop decreases-loop (λ c. turned_none _) (λ c. search rules)
+    (λ c. omega (arith, (placed_span c.before.loop.x c.before.before.before.before.requires.1 c.loop-test.true).1)) visit_divisors_requires (λ c. search rules) (λ c. omega arith)
     (λ c. let v = c.before.before in let w = v.before.before in turned_more w.before.loop.invariant w.loop-test.true v.visit-divisors.ensures)
     (λ c. c.before.loop.invariant.added.size) (λ c. turned_all c.before.loop.invariant c.loop-test.false))

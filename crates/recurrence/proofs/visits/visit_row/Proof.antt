@@ -1,4 +1,4 @@
-use Rattle.laws.proofs.Basics.{needs, ◌≡◌, arith, ℕ, ◌+◌, ◌<◌, ◌-◌, List}
+use Rattle.laws.proofs.Basics.{rules, ◌≡◌, arith, ℕ, ◌+◌, ◌<◌, ◌-◌, List}
 use Rattle.selection.specs.{Cell.{row}, computed.Table.{row_bytes}, declared.Estimate.TheVariants.{EightBits}}
 use Rattle.recurrence.specs.computed.Visits.{run_visits}
 use Rattle.recurrence.proofs.{Loop.{stands_divisor, stands_ready}, Rows.{row_digits}, Visiting.{turned_all, Visited, visited_none, visited_more, visited_room, cell_small}}
@@ -49,7 +49,7 @@ loop_again c t is =
 pub visit_row_spec : {M : Type 1} → statement M
 unfolding run_visits
 visit_row_spec =
-    tie.close (tie.spec invariant-loop decreases-loop (λ c κs. search needs) (λ c κs. search needs) (λ c t is. visited_none t _ _ _ _ _ c.new.ensures) (λ c. omega (arith, small c.before)) (λ c. omega (arith, small c.before))
+    tie.close (tie.spec invariant-loop decreases-loop (λ c κs. search rules) (λ c κs. search rules) (λ c t is. visited_none t _ _ _ _ _ c.new.ensures) (λ c. omega (arith, small c.before)) (λ c. omega (arith, small c.before))
     slice_read_met add_visits (λ c. omega (arith, small c.before.before)) slice_read_met next_requires
     (λ c. omega arith) (λ c. omega arith) loop_again (λ c. (visited c.before).turned.added.size)
     (λ c t is. turned_all (c.before.loop.invariant t is).turned c.loop-test.false))

@@ -1,8 +1,8 @@
-use Rattle.laws.proofs.Basics.{needs}
+use Rattle.laws.proofs.Basics.{rules}
 use Rattle.recurrence.proofs.visits.visit_run.Statement.{statement}
 use Rattle.recurrence.proofs.visits.visit_run.Tie as tie
 
 pub visit_run_spec : {M : Type 1} → statement M
 visit_run_spec =
-    tie.close (tie.spec (λ c κs. search needs) (λ c κs. search needs) (λ c κs. search needs)
-    (λ c. search needs) (λ c. let v = c.before.before in v.visit-row.ensures _ v.before.before.before.row_of.ensures))
+    tie.close (tie.spec (λ c κs. search rules) (λ c κs. search rules) (λ c κs. search rules)
+    (λ c. search rules) (λ c. let v = c.before.before in v.visit-row.ensures _ v.before.before.before.row_of.ensures))

@@ -1,8 +1,8 @@
-use Rattle.laws.proofs.{Basics.{needs}, Tests.{tests}}
+use Rattle.laws.proofs.{Basics.{rules}, Tests.{tests}}
 use Rattle.selection.proofs.bits.admit_bits.Statement.{statement}
 use Rattle.selection.proofs.bits.admit_bits.Tie as tie
 
 pub admit_bits_spec : {M : Type 1} → statement M
 admit_bits_spec =
-    tie.close (tie.spec (λ c κs. search needs) (λ c. search (tests, c.refused.ensures))
-    (λ c κs. search needs) (λ c. search (tests, c.refused2.ensures)) (λ c. search tests))
+    tie.close (tie.spec (λ c κs. search rules) (λ c. search (tests, c.refused.ensures))
+    (λ c κs. search rules) (λ c. search (tests, c.refused2.ensures)) (λ c. search tests))

@@ -1,9 +1,9 @@
-use Rattle.laws.proofs.Basics.{sym, ◌∙◌, needs}
+use Rattle.laws.proofs.Basics.{sym, ◌∙◌, rules}
 use Rattle.selection.proofs.bits.check_table_for.Statement.{statement}
 use Rattle.selection.proofs.bits.check_table_for.Tie as tie
 
 pub check_table_for_spec : {M : Type 1} → statement M
 check_table_for_spec =
-    tie.close (tie.spec (λ c κs. search needs) (λ c. search needs) (λ c. search needs) (λ c κs. search needs) (λ c κs. search needs)
+    tie.close (tie.spec (λ c κs. search rules) (λ c. search rules) (λ c. search rules) (λ c κs. search rules) (λ c κs. search rules)
     (λ c. rw (sym c.before.before.before.admit-bits.ensures ∙ c.before.admission.given.1))
     (λ c. let k = c.before.before in rw (sym k.before.before.admit-bits.ensures ∙ k.enum_told.given.1, ← c.before.estimate-of.ensures) c.table-numbers.ensures))

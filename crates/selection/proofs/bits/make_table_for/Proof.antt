@@ -1,9 +1,9 @@
-use Rattle.laws.proofs.Basics.{sym, ◌∙◌, needs}
+use Rattle.laws.proofs.Basics.{sym, ◌∙◌, rules}
 use Rattle.selection.proofs.bits.make_table_for.Statement.{statement}
 use Rattle.selection.proofs.bits.make_table_for.Tie as tie
 
 pub make_table_for_spec : {M : Type 1} → statement M
 make_table_for_spec =
-    tie.close (tie.spec (λ c κs. search needs) (λ c. search needs) (λ c. search needs) (λ c κs. search needs) (λ c κs. search needs)
-    (λ c. rw (sym c.before.before.before.admit-bits.ensures ∙ c.before.admission.given.1)) (λ c. search needs)
+    tie.close (tie.spec (λ c κs. search rules) (λ c. search rules) (λ c. search rules) (λ c κs. search rules) (λ c κs. search rules)
+    (λ c. rw (sym c.before.before.before.admit-bits.ensures ∙ c.before.admission.given.1)) (λ c. search rules)
     (λ c. let s = c.before.before.before.before in rw (sym s.before.before.before.admit-bits.ensures ∙ s.before.enum_told.given.1, ← s.estimate-of.ensures) c.before.before.make-table.ensures))

@@ -1,11 +1,11 @@
-use Rattle.laws.proofs.Basics.{sym, ◌∙◌, needs}
+use Rattle.laws.proofs.Basics.{sym, ◌∙◌, rules}
 use Rattle.selection.proofs.bits.repair_table_for.Statement.{statement}
 use Rattle.selection.proofs.bits.repair_table_for.Tie as tie
 
 pub repair_table_for_spec : {M : Type 1} → statement M
 repair_table_for_spec =
-    tie.close (tie.spec (λ c κs. search needs) (λ c. search needs) (λ c. search needs) (λ c κs. search needs) (λ c κs. search needs)
-    (λ c. rw (sym c.before.before.before.admit-bits.ensures ∙ c.before.admission.given.1)) (λ c. search needs) (λ c. search needs)
+    tie.close (tie.spec (λ c κs. search rules) (λ c. search rules) (λ c. search rules) (λ c κs. search rules) (λ c κs. search rules)
+    (λ c. rw (sym c.before.before.before.admit-bits.ensures ∙ c.before.admission.given.1)) (λ c. search rules) (λ c. search rules)
     (λ c.
     let call = c.before.before.before.before in
     let s = call.before.before.before in

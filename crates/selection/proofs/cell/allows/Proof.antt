@@ -1,4 +1,4 @@
-use Rattle.laws.proofs.Basics.{not, ap, ◌∙◌, ◌+◌, needs}
+use Rattle.laws.proofs.Basics.{not, ap, ◌∙◌, ◌+◌, rules}
 use Rattle.selection.specs.computed.CellTest.{allows_by, has_point}
 use Rattle.selection.proofs.{CellTests.{BySum, by_sides, allowed_is}, cell.allows.Statement.{statement}}
 use Rattle.selection.proofs.cell.allows.Tie as tie
@@ -10,7 +10,7 @@ sides c =
 
 pub allows_spec : {M : Type 1} → statement M
 allows_spec =
-    tie.close (tie.spec (λ c κs. search needs) (λ c κs. search needs) (λ c κs. search needs) (λ c κs. search needs) (λ c. search needs)
+    tie.close (tie.spec (λ c κs. search rules) (λ c κs. search rules) (λ c κs. search rules) (λ c κs. search rules) (λ c. search rules)
     (λ c. let s = c.before.before.before.before.before.requires in allowed_is s.row s.column s.byte ((sides c.before).0 c.if1.true))
-    (λ c κs. search needs)
+    (λ c κs. search rules)
     (λ c. let p = c.before.before in let s = p.before.before.before.before.requires in allowed_is s.row s.column s.byte (ap not c.has-point.ensures ∙ (sides p).1 c.before.if1.false)))

@@ -1,5 +1,5 @@
 -- `row_multiples` meets its contract: each of the ten multiples is the call's that made it.
-use Rattle.laws.proofs.Basics.{refl, needs}
+use Rattle.laws.proofs.Basics.{refl, rules}
 use Rattle.selection.proofs.cell.row_multiples.Statement.{statement}
 use Rattle.selection.proofs.cell.row_multiples.Tie as tie
 
@@ -28,9 +28,9 @@ returns c =
 
 pub row_multiples_spec : {M : Type 1} → statement M
 row_multiples_spec =
-    tie.close (tie.spec (λ c. search needs) (λ c. search needs) (λ c. search needs)
-    (λ c. search needs) (λ c. search needs) (λ c. search needs) (λ c. search needs)
-    (λ c. search needs) (λ c. search needs) (λ c. search needs) (λ c. search needs)
-    (λ c κs. search needs) (λ c κs. search needs) (λ c κs. search needs) (λ c κs. search needs)
-    (λ c κs. search needs) (λ c κs. search needs) (λ c κs. search needs) (λ c κs. search needs)
-    (λ c κs. search needs) (λ c κs. search needs) returns)
+    tie.close (tie.spec (λ c. search rules) (λ c. search rules) (λ c. search rules)
+    (λ c. search rules) (λ c. search rules) (λ c. search rules) (λ c. search rules)
+    (λ c. search rules) (λ c. search rules) (λ c. search rules) (λ c. search rules)
+    (λ c κs. search rules) (λ c κs. search rules) (λ c κs. search rules) (λ c κs. search rules)
+    (λ c κs. search rules) (λ c κs. search rules) (λ c κs. search rules) (λ c κs. search rules)
+    (λ c κs. search rules) (λ c κs. search rules) returns)

@@ -1,4 +1,4 @@
-use Rattle.laws.proofs.Basics.{refl, sym, ◌∙◌, lt-ltb, le-ltb, needs}
+use Rattle.laws.proofs.Basics.{refl, sym, ◌∙◌, lt-ltb, le-ltb, rules}
 use Rattle.selection.specs.computed.CellTest.{low_divisor, high_divisor, low_at, high_at}
 use Rattle.selection.proofs.{CellTests.{Found, found_is}, cell.test_cell.Statement.{statement}}
 use Rattle.selection.proofs.cell.test_cell.Tie as tie
@@ -19,10 +19,10 @@ high c =
 
 pub test_cell_spec : {M : Type 1} → statement M
 test_cell_spec =
-    tie.close (tie.spec (λ c. search needs) (λ c κs. search needs) (λ c. sym (c.before.allows.ensures.1.0 c.if1.true)) (λ c κs. search needs)
-    (λ c κs. ((low c).column.0, (low c).column.1, search needs))
+    tie.close (tie.spec (λ c. search rules) (λ c κs. search rules) (λ c. sym (c.before.allows.ensures.1.0 c.if1.true)) (λ c κs. search rules)
+    (λ c κs. ((low c).column.0, (low c).column.1, search rules))
     (λ c κs. (rw c.low-divisor.ensures (low c.before).divisor, (low c.before).column.1))
     (λ c. rw (c.low-witness.ensures, c.before.low-divisor.ensures) (low c.before.before).answer)
     (λ c κs. (high c).column)
-    (λ c κs. record { divisor = rw c.high-divisor.ensures (high c.before).divisor; column = (high c.before).column.1; byte = search needs })
+    (λ c κs. record { divisor = rw c.high-divisor.ensures (high c.before).divisor; column = (high c.before).column.1; byte = search rules })
     (λ c. rw (c.high-witness.ensures, c.before.high-divisor.ensures) (high c.before.before).answer))

@@ -1,5 +1,5 @@
 -- `selection::unbiased` meets its contract: both ways the result is w - 2^63.
-use Rattle.laws.proofs.Basics.{refl, ◌∙◌, ◌-◌, ◌^◌, arith, needs, lt-ltb, le-ltb}
+use Rattle.laws.proofs.Basics.{refl, ◌∙◌, ◌-◌, ◌^◌, arith, rules, lt-ltb, le-ltb}
 use mir.{Facts.{to_z-of_z, to_z_pos}, Syntax.{w64}}
 use Rattle.selection.proofs.cell.unbiased.Statement.{statement}
 use Rattle.selection.proofs.cell.unbiased.Tie as tie
@@ -9,6 +9,6 @@ add_result c = rw (to_z_pos w64 c.if1.true, lt-ltb c.before.args.w (2 ^ 63) c.if
 
 pub unbiased_spec : {M : Type 1} → statement M
 unbiased_spec =
-    tie.close (tie.spec (λ c. search needs) add_result (λ c. search needs)
+    tie.close (tie.spec (λ c. search rules) add_result (λ c. search rules)
     (λ c. to_z-of_z (add_result c) ∙ rw (to_z_pos w64 c.if1.true) refl)
     (λ c. rw (to_z_pos w64 {n = c.before.args.w - 2 ^ 63} (omega arith)) (simp (le-ltb c.before.args.w (2 ^ 63) c.if1.false))))

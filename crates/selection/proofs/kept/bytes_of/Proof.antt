@@ -1,4 +1,4 @@
-use Rattle.laws.{proofs.Basics.{◌≡◌, refl, sym, needs, arith, ◌-◌, ◌*◌, ◌≤◌}, specs.Lists.{filled}, proofs.Lists.{fill_none}}
+use Rattle.laws.{proofs.Basics.{◌≡◌, refl, sym, rules, arith, ◌-◌, ◌*◌, ◌≤◌}, specs.Lists.{filled}, proofs.Lists.{fill_none}}
 use Rattle.selection.specs.computed.WordBytes.{byte_of}
 use Rattle.selection.proofs.{WordBytes.{word_more, words_all}, kept.bytes_of.Statement.{statement}}
 use Rattle.selection.proofs.kept.bytes_of.Tie as tie
@@ -12,12 +12,12 @@ decreases-loop words bytes₀ k₀ bytes k = 16 - k
 pub bytes_of_spec : {M : Type 1} → statement M
 bytes_of_spec =
     tie.close (tie.spec invariant-loop decreases-loop (λ c. (omega arith, sym (fill_none _ _)))
-    (λ c. search needs) (λ c. search needs) (λ c. search needs) (λ c. search needs)
-    (λ c. search needs) (λ c. search needs) (λ c. search needs) (λ c. search needs)
-    (λ c. search needs) (λ c. search needs) (λ c. search needs) (λ c. search needs)
-    (λ c. search needs) (λ c. search needs) (λ c. search needs) (λ c. search needs)
-    (λ c. search needs) (λ c. search needs) (λ c. search needs) (λ c. search needs)
-    (λ c. search needs) (λ c. search needs) (λ c. search needs) (λ c. search needs)
-    (λ c. search needs) (λ c. search needs) (λ c. search needs) (λ c. search needs)
+    (λ c. search rules) (λ c. search rules) (λ c. search rules) (λ c. search rules)
+    (λ c. search rules) (λ c. search rules) (λ c. search rules) (λ c. search rules)
+    (λ c. search rules) (λ c. search rules) (λ c. search rules) (λ c. search rules)
+    (λ c. search rules) (λ c. search rules) (λ c. search rules) (λ c. search rules)
+    (λ c. search rules) (λ c. search rules) (λ c. search rules) (λ c. search rules)
+    (λ c. search rules) (λ c. search rules) (λ c. search rules) (λ c. search rules)
+    (λ c. search rules) (λ c. search rules) (λ c. search rules) (λ c. search rules)
     (λ c. (omega arith, word_more c.before.before.before.args.words.now _ c.before.before.loop.k c.before.before.loop.invariant.1 (omega arith)))
     (λ c. words_all c.before.before.args.words.now _ c.before.loop.k c.before.loop.invariant.1 (omega arith) refl))

@@ -1,4 +1,4 @@
-use Rattle.laws.proofs.Basics.{arith, needs}
+use Rattle.laws.proofs.Basics.{arith, rules}
 use Rattle.selection.specs.computed.Outcomes.{limits_of}
 use Rattle.selection.proofs.{Rows.{columns}, Making.{limits_answer}, maker.limits_of.Statement.{statement}}
 use Rattle.selection.proofs.maker.limits_of.Tie as tie
@@ -6,11 +6,11 @@ use Rattle.selection.proofs.maker.limits_of.Tie as tie
 pub limits_of_spec : {M : Type 1} → statement M
 unfolding limits_of
 limits_of_spec =
-    tie.close (tie.spec (λ c κs. search needs)
+    tie.close (tie.spec (λ c κs. search rules)
     (λ c. omega (arith, columns c.before.row-multiples.ensures.0))
     (λ c. omega (arith, columns c.before.before.row-multiples.ensures.0))
     (λ c. omega (arith, columns c.before.before.before.row-multiples.ensures.0))
     (λ c. omega (arith, columns c.before.before.before.before.row-multiples.ensures.0))
     (λ c. omega (arith, columns c.before.before.before.before.before.row-multiples.ensures.0))
     (λ c. let half = c.before.before.before in omega (arith, columns half.before.before.before.row-multiples.ensures.0))
-    (λ c. limits_answer _ _ (search needs) (cc)))
+    (λ c. limits_answer _ _ (search rules) (cc)))

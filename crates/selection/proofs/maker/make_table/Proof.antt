@@ -1,4 +1,4 @@
-use Rattle.laws.{proofs.Basics.{ℕ, ◌≤◌, ◌<◌, ◌-◌, ◌/◌, ◌%◌, ◌≡◌, refl, sym, [], arith, length, get_or, length-set, now, needs}, proofs.Tests.{tests}, specs.Lists.{filled}}
+use Rattle.laws.{proofs.Basics.{ℕ, ◌≤◌, ◌<◌, ◌-◌, ◌/◌, ◌%◌, ◌≡◌, refl, sym, [], arith, length, get_or, length-set, rules}, proofs.Tests.{tests}, specs.Lists.{filled}}
 use Rattle.laws.proofs.Lists.{fill_none, fill_more}
 use Rattle.selection.specs.{computed.Outcomes.{made_at}, Maker.{AreLimits}, declared.Estimate.{Estimate}}
 use Rattle.selection.proofs.{MadeTables.{made_at_law, make_done}, maker.make_table.Statement.{statement}}
@@ -17,10 +17,10 @@ loop_again c =
 
 pub make_table_spec : {M : Type 1} → statement M
 make_table_spec =
-    tie.close (tie.spec invariant-loop decreases-loop (λ c. search tests) (λ c κs. search needs)
+    tie.close (tie.spec invariant-loop decreases-loop (λ c. search tests) (λ c κs. search rules)
     (λ c. (omega arith, refl, λ E all. sym (fill_none (made_at E) _))) (λ c. omega arith) (λ c. omega arith) (λ c. omega arith)
-    (λ c κs. search needs)
+    (λ c κs. search rules)
     (λ c. omega (arith, c.before.before.before.loop.invariant.1))
     (λ c. omega arith) (λ c. omega arith) loop_again
     (λ c. c.before.loop.invariant.1)
-    (λ c. let e : c.before.loop.k ≡ 2048 = omega arith in sym (make_done _ (now c.before.before.before.before.before.args.buffer) (omega arith) (rw e at (c.before.loop.invariant.2 _ c.before.before.all-limits.ensures)))))
+    (λ c. let e : c.before.loop.k ≡ 2048 = omega arith in sym (make_done _ c.before.before.before.before.before.args.buffer.now (omega arith) (rw e at (c.before.loop.invariant.2 _ c.before.before.all-limits.ensures)))))

@@ -1,12 +1,12 @@
-use Rattle.laws.proofs.Basics.{sym, ap, ◌∙◌, needs}
+use Rattle.laws.proofs.Basics.{sym, ap, ◌∙◌, rules}
 use Rattle.selection.specs.computed.Answer.{outcome_numbers}
 use Rattle.selection.proofs.numbers.report_numbers.Statement.{statement}
 use Rattle.selection.proofs.numbers.report_numbers.Tie as tie
 
 pub report_numbers_spec : {M : Type 1} → statement M
 report_numbers_spec =
-    tie.close (tie.spec (λ c. search needs) (λ c. search needs)
+    tie.close (tie.spec (λ c. search rules) (λ c. search rules)
     (λ c κs. c.before.before.before.before.requires.cell _ c.before.before.outcome.given.1)
-    (λ c. search needs) (λ c. cc)
+    (λ c. search rules) (λ c. cc)
     (λ c. c.bad-numbers.ensures ∙ sym (ap (outcome_numbers c.before.before.before.before.before.args.x.count) c.before.before.before.outcome.given.1))
     (λ c. cc))

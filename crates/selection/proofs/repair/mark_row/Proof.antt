@@ -1,5 +1,5 @@
 -- `mark_row` meets its contract: a turn stores the mark of one cell and counts it.
-use Rattle.laws.{proofs.Basics.{◌+◌, ◌*◌, ◌-◌, ◌≤◌, ◌≡◌, arith, needs, sym}, specs.Counting.{count_below}, proofs.Counting.{count_start, count_most}}
+use Rattle.laws.{proofs.Basics.{◌+◌, ◌*◌, ◌-◌, ◌≤◌, ◌≡◌, arith, rules, sym}, specs.Counting.{count_below}, proofs.Counting.{count_start, count_most}}
 use Rattle.selection.specs.computed.{Allowed.{is_faulty}, Outcomes.{change_mark}}
 use Rattle.selection.proofs.{RepairRows.{RowFilled, row_begins, row_more, row_ends, count_mark, mark_is}, repair.mark_row.Statement.{statement}}
 use Rattle.selection.proofs.repair.mark_row.Tie as tie
@@ -21,9 +21,9 @@ loop_again c =
 
 pub mark_row_spec : {M : Type 1} → statement M
 mark_row_spec =
-    tie.close (tie.spec invariant-loop decreases-loop (λ c. search needs)
-    (λ c. (row_begins _ _ _, sym (count_start _))) (λ c. search needs) (λ c. search needs)
-    (λ c. omega arith) (λ c κs. (search needs, omega arith))
+    tie.close (tie.spec invariant-loop decreases-loop (λ c. search rules)
+    (λ c. (row_begins _ _ _, sym (count_start _))) (λ c. search rules) (λ c. search rules)
+    (λ c. omega arith) (λ c κs. (search rules, omega arith))
     (λ c. omega arith) (λ c. omega (arith, c.before.before.before.loop.invariant.0.size))
     (λ c. let l = c.before.before.before.loop in let h : l.count ≤ l.c = rw l.invariant.1 (count_most _ _) in omega arith)
     (λ c. omega arith) (λ c. omega arith) loop_again (λ c. c.before.loop.invariant.0.size)

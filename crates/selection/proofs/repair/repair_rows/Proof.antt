@@ -1,5 +1,5 @@
 -- `repair_rows` meets its contract: row by row, the marks before the bytes.
-use Rattle.laws.{proofs.Basics.{◌+◌, ◌*◌, ◌-◌, ◌≤◌, ℕ, ◌≡◌, sym, ap₂, ◌∙◌, arith, needs}, proofs.Lists.{fill_none}, specs.Counting.{count_below}, proofs.Counting.{count_start, count_most}}
+use Rattle.laws.{proofs.Basics.{◌+◌, ◌*◌, ◌-◌, ◌≤◌, ℕ, ◌≡◌, sym, ap₂, ◌∙◌, arith, rules}, proofs.Lists.{fill_none}, specs.Counting.{count_below}, proofs.Counting.{count_start, count_most}}
 use Rattle.selection.specs.{computed.Allowed.{is_faulty}, computed.Outcomes.{repaired_byte, change_mark}, declared.Estimate.{Estimate}, computed.RepairRows.{RepairedTo}}
 use Rattle.selection.proofs.{Counts.{row_counted}, RepairRows.{rows_more, rows_size, row_at}, repair.repair_rows.Statement.{statement}}
 use Rattle.selection.proofs.repair.repair_rows.Tie as tie
@@ -20,9 +20,9 @@ byte_row_requires c κs =
     let l = m.before.before.before.before.loop in
     let t = m.before.before.before.before.before.before.before.before.args.table.now in
     let e = rows_more (λ z. change_mark z t) _ l.row m.before.before.row-multiples.ensures.1 m.before.before.row-multiples.ensures.2 l.invariant.1.marks m.mark-row.ensures.0 in
-    let changed = rows_size _ _ (l.row + 1) (search needs) (omega arith) e in
-    let repaired = rows_size _ _ _ (search needs) l.invariant.0 l.invariant.1.bytes in
-    rw (m.before.before.row-multiples.ensures.1, m.before.before.row-multiples.ensures.2) (record { size = search needs; row = omega arith; limits = search needs; changed_room = omega arith; repaired_room = omega arith; marks = row_at _ _ l.row e })
+    let changed = rows_size _ _ (l.row + 1) (search rules) (omega arith) e in
+    let repaired = rows_size _ _ _ (search rules) l.invariant.0 l.invariant.1.bytes in
+    rw (m.before.before.row-multiples.ensures.1, m.before.before.row-multiples.ensures.2) (record { size = search rules; row = omega arith; limits = search rules; changed_room = omega arith; repaired_room = omega arith; marks = row_at _ _ l.row e })
 
 loop_again : tie.Need-loop-preserved invariant-loop decreases-loop
 loop_again c =
@@ -46,13 +46,13 @@ repair_rows_spec =
     tie.close (tie.spec invariant-loop decreases-loop
     (λ c. (omega arith, record { bytes = sym (fill_none _ _); marks = sym (fill_none _ _); count = sym (count_start _) }))
     (λ c κs. omega arith)
-    (λ c κs. let l = c.before.before.before.loop in record { size = search needs; row = search needs; room = omega (arith, rows_size _ _ _ (search needs) l.invariant.0 l.invariant.1.marks) })
+    (λ c κs. let l = c.before.before.before.loop in record { size = search rules; row = search rules; room = omega (arith, rows_size _ _ _ (search rules) l.invariant.0 l.invariant.1.marks) })
     (λ c κs. omega arith) byte_row_requires (λ c. omega arith)
     (λ c.
     let l = (marks c).before.before.before.before in
     let a = l.before.before.before.before.args in
     omega (arith, l.loop.inv.1.count, count_most (is_faulty a.estimate a.table.now) (128 * l.loop.row)))
     (λ c. omega arith) (λ c. omega arith) loop_again
-    (λ c. rows_size _ _ _ (search needs) c.before.loop.invariant.0 c.before.loop.invariant.1.bytes)
-    (λ c. rows_size _ _ _ (search needs) c.before.loop.invariant.0 c.before.loop.invariant.1.marks)
+    (λ c. rows_size _ _ _ (search rules) c.before.loop.invariant.0 c.before.loop.invariant.1.bytes)
+    (λ c. rows_size _ _ _ (search rules) c.before.loop.invariant.0 c.before.loop.invariant.1.marks)
     (λ c. let e : 128 * c.before.loop.row ≡ 2048 = omega arith in rw e at c.before.loop.invariant.1))

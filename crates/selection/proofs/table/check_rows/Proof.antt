@@ -1,4 +1,4 @@
-use Rattle.laws.{proofs.Basics.{now, ◌*◌, ◌≤◌, ◌<◌, ◌-◌, ◌≡◌, ◌∙◌, refl, arith, needs, sym}, specs.Search.{first_from}, specs.Counting.{count_below}}
+use Rattle.laws.{proofs.Basics.{◌*◌, ◌≤◌, ◌<◌, ◌-◌, ◌≡◌, ◌∙◌, refl, arith, rules, sym}, specs.Search.{first_from}, specs.Counting.{count_below}}
 use Rattle.laws.proofs.Counting.{count_start, none_counted, some_counted}
 use Rattle.selection.specs.computed.Allowed.{is_bad, is_bad_in}
 use Rattle.selection.proofs.{Counts.{row_counted, row_first}, Reports.{report_first}, table.check_rows.Statement.{statement}}
@@ -11,11 +11,11 @@ abbrev decreases-loop : tie.decreases-loop
 decreases-loop estimate table row₀ row = 16 - row
 
 -- the row's count
-row_is : (c : tie.After-count-row invariant-loop decreases-loop) → let l = c.before.before.before in c.count-row.result ≡ count_below (is_bad_in l.before.before.args.estimate (now l.before.before.args.table) l.loop.row) 128
+row_is : (c : tie.After-count-row invariant-loop decreases-loop) → let l = c.before.before.before in c.count-row.result ≡ count_below (is_bad_in l.before.before.args.estimate l.before.before.args.table.now l.loop.row) 128
 row_is c = rw (c.before.row-multiples.ensures.1, c.before.row-multiples.ensures.2) at c.count-row.ensures
 
 -- the row has a bad cell
-some : (c : tie.Then1 invariant-loop decreases-loop) → let l = c.before.before.before.before in first_from (is_bad_in l.before.before.args.estimate (now l.before.before.args.table) l.loop.row) 0 128 < 128
+some : (c : tie.Then1 invariant-loop decreases-loop) → let l = c.before.before.before.before in first_from (is_bad_in l.before.before.args.estimate l.before.before.args.table.now l.loop.row) 0 128 < 128
 some c = some_counted _ 128 (omega (arith, row_is c.before, c.if1.true))
 
 returns : tie.Need-returns invariant-loop decreases-loop
@@ -23,7 +23,7 @@ returns c =
     let m = c.before.before.before.before in
     let l = m.before.before in
     let E = l.before.before.args.estimate in
-    let t = now l.before.before.args.table in
+    let t = l.before.before.args.table.now in
     let h = some c.before.before in
     rw (m.row-multiples.ensures.1, m.row-multiples.ensures.2) at c.bad-report.ensures
     ∙ report_first E t l.loop.row _ _ (omega arith) (omega (arith, h)) (row_first (is_bad E t) l.loop.row (omega arith) l.loop.invariant.1 h) c.before.count-from.ensures
@@ -31,9 +31,9 @@ returns c =
 pub check_rows_spec : {M : Type 1} → statement M
 check_rows_spec =
     tie.close (tie.spec invariant-loop decreases-loop (λ c. (omega arith, sym (count_start _))) (λ c κs. omega arith)
-    (λ c κs. search needs) (λ c. omega arith) (λ c. omega arith)
-    (λ c κs. let l = c.before.before.before.before.loop in (search needs, omega arith, omega (arith, row_counted _ l.row l.invariant.1 (row_is c.before))))
-    (λ c κs. record { table = search needs; row = search needs; column = rw (c.before.before.before.row-multiples.ensures.1, c.before.before.before.row-multiples.ensures.2) (omega (arith, some c.before)) })
+    (λ c κs. search rules) (λ c. omega arith) (λ c. omega arith)
+    (λ c κs. let l = c.before.before.before.before.loop in (search rules, omega arith, omega (arith, row_counted _ l.row l.invariant.1 (row_is c.before))))
+    (λ c κs. record { table = search rules; row = search rules; column = rw (c.before.before.before.row-multiples.ensures.1, c.before.before.before.row-multiples.ensures.2) (omega (arith, some c.before)) })
     returns (λ c. omega arith) (λ c. omega arith)
     (λ c. let l = c.before.before.before.before.loop in omega (arith, row_counted _ l.row l.invariant.1 (row_is c.before)))
     (λ c. let e : 128 * c.before.loop.row ≡ 2048 = omega arith in rw (none_counted _ 2048 (sym (rw e at c.before.loop.invariant.1))) refl))

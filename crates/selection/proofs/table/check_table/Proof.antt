@@ -1,4 +1,4 @@
-use Rattle.laws.proofs.{Basics.{now, ◌∙◌, needs}, Tests.{tests}}
+use Rattle.laws.proofs.{Basics.{◌∙◌, rules}, Tests.{tests}}
 use Rattle.selection.specs.computed.Outcomes.{report_of}
 use Rattle.selection.proofs.{Reports.{report_table, is_table}, table.check_table.Statement.{statement}}
 use Rattle.selection.proofs.table.check_table.Tie as tie
@@ -6,8 +6,8 @@ use Rattle.selection.proofs.table.check_table.Tie as tie
 pub check_table_spec : {M : Type 1} → statement M
 unfolding report_of
 check_table_spec =
-    tie.close (tie.spec (λ c κs. search needs) (λ c. search (tests, c.refused-report.ensures))
-    (λ c κs. search needs) (λ c κs. search needs)
+    tie.close (tie.spec (λ c κs. search rules) (λ c. search (tests, c.refused-report.ensures))
+    (λ c κs. search rules) (λ c κs. search rules)
     (λ c. search (tests, c.refused-report2.ensures, ← c.before.before.first_above.ensures))
     (λ c κs. is_table _ c.before.before.if1.false (rw (← c.before.first_above.ensures) c.if2.false))
-    (λ c. let t = now c.before.before.before.before.before.args.table in c.check-rows.ensures ∙ report_table _ (is_table t c.before.before.before.if1.false (rw (← c.before.before.first_above.ensures) c.before.if2.false))))
+    (λ c. let t = c.before.before.before.before.before.args.table.now in c.check-rows.ensures ∙ report_table _ (is_table t c.before.before.before.if1.false (rw (← c.before.before.first_above.ensures) c.before.if2.false))))

@@ -1,4 +1,4 @@
-use Rattle.laws.{proofs.Basics.{◌*◌, ◌≤◌, ◌-◌, ◌≡◌, arith, needs}, specs.Counting.{count_below}, proofs.Counting.{count_most}}
+use Rattle.laws.{proofs.Basics.{◌*◌, ◌≤◌, ◌-◌, ◌≡◌, arith, rules}, specs.Counting.{count_below}, proofs.Counting.{count_most}}
 use Rattle.selection.specs.computed.Allowed.{is_bad}
 use Rattle.selection.proofs.{Counts.{row_counted}, table.count_from.Statement.{statement}}
 use Rattle.selection.proofs.table.count_from.Tie as tie
@@ -11,7 +11,7 @@ decreases-loop estimate table start count total₀ row₀ total row = 16 - row
 
 pub count_from_spec : {M : Type 1} → statement M
 count_from_spec =
-    tie.close (tie.spec invariant-loop decreases-loop (λ c. search needs) (λ c κs. omega arith) (λ c κs. search needs)
+    tie.close (tie.spec invariant-loop decreases-loop (λ c. search rules) (λ c κs. omega arith) (λ c κs. search rules)
     (λ c. omega arith)
     (λ c. let l = c.before.before.before.loop in let h : l.total ≤ 128 * l.row = rw l.invariant.1 (count_most _ _) in omega arith)
     (λ c. omega arith) (λ c. omega arith)

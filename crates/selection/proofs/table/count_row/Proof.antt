@@ -1,4 +1,4 @@
-use Rattle.laws.{proofs.Basics.{◌≤◌, ◌-◌, ⊎_elim, ◌≡◌, sym, ◌∙◌, arith, needs}, specs.Counting.{count_below}, proofs.Counting.{count_start, count_one, count_other, count_most}}
+use Rattle.laws.{proofs.Basics.{◌≤◌, ◌-◌, ⊎_elim, ◌≡◌, sym, ◌∙◌, arith, rules}, specs.Counting.{count_below}, proofs.Counting.{count_start, count_one, count_other, count_most}}
 use Rattle.selection.specs.computed.Allowed.{is_bad_in}
 use Rattle.selection.proofs.table.count_row.Statement.{statement}
 use Rattle.selection.proofs.table.count_row.Tie as tie
@@ -19,7 +19,7 @@ loop_again c =
 pub count_row_spec : {M : Type 1} → statement M
 count_row_spec =
     tie.close (tie.spec invariant-loop decreases-loop (λ c. (omega arith, sym (count_start _)))
-    (λ c κs. record { table = search needs; row = search needs; column = omega arith })
+    (λ c κs. record { table = search rules; row = search rules; column = omega arith })
     (λ c. let l = c.before.before.before.loop in let h : l.count ≤ l.c = rw l.invariant.1 (count_most _ _) in omega arith)
     (λ c. omega arith) (λ c. omega arith) loop_again
     (λ c. let e : c.before.loop.c ≡ 128 = omega arith in rw e at c.before.loop.invariant.1))

@@ -1,4 +1,4 @@
-use Rattle.laws.{proofs.Basics.{Bool, ℕ, ◌≤◌, ◌-◌, ◌≡◌, min, sym, ◌∙◌, arith, needs}, specs.Search.{first_from}, proofs.Search.{lesser_start, lesser_turn, lesser_end}}
+use Rattle.laws.{proofs.Basics.{Bool, ℕ, ◌≤◌, ◌-◌, ◌≡◌, min, sym, ◌∙◌, arith, rules}, specs.Search.{first_from}, proofs.Search.{lesser_start, lesser_turn, lesser_end}}
 use Rattle.selection.specs.computed.Allowed.{is_bad_in}
 use Rattle.selection.proofs.table.first_in_row.Statement.{statement}
 use Rattle.selection.proofs.table.first_in_row.Tie as tie
@@ -23,6 +23,6 @@ loop_again c =
 pub first_in_row_spec : {M : Type 1} → statement M
 first_in_row_spec =
     tie.close (tie.spec invariant-loop decreases-loop (λ c. record { within = omega arith; most = omega arith; is = lesser_start _ 128 })
-    (λ c κs. record { table = search needs; row = search needs; column = omega arith })
-    (λ c κs. search needs) (λ c. omega arith) (λ c. omega arith) loop_again
+    (λ c κs. record { table = search rules; row = search rules; column = omega arith })
+    (λ c κs. search rules) (λ c. omega arith) (λ c. omega arith) loop_again
     (λ c. let i = c.before.loop.invariant in sym (i.is ∙ lesser_end _ 128 _ _ c.loop-test.false i.most)))

@@ -1,10 +1,10 @@
-use Rattle.laws.proofs.Basics.{now, not, ap, ◌∙◌, arith, needs}
+use Rattle.laws.proofs.Basics.{not, ap, ◌∙◌, arith, rules}
 use Rattle.selection.proofs.{Allowed.{bad_in_row}, table.is_bad.Statement.{statement}}
 use Rattle.selection.proofs.table.is_bad.Tie as tie
 
 pub is_bad_spec : {M : Type 1} → statement M
 is_bad_spec =
-    tie.close (tie.spec (λ c. search needs) (λ c. search needs) (λ c. search needs)
-    (λ c. search needs)
-    (λ c κs. record { row = search needs; column = omega arith; byte = c.before.before.requires.table.digits _ })
-    (λ c. let a = c.before.before.before in ap not c.allows.ensures.0 ∙ bad_in_row (now a.args.table) a.args.column a.requires.row a.requires.column))
+    tie.close (tie.spec (λ c. search rules) (λ c. search rules) (λ c. search rules)
+    (λ c. search rules)
+    (λ c κs. record { row = search rules; column = omega arith; byte = c.before.before.requires.table.digits _ })
+    (λ c. let a = c.before.before.before in ap not c.allows.ensures.0 ∙ bad_in_row a.args.table.now a.args.column a.requires.row a.requires.column))

@@ -1,5 +1,5 @@
 -- `next` meets its contract: the trial is taken off exactly where it fits.
-use Rattle.laws.proofs.{Basics.{refl, ℕ, ◌^◌, ◌≤◌, arith, ltb, needs}, Tests.{cond_in}}
+use Rattle.laws.proofs.{Basics.{refl, ℕ, ◌^◌, ◌≤◌, arith, ltb, rules}, Tests.{cond_in}}
 use Rattle.division.proofs.{RootDigits.{one_more}, root.RootState.next.Statement.{statement}}
 use Rattle.division.proofs.root.RootState.next.Tie as tie
 
@@ -11,6 +11,6 @@ add_t8 c =
 
 pub next_spec : {M : Type 1} → statement M
 next_spec =
-    tie.close (tie.spec (λ c. search needs) (λ c. search needs)
-    (λ c κs. search needs) (λ c κs. search needs) add_t8 (λ c κs. search needs)
+    tie.close (tie.spec (λ c. search rules) (λ c. search rules)
+    (λ c κs. search rules) (λ c κs. search rules) add_t8 (λ c κs. search rules)
     (λ c m k d. one_more m k _ _ _ _ _ d refl (omega arith) c.before.before.before.wrapping-sub-u64.ensures c.before.before.chosen.ensures c.chosen2.ensures))

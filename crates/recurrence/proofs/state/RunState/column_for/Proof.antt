@@ -1,9 +1,9 @@
 -- `column_for` meets its contract: by the estimate.
-use Rattle.laws.proofs.Basics.{refl, needs}
+use Rattle.laws.proofs.Basics.{refl, rules}
 use Rattle.recurrence.proofs.state.RunState.column_for.Statement.{statement}
 use Rattle.recurrence.proofs.state.RunState.column_for.Tie as tie
 
 pub column_for_spec : {M : Type 1} → statement M
 column_for_spec =
-    tie.close (tie.spec (λ c. search needs) (λ c. search needs) (λ c. search needs) (λ c. search needs) (λ c κs. search needs)
+    tie.close (tie.spec (λ c. search rules) (λ c. search rules) (λ c. search rules) (λ c. search rules) (λ c κs. search rules)
     (λ c. rw c.before.before.enum_told.given.1 refl) (λ c. rw c.before.enum-told2.given.1 c.column-of.ensures))

@@ -1,5 +1,5 @@
 -- `left_by` meets its contract: a sum that wraps, taken in parts.
-use Rattle.laws.proofs.Basics.{◌≡◌, needs, get_or, arith}
+use Rattle.laws.proofs.Basics.{◌≡◌, rules, get_or, arith}
 use Rattle.recurrence.specs.CarrySave.{multiple}
 use Rattle.recurrence.proofs.{NextColumn.{multiple_at}, state.RunState.left_by.Statement.{statement}}
 use Rattle.recurrence.proofs.state.RunState.left_by.Tie as tie
@@ -14,4 +14,4 @@ returns c =
 
 pub left_by_spec : {M : Type 1} → statement M
 left_by_spec =
-    tie.close (tie.spec (λ c κs. search needs) (λ c. search needs) (λ c. search needs) (λ c κs. search needs) (λ c κs. search needs) (λ c. search needs) (λ c κs. search needs) returns)
+    tie.close (tie.spec (λ c κs. search rules) (λ c. search rules) (λ c. search rules) (λ c κs. search rules) (λ c κs. search rules) (λ c. search rules) (λ c κs. search rules) returns)

@@ -1,5 +1,5 @@
 -- `next` meets its contract: the byte at the state's column is the table's in the state's cell.
-use Rattle.laws.proofs.Basics.{◌≡◌, ap, ◌∙◌, ℕ, arith, get_or, needs}
+use Rattle.laws.proofs.Basics.{◌≡◌, ap, ◌∙◌, ℕ, arith, get_or, rules}
 use Rattle.selection.specs.{Cell.{row, column}, declared.Estimate.TheVariants.{EightBits}}
 use Rattle.recurrence.specs.{Recurrence.{cell_at, step_by, next_of}, computed.FastRun.{run_state_of, state_of}}
 use Rattle.recurrence.proofs.{Rows.{row_at}, state.RunState.next.Statement.{statement}}
@@ -16,4 +16,4 @@ returns c =
     c.step_by.ensures ∙ ap (λ (n : ℕ). run_state_of (step_by n (state_of p))) e
 
 pub next_spec : {M : Type 1} → statement M
-next_spec = tie.close (tie.spec (λ c κs. search needs) (λ c κs. search needs) returns)
+next_spec = tie.close (tie.spec (λ c κs. search rules) (λ c κs. search rules) returns)

@@ -1,5 +1,5 @@
 -- `step_by` meets its contract: the next column is that of the next words.
-use Rattle.laws.proofs.Basics.{needs}
+use Rattle.laws.proofs.Basics.{rules}
 use Rattle.recurrence.proofs.{NextColumn.{step_code}, state.RunState.step_by.Statement.{statement}}
 use Rattle.recurrence.proofs.state.RunState.step_by.Tie as tie
 
@@ -13,5 +13,5 @@ returns c =
 
 pub step_by_spec : {M : Type 1} → statement M
 step_by_spec =
-    tie.close (tie.spec (λ c κs. search needs) (λ c. search needs) (λ c. search needs) (λ c κs. search needs) (λ c κs. search needs)
-    (λ c. search needs) (λ c. search needs) (λ c κs. search needs) (λ c. search needs) (λ c κs. search needs) returns)
+    tie.close (tie.spec (λ c κs. search rules) (λ c. search rules) (λ c. search rules) (λ c κs. search rules) (λ c κs. search rules)
+    (λ c. search rules) (λ c. search rules) (λ c κs. search rules) (λ c. search rules) (λ c κs. search rules) returns)
