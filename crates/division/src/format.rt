@@ -33,7 +33,7 @@ pub(crate) const DIVISION_BY_ZERO: u8 = 8;
 pub(crate) const INVALID: u8 = 16;
 
 // The pattern, and the sum of the flags, which is below 32.
-#[derive(Drop)]
+#[derive(Clone, Copy)]
 pub struct Binary64Result {
     pub pattern: u64,
     pub flags: u8,
@@ -41,7 +41,7 @@ pub struct Binary64Result {
 
 // The answer, as C sees it: the refusal (0: none) and its place, the pattern and the sum of flags, zeros where the call refuses.
 #[repr(C)]
-#[derive(Drop)]
+#[derive(Clone, Copy)]
 pub struct Binary64 {
     pub refusal: Refusal,
     pub pattern: u64,
@@ -49,7 +49,7 @@ pub struct Binary64 {
 }
 
 // The class of a pattern.
-#[derive(Drop)]
+#[derive(Clone, Copy)]
 pub enum Class {
     Zero,
     Subnormal,
@@ -59,14 +59,14 @@ pub enum Class {
 }
 
 // What the operands' classes lead to: an answer, or that a number is to be rounded.
-#[derive(Drop)]
+#[derive(Clone, Copy)]
 pub(crate) enum ByClass {
     Decided(Binary64Result),
     Undecided,
 }
 
 // A finite magnitude other than 0, its significand moved up until the leading one is bit 60: sig * 2^exp units of 2^-1134.
-#[derive(Drop)]
+#[derive(Clone, Copy)]
 pub(crate) struct Scaled {
     pub(crate) sig: u64,
     pub(crate) exp: u64,

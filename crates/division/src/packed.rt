@@ -9,7 +9,7 @@ use selection::{NO_REFUSAL, REFUSED_BY_ZERO, REFUSED_DECIMAL, Refusal};
 
 // The answer, as C sees it: the refusal (0: none) and its place, quotient and remainder in bytes, zeros where the call refuses.
 #[repr(C)]
-#[derive(Drop)]
+#[derive(Clone, Copy)]
 pub struct Packed {
     pub refusal: Refusal,
     pub quotient: [u8; 8],

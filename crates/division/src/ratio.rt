@@ -8,7 +8,7 @@ use crate::whole::{OPERAND_END, divide_kept};
 use selection::{Admission, NO_REFUSAL, REFUSED_BY_ZERO, REFUSED_TOO_LARGE, Refusal, refused};
 
 // How a / b compares with c / d.
-#[derive(Drop)]
+#[derive(Clone, Copy)]
 pub enum RatioOrder {
     Less,
     Equal,
@@ -18,7 +18,7 @@ pub enum RatioOrder {
 
 // The answer, as C sees it: the refusal (0: none) and its place; -1 for less, 0 for equal, 1 for greater, and 0 where the call refuses.
 #[repr(C)]
-#[derive(Drop)]
+#[derive(Clone, Copy)]
 pub struct Comparison {
     pub refusal: Refusal,
     pub order: i64,

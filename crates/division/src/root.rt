@@ -16,7 +16,7 @@ use std::num::wrapping_sub_u64;
 
 // The answer, as C sees it: the refusal (0: none) and its place, the root and the remainder, zeros where the call refuses.
 #[repr(C)]
-#[derive(Drop)]
+#[derive(Clone, Copy)]
 pub struct Root {
     pub refusal: Refusal,
     pub root: u64,
@@ -24,7 +24,7 @@ pub struct Root {
 }
 
 // Twice the root so far, what is left, and the weight of the last digit: root * root + unit * rest stays the same.
-#[derive(Drop)]
+#[derive(Clone, Copy)]
 struct RootState {
     twice: u64,
     rest: u64,

@@ -12,7 +12,7 @@ use crate::format::{
 use selection::{Admission, REFUSED_DIRECTION, refused};
 
 // What a direction means for a magnitude.
-#[derive(Drop)]
+#[derive(Clone, Copy)]
 pub enum Mode {
     Nearest,
     Toward,

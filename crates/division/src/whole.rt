@@ -16,7 +16,7 @@ use selection::{Admission, NO_REFUSAL, REFUSED_BY_ZERO, REFUSED_TOO_LARGE, Refus
 // Operands are below 2^60.
 pub(crate) const OPERAND_END: u64 = 0x1000_0000_0000_0000;
 
-#[derive(Drop)]
+#[derive(Clone, Copy)]
 pub struct WholeResult {
     pub quotient: u64,
     pub remainder: u64,
@@ -24,7 +24,7 @@ pub struct WholeResult {
 
 // The answer, as C sees it: the refusal (0: none) and its place, quotient and remainder, zeros where the call refuses.
 #[repr(C)]
-#[derive(Drop)]
+#[derive(Clone, Copy)]
 pub struct Whole {
     pub refusal: Refusal,
     pub quotient: u64,

@@ -16,7 +16,7 @@ use selection::table::Outcome;
 use selection::{CellVerdict, Estimate, TABLE_LENGTH, Witness};
 
 // What the listing has of one cell: nothing, or the row, the column, the digit and the witness against it.
-#[derive(Drop)]
+#[derive(Clone, Copy)]
 enum Line {
     Nothing,
     Cell(u64, u64, i64, Witness),

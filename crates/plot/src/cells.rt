@@ -6,7 +6,7 @@ ghost use Rattle.plot.specs.Plot.{AllowedIs, AllowedAre, PointIs, DrawnIs, Shown
 use selection::{CellVerdict, Estimate};
 
 // A cell's place, its digit's byte, whether it has a point, which bytes' digits it allows, and whether its own is among them.
-#[derive(Drop)]
+#[derive(Clone, Copy)]
 pub(crate) struct Cell {
     pub(crate) row: u64,
     pub(crate) column: u64,

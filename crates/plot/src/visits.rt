@@ -13,7 +13,7 @@ const BITS: u64 = 6;
 const DIGITS: usize = 28;
 
 // What the picture shows of a cell: its place, whether it has a point, and its visits.
-#[derive(Drop)]
+#[derive(Clone, Copy)]
 struct Visited {
     row: u64,
     column: u64,

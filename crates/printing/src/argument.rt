@@ -4,7 +4,7 @@ ghost use Rattle.printing.specs.Argument.{by_digit, asked_by};
 
 use selection::Estimate;
 
-#[derive(Drop)]
+#[derive(Clone, Copy)]
 pub enum Asked {
     Of(Estimate),
     Other,

@@ -6,7 +6,7 @@ ghost use Rattle.libc.specs.Io.{Moved};
 use crate::{AGAIN, interrupted};
 
 // The first `count` bytes of a buffer were read: all of the input, or as much as there is room for. Or a read failed.
-#[derive(Drop)]
+#[derive(Clone, Copy)]
 pub struct Input {
     pub count: usize,
     pub failed: bool,

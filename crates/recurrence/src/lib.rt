@@ -36,7 +36,7 @@ const MOST_DIGITS: usize = 28;
 
 // The answer, as C sees it: the refusal (0: none) and its place, quotient, remainder and number of digits, zeros where the run is refused.
 #[repr(C)]
-#[derive(Drop)]
+#[derive(Clone, Copy)]
 pub struct Ran {
     pub refusal: Refusal,
     pub quotient: u64,
@@ -45,7 +45,7 @@ pub struct Ran {
 }
 
 // The order of the fields avoids a store-forwarding stall: a copy does not load quotient and remainder, which are stored one by one, as one piece.
-#[derive(Drop)]
+#[derive(Clone, Copy)]
 pub struct RunResult {
     pub quotient: u64,
     pub count: usize,

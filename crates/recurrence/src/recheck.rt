@@ -15,7 +15,7 @@ use selection::{
 
 // The answer of one division, as C sees it: the refusal (0: none) and its place, and 1 in `affected` if it went wrong, else 0.
 #[repr(C)]
-#[derive(Drop)]
+#[derive(Clone, Copy)]
 pub struct AffectedMark {
     pub refusal: Refusal,
     pub affected: u64,

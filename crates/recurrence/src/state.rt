@@ -26,7 +26,7 @@ pub(crate) const SIGN: u64 = 0x8000_0000_0000_0000;
 
 // The state of a run: the partial remainder in carry-save form, the divisor, the top bits of its multiples, the column of the two words,
 // the digit of the last step, the value of the digits so far and that value less one (decremented), both modulo 2^64.
-#[derive(Drop)]
+#[derive(Clone, Copy)]
 pub(crate) struct RunState {
     pub(crate) sum: u64,
     pub(crate) carry: u64,

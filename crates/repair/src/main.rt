@@ -17,7 +17,7 @@ use selection::repair::repair_table;
 use selection::{Estimate, TABLE_LENGTH};
 
 // How much is to be written: bytes of the table and bytes of the text.
-#[derive(Drop)]
+#[derive(Clone, Copy)]
 struct Written {
     table: usize,
     text: usize,

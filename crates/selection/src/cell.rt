@@ -24,7 +24,7 @@ const ROW: u64 = 0x100_0000_0000_0000;
 // A row's number, its smallest divisor, and multiples of its smallest divisor, (16 + row) * 2^56, and of its largest, (17 + row) * 2^56 - 1: those that
 // bound 3P. A point has 3P from -8D to 8D, and the digit q keeps 3P from (3q - 2)D to (3q + 2)D. Each multiple is handed on as a column, the last on its
 // lower side: so a cell's test compares bytes, and three times a column's end, which leaves 64 bits in cells that have points, is not formed for it.
-#[derive(Drop)]
+#[derive(Clone, Copy)]
 pub(crate) struct RowMultiples {
     pub estimate: Estimate,
     pub row: u64,

@@ -54,14 +54,14 @@ pub const REFUSED_BITS: u64 = 16;
 pub const REFUSED_ESTIMATE_BITS: u64 = 17;
 
 // Which divider a table is for: how many of the top bits of each remainder word it adds to estimate the partial remainder.
-#[derive(Drop)]
+#[derive(Clone, Copy)]
 pub enum Estimate {
     SevenBits,
     EightBits,
 }
 
 // A point of a cell that breaks a digit.
-#[derive(Drop)]
+#[derive(Clone, Copy)]
 pub struct Witness {
     pub divisor: u64,
     pub remainder: i64,
@@ -69,7 +69,7 @@ pub struct Witness {
 
 // A refusal: its number (0: none) and its place.
 #[repr(C)]
-#[derive(Drop)]
+#[derive(Clone, Copy)]
 pub struct Refusal {
     pub number: u64,
     pub place: u64,
@@ -80,7 +80,7 @@ pub const NO_REFUSAL: Refusal = Refusal {
     place: 0,
 };
 
-#[derive(Drop)]
+#[derive(Clone, Copy)]
 pub enum CellVerdict {
     Allowed,
     Disallowed(Witness),
@@ -88,7 +88,7 @@ pub enum CellVerdict {
 }
 
 // Whether a call takes what it is handed: its arguments, or a table.
-#[derive(Drop)]
+#[derive(Clone, Copy)]
 pub enum Admission {
     Admitted,
     Refused(Refusal),

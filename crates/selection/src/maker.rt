@@ -24,7 +24,7 @@ pub(crate) fn limits_of(estimate: Estimate, row: u64) -> [u8; 6]
 
 // A row's limits, or refusal 1 and zeros.
 #[repr(C)]
-#[derive(Drop)]
+#[derive(Clone, Copy)]
 pub struct Limits {
     pub refusal: Refusal,
     pub limits: [u8; 6],

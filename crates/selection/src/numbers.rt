@@ -9,7 +9,7 @@ use crate::{CellVerdict, Estimate, NO_REFUSAL, REFUSED_BAD_CELL, Refusal, Witnes
 
 // Of a single cell: 1 for an allowed digit; 0 for a disallowed one, with the least witness.
 #[repr(C)]
-#[derive(Drop)]
+#[derive(Clone, Copy)]
 pub struct Cell {
     pub refusal: Refusal,
     pub allowed: u64,
@@ -19,7 +19,7 @@ pub struct Cell {
 
 // Of a table: the number of bad cells, and the first of them with its witness.
 #[repr(C)]
-#[derive(Drop)]
+#[derive(Clone, Copy)]
 pub struct Report {
     pub refusal: Refusal,
     pub count: u64,

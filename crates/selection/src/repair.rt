@@ -17,7 +17,7 @@ use crate::{
 
 // The answer, as C sees it: the refusal (0: none) and its place, and the number of changes.
 #[repr(C)]
-#[derive(Drop)]
+#[derive(Clone, Copy)]
 pub struct Repaired {
     pub refusal: Refusal,
     pub count: u64,

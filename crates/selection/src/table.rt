@@ -21,21 +21,21 @@ use crate::{
 };
 
 // A bad cell and the witness against its digit.
-#[derive(Drop)]
+#[derive(Clone, Copy)]
 pub struct BadCell {
     pub row: u64,
     pub column: u64,
     pub witness: Witness,
 }
 
-#[derive(Drop)]
+#[derive(Clone, Copy)]
 pub enum Outcome {
     Passed,
     Bad(BadCell),
     Refused(Refusal),
 }
 
-#[derive(Drop)]
+#[derive(Clone, Copy)]
 pub struct TableVerdict {
     pub count: u64,
     pub outcome: Outcome,

@@ -14,7 +14,7 @@ use printing::output::write_output;
 use printing::text::{append, append_number};
 
 // One case: two operands, or the operand of a root, a direction, and the pattern and flags that are expected.
-#[derive(Drop)]
+#[derive(Clone, Copy)]
 struct Vector {
     root: bool,
     a: u64,
@@ -24,21 +24,21 @@ struct Vector {
     flags: u64,
 }
 
-#[derive(Drop)]
+#[derive(Clone, Copy)]
 struct Counts {
     run: u64,
     differ: u64,
 }
 
 // What is told of a file: nothing where not all of it was read, or its counts.
-#[derive(Drop)]
+#[derive(Clone, Copy)]
 enum FileRun {
     Unread,
     Counted(Counts),
 }
 
 // The report so far: where its text ends, the counts of all files, and how many files were not read.
-#[derive(Drop)]
+#[derive(Clone, Copy)]
 struct Page {
     end: usize,
     total: Counts,
