@@ -5,4 +5,4 @@ use Rattle.selection.proofs.bits.admit_bits.Tie as tie
 pub admit_bits_spec : {M : Type 1} → statement M
 admit_bits_spec =
     tie.close (tie.spec (λ c κs. search rules) (λ c. search (tests, c.refused.ensures))
-    (λ c κs. search rules) (λ c. search (tests, c.refused2.ensures)) (λ c. search tests))
+    (λ c κs. search rules) (λ c. search (tests, c.refused-then-bits-gt8.ensures)) (λ c. search tests))

@@ -10,16 +10,16 @@ returns c =
       record {
         small = row.requires;
         is = simp (
-          c.begins-at-most3.ensures,
-          c.before.ends-at-most2.ensures,
-          c.before.before.begins-at-most2.ensures,
-          c.before.before.before.ends-at-most.ensures,
-          c.before.before.before.before.begins-at-most.ensures,
-          m.ends-below-minus3.ensures,
-          m.before.begins-below-minus2.ensures,
-          m.before.before.ends-below-minus2.ensures,
-          m.before.before.before.begins-below-minus.ensures,
-          m.before.before.before.before.ends-below-minus.ensures,
+          c.begins_at_most-3.ensures,
+          c.before.ends_at_most-2.ensures,
+          c.before.before.begins_at_most-2.ensures,
+          c.before.before.before.ends_at_most.ensures,
+          c.before.before.before.before.begins_at_most.ensures,
+          m.ends_below_minus-3.ensures,
+          m.before.begins_below_minus-2.ensures,
+          m.before.before.ends_below_minus-2.ensures,
+          m.before.before.before.begins_below_minus.ensures,
+          m.before.before.before.before.ends_below_minus.ensures,
         );
       },
       refl,

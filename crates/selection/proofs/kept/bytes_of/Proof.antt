@@ -3,15 +3,15 @@ use Rattle.selection.specs.computed.WordBytes.{byte_of}
 use Rattle.selection.proofs.{WordBytes.{word_more, words_all}, kept.bytes_of.Statement.{statement}}
 use Rattle.selection.proofs.kept.bytes_of.Tie as tie
 
-abbrev invariant-loop : tie.invariant-loop
-invariant-loop words bytes₀ k₀ bytes k = (k ≤ 16) × (bytes ≡ filled (byte_of words) (8 * k) bytes₀)
+abbrev invariant-loop-k : tie.invariant-loop-k
+invariant-loop-k words bytes₀ k₀ bytes k = (k ≤ 16) × (bytes ≡ filled (byte_of words) (8 * k) bytes₀)
 
-abbrev decreases-loop : tie.decreases-loop
-decreases-loop words bytes₀ k₀ bytes k = 16 - k
+abbrev decreases-loop-k : tie.decreases-loop-k
+decreases-loop-k words bytes₀ k₀ bytes k = 16 - k
 
 pub bytes_of_spec : {M : Type 1} → statement M
 bytes_of_spec =
-    tie.close (tie.spec invariant-loop decreases-loop (λ c. (omega arith, sym (fill_none _ _)))
+    tie.close (tie.spec invariant-loop-k decreases-loop-k (λ c. (omega arith, sym (fill_none _ _)))
     (λ c. search rules) (λ c. search rules) (λ c. search rules) (λ c. search rules)
     (λ c. search rules) (λ c. search rules) (λ c. search rules) (λ c. search rules)
     (λ c. search rules) (λ c. search rules) (λ c. search rules) (λ c. search rules)
@@ -19,5 +19,5 @@ bytes_of_spec =
     (λ c. search rules) (λ c. search rules) (λ c. search rules) (λ c. search rules)
     (λ c. search rules) (λ c. search rules) (λ c. search rules) (λ c. search rules)
     (λ c. search rules) (λ c. search rules) (λ c. search rules) (λ c. search rules)
-    (λ c. (omega arith, word_more c.before.before.before.args.words.now _ c.before.before.loop.k c.before.before.loop.invariant.1 (omega arith)))
-    (λ c. words_all c.before.before.args.words.now _ c.before.loop.k c.before.loop.invariant.1 (omega arith) refl))
+    (λ c. (omega arith, word_more c.before.before.before.args.words.now _ c.before.before.loop-k.k c.before.before.loop-k.invariant.1 (omega arith)))
+    (λ c. words_all c.before.before.args.words.now _ c.before.loop-k.k c.before.loop-k.invariant.1 (omega arith) refl))

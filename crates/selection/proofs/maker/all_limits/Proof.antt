@@ -9,20 +9,20 @@ record Before (E : Estimate) (all : List (List ℕ)) (row : ℕ) : Type 0 where
   size : length all ≡ 16
   limits : (j : ℕ) → j < row → AreLimits E j (get_or all j [])
 
-abbrev invariant-loop : tie.invariant-loop
-invariant-loop estimate all₀ row₀ all row = Before estimate all row
+abbrev invariant-loop-row : tie.invariant-loop-row
+invariant-loop-row estimate all₀ row₀ all row = Before estimate all row
 
-abbrev decreases-loop : tie.decreases-loop
-decreases-loop estimate all₀ row₀ all row = 16 - row
+abbrev decreases-loop-row : tie.decreases-loop-row
+decreases-loop-row estimate all₀ row₀ all row = 16 - row
 
-loop_again : tie.Need-loop-preserved invariant-loop decreases-loop
+loop_again : tie.Need-loop-row-preserved invariant-loop-row decreases-loop-row
 loop_again c =
-    let l = c.before.before.loop in
+    let l = c.before.before.loop-row in
     record { within = omega arith; size = simp length-set l.invariant.size; limits = set_more (AreLimits _) l.all l.row _ _ (omega arith) l.invariant.limits c.Limits-of.ensures.1 }
 
 pub all_limits_spec : {M : Type 1} → statement M
 all_limits_spec =
-    tie.close (tie.spec invariant-loop decreases-loop
+    tie.close (tie.spec invariant-loop-row decreases-loop-row
     (λ c. record { within = omega arith; size = refl; limits = λ j h. absurd (omega arith) }) (λ c κs. omega arith)
     (λ c. omega arith) (λ c. omega arith) (λ c. omega arith) (λ c. omega arith) loop_again
-    (λ c. λ j h. c.before.loop.invariant.limits j (omega arith)))
+    (λ c. λ j h. c.before.loop-row.invariant.limits j (omega arith)))

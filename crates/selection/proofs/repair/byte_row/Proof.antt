@@ -4,22 +4,22 @@ use Rattle.selection.specs.computed.Outcomes.{repaired_byte}
 use Rattle.selection.proofs.{RepairRows.{RowFilled, row_begins, row_more, row_ends, byte_is}, repair.byte_row.Statement.{statement}}
 use Rattle.selection.proofs.repair.byte_row.Tie as tie
 
-abbrev invariant-loop : tie.invariant-loop
-invariant-loop table m l changed repaired₀ c₀ repaired c = RowFilled (repaired_byte m.estimate table) m.row repaired₀ repaired c
+abbrev invariant-loop-c : tie.invariant-loop-c
+invariant-loop-c table m l changed repaired₀ c₀ repaired c = RowFilled (repaired_byte m.estimate table) m.row repaired₀ repaired c
 
-abbrev decreases-loop : tie.decreases-loop
-decreases-loop table m l changed repaired₀ c₀ repaired c = 128 - c
+abbrev decreases-loop-c : tie.decreases-loop-c
+decreases-loop-c table m l changed repaired₀ c₀ repaired c = 128 - c
 
-loop_again : tie.Need-loop-preserved invariant-loop decreases-loop
+loop_again : tie.Need-loop-c-preserved invariant-loop-c decreases-loop-c
 loop_again c =
     let l = c.before.before.before.before in
     let s = l.before.before.before.before in
-    row_more _ _ _ l.loop.invariant s.requires.row (omega arith) (search rules) (byte_is s.args.m.estimate s.args.table.now l.loop.c s.requires.row (omega arith) s.requires.limits (s.requires.marks l.loop.c (omega arith)) c.byte_of.ensures)
+    row_more _ _ _ l.loop-c.invariant s.requires.row (omega arith) (search rules) (byte_is s.args.m.estimate s.args.table.now l.loop-c.c s.requires.row (omega arith) s.requires.limits (s.requires.marks l.loop-c.c (omega arith)) c.byte_of.ensures)
 
 pub byte_row_spec : {M : Type 1} → statement M
 byte_row_spec =
-    tie.close (tie.spec invariant-loop decreases-loop (λ c. row_begins _ _ _)
+    tie.close (tie.spec invariant-loop-c decreases-loop-c (λ c. row_begins _ _ _)
     (λ c. omega arith) (λ c. omega arith) (λ c. omega arith) (λ c. omega arith)
     (λ c. omega arith) (λ c κs. search rules)
-    (λ c. omega (arith, c.before.before.before.before.loop.invariant.size)) (λ c. omega arith) (λ c. omega arith) loop_again (λ c. c.before.loop.invariant.size)
-    (λ c. row_ends _ _ _ c.before.loop.invariant c.loop-test.false))
+    (λ c. omega (arith, c.before.before.before.before.loop-c.invariant.size)) (λ c. omega arith) (λ c. omega arith) loop_again (λ c. c.before.loop-c.invariant.size)
+    (λ c. row_ends _ _ _ c.before.loop-c.invariant c.loop-c-test.false))

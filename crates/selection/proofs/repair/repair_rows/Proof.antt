@@ -4,55 +4,55 @@ use Rattle.selection.specs.{computed.Allowed.{is_faulty}, computed.Outcomes.{rep
 use Rattle.selection.proofs.{Counts.{row_counted}, RepairRows.{rows_more, rows_size, row_at}, repair.repair_rows.Statement.{statement}}
 use Rattle.selection.proofs.repair.repair_rows.Tie as tie
 
-abbrev invariant-loop : tie.invariant-loop
-invariant-loop estimate table repaired₀ changed₀ count₀ row₀ repaired changed count row = (row ≤ 16) × RepairedTo estimate table (128 * row) repaired₀ changed₀ repaired changed count
+abbrev invariant-loop-row : tie.invariant-loop-row
+invariant-loop-row estimate table repaired₀ changed₀ count₀ row₀ repaired changed count row = (row ≤ 16) × RepairedTo estimate table (128 * row) repaired₀ changed₀ repaired changed count
 
-abbrev decreases-loop : tie.decreases-loop
-decreases-loop estimate table repaired₀ changed₀ count₀ row₀ repaired changed count row = 16 - row
+abbrev decreases-loop-row : tie.decreases-loop-row
+decreases-loop-row estimate table repaired₀ changed₀ count₀ row₀ repaired changed count row = 16 - row
 
 -- the marks of a row whose bytes are written
-abbrev marks : tie.After-slice-known4 invariant-loop decreases-loop → tie.After-mark-row invariant-loop decreases-loop
+abbrev marks : tie.After-slice_known-in-loop-row-2-1 invariant-loop-row decreases-loop-row → tie.After-mark_row-n invariant-loop-row decreases-loop-row
 marks c = let limits = c.before.before.before.before.before in limits.before.before.before
 
-byte_row_requires : tie.Need-byte-row-requires invariant-loop decreases-loop
+byte_row_requires : tie.Need-byte_row-requires invariant-loop-row decreases-loop-row
 byte_row_requires c κs =
     let m = c.before.before.before.before.before in
-    let l = m.before.before.before.before.loop in
+    let l = m.before.before.before.before.loop-row in
     let t = m.before.before.before.before.before.before.before.before.args.table.now in
-    let e = rows_more (λ z. change_mark z t) _ l.row m.before.before.row-multiples.ensures.1 m.before.before.row-multiples.ensures.2 l.invariant.1.marks m.mark-row.ensures.0 in
+    let e = rows_more (λ z. change_mark z t) _ l.row m.before.before.row_multiples-m.ensures.1 m.before.before.row_multiples-m.ensures.2 l.invariant.1.marks m.mark_row-n.ensures.0 in
     let changed = rows_size _ _ (l.row + 1) (search rules) (omega arith) e in
     let repaired = rows_size _ _ _ (search rules) l.invariant.0 l.invariant.1.bytes in
-    rw (m.before.before.row-multiples.ensures.1, m.before.before.row-multiples.ensures.2) (record { size = search rules; row = omega arith; limits = search rules; changed_room = omega arith; repaired_room = omega arith; marks = row_at _ _ l.row e })
+    rw (m.before.before.row_multiples-m.ensures.1, m.before.before.row_multiples-m.ensures.2) (record { size = search rules; row = omega arith; limits = search rules; changed_room = omega arith; repaired_room = omega arith; marks = row_at _ _ l.row e })
 
-loop_again : tie.Need-loop-preserved invariant-loop decreases-loop
+loop_again : tie.Need-loop-row-preserved invariant-loop-row decreases-loop-row
 loop_again c =
     let m = marks c in
     let l = m.before.before.before.before in
-    let i = l.loop.inv.1 in
-    let same = m.before.before.row-multiples.ensures.1 in
-    let row = m.before.before.row-multiples.ensures.2 in
+    let i = l.loop-row.inv.1 in
+    let same = m.before.before.row_multiples-m.ensures.1 in
+    let row = m.before.before.row_multiples-m.ensures.2 in
     let t = l.before.before.before.before.args.table.now in
-    let n = m.mark-row.ensures.1 ∙ ap₂ (λ (z : Estimate) (r : ℕ). count_below (λ c. is_faulty z t (128 * r + c)) 128) same row in (
+    let n = m.mark_row-n.ensures.1 ∙ ap₂ (λ (z : Estimate) (r : ℕ). count_below (λ c. is_faulty z t (128 * r + c)) 128) same row in (
       omega arith,
       record {
-        bytes = rows_more (λ z. repaired_byte z t) _ l.loop.row same row i.bytes c.before.before.byte-row.ensures;
-        marks = rows_more (λ z. change_mark z t) _ l.loop.row same row i.marks m.mark-row.ensures.0;
-        count = row_counted _ l.loop.row i.count n;
+        bytes = rows_more (λ z. repaired_byte z t) _ l.loop-row.row same row i.bytes c.before.before.byte_row.ensures;
+        marks = rows_more (λ z. change_mark z t) _ l.loop-row.row same row i.marks m.mark_row-n.ensures.0;
+        count = row_counted _ l.loop-row.row i.count n;
       },
     )
 
 pub repair_rows_spec : {M : Type 1} → statement M
 repair_rows_spec =
-    tie.close (tie.spec invariant-loop decreases-loop
+    tie.close (tie.spec invariant-loop-row decreases-loop-row
     (λ c. (omega arith, record { bytes = sym (fill_none _ _); marks = sym (fill_none _ _); count = sym (count_start _) }))
     (λ c κs. omega arith)
-    (λ c κs. let l = c.before.before.before.loop in record { size = search rules; row = search rules; room = omega (arith, rows_size _ _ _ (search rules) l.invariant.0 l.invariant.1.marks) })
+    (λ c κs. let l = c.before.before.before.loop-row in record { size = search rules; row = search rules; room = omega (arith, rows_size _ _ _ (search rules) l.invariant.0 l.invariant.1.marks) })
     (λ c κs. omega arith) byte_row_requires (λ c. omega arith)
     (λ c.
     let l = (marks c).before.before.before.before in
     let a = l.before.before.before.before.args in
-    omega (arith, l.loop.inv.1.count, count_most (is_faulty a.estimate a.table.now) (128 * l.loop.row)))
+    omega (arith, l.loop-row.inv.1.count, count_most (is_faulty a.estimate a.table.now) (128 * l.loop-row.row)))
     (λ c. omega arith) (λ c. omega arith) loop_again
-    (λ c. rows_size _ _ _ (search rules) c.before.loop.invariant.0 c.before.loop.invariant.1.bytes)
-    (λ c. rows_size _ _ _ (search rules) c.before.loop.invariant.0 c.before.loop.invariant.1.marks)
-    (λ c. let e : 128 * c.before.loop.row ≡ 2048 = omega arith in rw e at c.before.loop.invariant.1))
+    (λ c. rows_size _ _ _ (search rules) c.before.loop-row.invariant.0 c.before.loop-row.invariant.1.bytes)
+    (λ c. rows_size _ _ _ (search rules) c.before.loop-row.invariant.0 c.before.loop-row.invariant.1.marks)
+    (λ c. let e : 128 * c.before.loop-row.row ≡ 2048 = omega arith in rw e at c.before.loop-row.invariant.1))

@@ -3,23 +3,23 @@ use Rattle.selection.specs.computed.Allowed.{is_bad_in}
 use Rattle.selection.proofs.table.count_row.Statement.{statement}
 use Rattle.selection.proofs.table.count_row.Tie as tie
 
-abbrev invariant-loop : tie.invariant-loop
-invariant-loop table m count₀ c₀ count c = (c ≤ 128) × (count ≡ count_below (is_bad_in m.estimate table m.row) c)
+abbrev invariant-loop-c : tie.invariant-loop-c
+invariant-loop-c table m count₀ c₀ count c = (c ≤ 128) × (count ≡ count_below (is_bad_in m.estimate table m.row) c)
 
-abbrev decreases-loop : tie.decreases-loop
-decreases-loop table m count₀ c₀ count c = 128 - c
+abbrev decreases-loop-c : tie.decreases-loop-c
+decreases-loop-c table m count₀ c₀ count c = 128 - c
 
-loop_again : tie.Need-loop-preserved invariant-loop decreases-loop
+loop_again : tie.Need-loop-c-preserved invariant-loop-c decreases-loop-c
 loop_again c =
     let l = c.before.before.before in
     let f = is_bad_in l.before.before.args.m.estimate l.before.before.args.table.now l.before.before.args.m.row in
-    let is = sym c.before.is-bad.ensures in
-    ⊎_elim (λ w. omega (arith, count_one f l.loop.c (is ∙ w.0.taken))) (λ w. omega (arith, count_other f l.loop.c (is ∙ w.0.left))) c.if1.branch
+    let is = sym c.before.is_bad.ensures in
+    ⊎_elim (λ w. omega (arith, count_one f l.loop-c.c (is ∙ w.0.taken))) (λ w. omega (arith, count_other f l.loop-c.c (is ∙ w.0.left))) c.if-is_bad.branch
 
 pub count_row_spec : {M : Type 1} → statement M
 count_row_spec =
-    tie.close (tie.spec invariant-loop decreases-loop (λ c. (omega arith, sym (count_start _)))
+    tie.close (tie.spec invariant-loop-c decreases-loop-c (λ c. (omega arith, sym (count_start _)))
     (λ c κs. record { table = search rules; row = search rules; column = omega arith })
-    (λ c. let l = c.before.before.before.loop in let h : l.count ≤ l.c = rw l.invariant.1 (count_most _ _) in omega arith)
+    (λ c. let l = c.before.before.before.loop-c in let h : l.count ≤ l.c = rw l.invariant.1 (count_most _ _) in omega arith)
     (λ c. omega arith) (λ c. omega arith) loop_again
-    (λ c. let e : c.before.loop.c ≡ 128 = omega arith in rw e at c.before.loop.invariant.1))
+    (λ c. let e : c.before.loop-c.c ≡ 128 = omega arith in rw e at c.before.loop-c.invariant.1))

@@ -9,20 +9,20 @@ record Lesser (f : ℕ → Bool) (first column : ℕ) : Type 0 where
   most : first ≤ 128
   is : first_from f 0 128 ≡ min first (first_from f column (128 - column))
 
-abbrev invariant-loop : tie.invariant-loop
-invariant-loop table m first₀ column₀ first column = Lesser (is_bad_in m.estimate table m.row) first column
+abbrev invariant-loop-column : tie.invariant-loop-column
+invariant-loop-column table m first₀ column₀ first column = Lesser (is_bad_in m.estimate table m.row) first column
 
-abbrev decreases-loop : tie.decreases-loop
-decreases-loop table m first₀ column₀ first column = 128 - column
+abbrev decreases-loop-column : tie.decreases-loop-column
+decreases-loop-column table m first₀ column₀ first column = 128 - column
 
-loop_again : tie.Need-loop-preserved invariant-loop decreases-loop
+loop_again : tie.Need-loop-column-preserved invariant-loop-column decreases-loop-column
 loop_again c =
-    let i = c.before.before.before.loop.invariant in
-    record { within = omega arith; most = omega arith; is = i.is ∙ lesser_turn _ 128 _ _ (omega arith) i.most c.before.bad-column.ensures c.lesser.ensures }
+    let i = c.before.before.before.loop-column.invariant in
+    record { within = omega arith; most = omega arith; is = i.is ∙ lesser_turn _ 128 _ _ (omega arith) i.most c.before.bad_column.ensures c.lesser-first.ensures }
 
 pub first_in_row_spec : {M : Type 1} → statement M
 first_in_row_spec =
-    tie.close (tie.spec invariant-loop decreases-loop (λ c. record { within = omega arith; most = omega arith; is = lesser_start _ 128 })
+    tie.close (tie.spec invariant-loop-column decreases-loop-column (λ c. record { within = omega arith; most = omega arith; is = lesser_start _ 128 })
     (λ c κs. record { table = search rules; row = search rules; column = omega arith })
     (λ c κs. search rules) (λ c. omega arith) (λ c. omega arith) loop_again
-    (λ c. let i = c.before.loop.invariant in sym (i.is ∙ lesser_end _ 128 _ _ c.loop-test.false i.most)))
+    (λ c. let i = c.before.loop-column.invariant in sym (i.is ∙ lesser_end _ 128 _ _ c.loop-column-test.false i.most)))
