@@ -10,7 +10,7 @@ returns_2 : tie.Need-returns-2
 returns_2 c =
     let k = c.before.before.before.before in
     let p = k.before.before.before.requires in
-    told_line _ _ _ p.0 p.1 k.check-cell.ensures (rw (c.before.before.witness.given.1, to_z-of_z (sfits_of c.digit-of.type-inv), c.digit-of.ensures))
+    told_line _ _ _ p.0 p.1 k.check-cell.ensures (rw (c.before.before.witness.given.1, to_z-of_z (sfits_of c.digit-of.type_inv), c.digit-of.ensures))
 
 pub line_of_spec : {M : Type 1} → statement M
 line_of_spec =

@@ -13,6 +13,6 @@ decreases-loop fd buffer₀ from counter₀ buffer counter = 1000 - counter
 pub read_from_spec : {M : Type 1} → statement M
 read_from_spec =
     tie.close (tie.spec invariant-loop decreases-loop (λ c. (omega arith, refl)) (λ c κs. omega arith) (λ c κs. search rules) (λ c. omega arith)
-    (λ c. let g = c.before.before.before.before.read-once in rw (to_z-of_z (record { sfits = g.type-inv })) (moved_of g.result g.ensures (omega arith)))
+    (λ c. let g = c.before.before.before.before.read-once in rw (to_z-of_z (record { sfits = g.type_inv })) (moved_of g.result g.ensures (omega arith)))
     (λ c. search rules) (λ c. search rules) (λ c. (omega arith, omega arith)) (λ c κs. omega arith) (λ c. omega arith)
-    (λ c. let g = c.before.before.read-once2 in rw (to_z-of_z (record { sfits = g.type-inv })) (moved_of g.result g.ensures (omega arith))))
+    (λ c. let g = c.before.before.read-once2 in rw (to_z-of_z (record { sfits = g.type_inv })) (moved_of g.result g.ensures (omega arith))))

@@ -22,7 +22,7 @@ kept b = counts _ (omega (arith, b.buffer.given))
 fits : (c : tie.After-count invariant-loop decreases-loop) → let l = (turn c.before.before.before.before).loop in c.count.result ≤ length l.buffer - l.count
 fits c =
     let got = c.before.before.before.before.before.read-from in
-    few got.result _ (record { sfits = got.type-inv }) got.ensures c.count.ensures.1
+    few got.result _ (record { sfits = got.type_inv }) got.ensures c.count.ensures.1
 
 pub read_input_spec : {M : Type 1} → statement M
 read_input_spec =

@@ -8,4 +8,4 @@ pub read_once_spec : {M : Type 1} → statement M
 read_once_spec =
     tie.close (tie.spec (λ c. search rules) (λ c. search rules) (λ c. search rules)
     (λ c κs. search rules) (λ c. search rules)
-    (λ c. let got = c.before.before.read in rw (to_z-of_z (record { sfits = got.type-inv })) (rw rest_length at got.ensures)))
+    (λ c. let got = c.before.before.read in rw (to_z-of_z (record { sfits = got.type_inv })) (rw rest_length at got.ensures)))

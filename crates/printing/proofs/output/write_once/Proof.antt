@@ -7,4 +7,4 @@ use Rattle.printing.proofs.output.write_once.Tie as tie
 pub write_once_spec : {M : Type 1} → statement M
 write_once_spec =
     tie.close (tie.spec (λ c. search rules) (λ c. search rules) (λ c. search rules) (λ c κs. search rules)
-    (λ c. let got = c.write in rw (to_z-of_z (record { sfits = got.type-inv })) (rw rest_length at got.ensures)))
+    (λ c. let got = c.write in rw (to_z-of_z (record { sfits = got.type_inv })) (rw rest_length at got.ensures)))

@@ -13,5 +13,5 @@ pub write_output_spec : {M : Type 1} → statement M
 write_output_spec =
     tie.close (tie.spec invariant-loop decreases-loop (λ c. omega arith) (λ c κs. omega arith) (λ c κs. search rules) (λ c. omega arith) (λ c. omega arith)
     (λ c. omega arith)
-    (λ c. omega (arith, let g = c.before.before.write-from in few g.result _ (record { sfits = g.type-inv }) g.ensures c.before.count.ensures.1))
+    (λ c. omega (arith, let g = c.before.before.write-from in few g.result _ (record { sfits = g.type_inv }) g.ensures c.before.count.ensures.1))
     (λ c. omega arith))

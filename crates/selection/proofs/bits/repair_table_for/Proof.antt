@@ -5,8 +5,8 @@ use Rattle.selection.proofs.bits.repair_table_for.Tie as tie
 pub repair_table_for_spec : {M : Type 1} → statement M
 repair_table_for_spec =
     tie.close (tie.spec (λ c κs. search rules) (λ c. search rules) (λ c. search rules) (λ c κs. search rules) (λ c κs. search rules)
-    (λ c. rw (sym c.before.before.before.admit_bits-admission.ensures ∙ c.before.admission-1.given.1)) (λ c. search rules) (λ c. search rules)
+    (λ c. rw (sym c.admit_bits-admission.ensures ∙ c.in-Refused.is)) (λ c. search rules) (λ c. search rules)
     (λ c.
-    let call = c.before.before.before.before in
-    let s = call.before.before.before in
-    rw (sym s.before.before.before.admit_bits-admission.ensures ∙ s.before.enum_told-1.given.1, ← s.estimate_of.ensures) call.repair_table.ensures))
+    let call = c in
+    let s = call in
+    rw (sym s.admit_bits-admission.ensures ∙ s.enum_told-1.given.1, ← s.estimate_of.ensures) call.repair_table.ensures))

@@ -7,4 +7,4 @@ check_cell_spec =
     tie.close (tie.spec (λ c. search tests) (λ c. search tests)
     (λ c. search rules) (λ c. search rules) (λ c. search tests)
     (λ c κs. search rules) (λ c κs. search rules)
-    (λ c. rw (← c.before.row_multiples.ensures.1, ← c.before.row_multiples.ensures.2) c.test_cell.ensures))
+    (λ c. rw (← c.row_multiples.ensures.1, ← c.row_multiples.ensures.2) c.test_cell.ensures))

@@ -11,4 +11,4 @@ high_witness_spec =
     (λ c. omega (arith, mul-le-mul_right c.args.d c.requires.byte)) (λ c. search rules)
     (λ c. omega (arith, mul-le-mul_right c.args.d c.requires.byte))
     (λ c. omega (arith, mul-le-mul_right c.args.d c.requires.byte)) (λ c κs. search rules)
-    (λ c κs. search rules) (λ c. cc (to_z-of_z {w = w64} (record { sfits = c.unbiased.type-inv }))))
+    (λ c κs. search rules) (λ c. cc (to_z-of_z {w = w64} (record { sfits = c.unbiased.type_inv }))))

@@ -5,7 +5,7 @@ use Rattle.selection.proofs.cell.least_byte.Tie as tie
 pub least_byte_spec : {M : Type 1} → statement M
 least_byte_spec =
     tie.close (tie.spec (λ c κs. omega (arith, columns c.requires.0))
-    (λ c κs. omega (arith, columns c.before.requires.0)) (λ c. search rules)
-    (λ c κs. omega (arith, columns c.before.before.requires.0)) (λ c. search rules)
-    (λ c κs. omega (arith, columns c.before.before.before.requires.0)) (λ c. search rules)
+    (λ c κs. omega (arith, columns c.requires.0)) (λ c. search rules)
+    (λ c κs. omega (arith, columns c.requires.0)) (λ c. search rules)
+    (λ c κs. omega (arith, columns c.requires.0)) (λ c. search rules)
     (λ c. search rules))

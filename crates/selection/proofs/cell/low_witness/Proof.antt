@@ -7,4 +7,4 @@ pub low_witness_spec : {M : Type 1} → statement M
 low_witness_spec =
     tie.close (tie.spec (λ c. search rules) (λ c. search rules) (λ c. search rules)
     (λ c. search rules) (λ c. search rules) (λ c κs. search rules) (λ c κs. search rules)
-    (λ c. cc (to_z-of_z {w = w64} (record { sfits = c.unbiased.type-inv }))))
+    (λ c. cc (to_z-of_z {w = w64} (record { sfits = c.unbiased.type_inv }))))

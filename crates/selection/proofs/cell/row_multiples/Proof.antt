@@ -5,21 +5,21 @@ use Rattle.selection.proofs.cell.row_multiples.Tie as tie
 
 returns : tie.Need-returns
 returns c =
-    let m = c.before.before.before.before.before in
-    let row = m.before.before.before.before.before in (
+    let m = c in
+    let row = m in (
       record {
         small = row.requires;
         is = simp (
           c.begins_at_most-3.ensures,
-          c.before.ends_at_most-2.ensures,
-          c.before.before.begins_at_most-2.ensures,
-          c.before.before.before.ends_at_most.ensures,
-          c.before.before.before.before.begins_at_most.ensures,
+          c.ends_at_most-2.ensures,
+          c.begins_at_most-2.ensures,
+          c.ends_at_most.ensures,
+          c.begins_at_most.ensures,
           m.ends_below_minus-3.ensures,
-          m.before.begins_below_minus-2.ensures,
-          m.before.before.ends_below_minus-2.ensures,
-          m.before.before.before.begins_below_minus.ensures,
-          m.before.before.before.before.ends_below_minus.ensures,
+          m.begins_below_minus-2.ensures,
+          m.ends_below_minus-2.ensures,
+          m.begins_below_minus.ensures,
+          m.ends_below_minus.ensures,
         );
       },
       refl,

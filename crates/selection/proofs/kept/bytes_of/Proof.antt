@@ -19,5 +19,5 @@ bytes_of_spec =
     (λ c. search rules) (λ c. search rules) (λ c. search rules) (λ c. search rules)
     (λ c. search rules) (λ c. search rules) (λ c. search rules) (λ c. search rules)
     (λ c. search rules) (λ c. search rules) (λ c. search rules) (λ c. search rules)
-    (λ c. (omega arith, word_more c.before.before.before.args.words.now _ c.before.before.loop-k.k c.before.before.loop-k.invariant.1 (omega arith)))
-    (λ c. words_all c.before.before.args.words.now _ c.before.loop-k.k c.before.loop-k.invariant.1 (omega arith) refl))
+    (λ c. (omega arith, word_more c.args.words.now _ c.loop-k.k c.loop-k.invariant.1 (omega arith)))
+    (λ c. words_all c.args.words.now _ c.loop-k.k c.loop-k.invariant.1 (omega arith) refl))

@@ -7,8 +7,8 @@ use Rattle.selection.proofs.kept_words.row_words.Tie as tie
 returns_16 : tie.Need-returns-in_default
 unfolding words_bytes made_table list_from made_of allows_of
 returns_16 c =
-    let m = c.before.args.n % 16 in
-    let r = c.in_default.rest in
+    let m = c.args.n % 16 in
+    let r = c.in_default.in_default-own.rest in
     let q = r.0.0.0.0.0 in
     let p = q.0.0.0.0.0 in
     let a : 5 ≤ m = omega (arith, p.0.0.0.0.1, p.0.0.0.1, p.0.0.1, p.0.1, p.1) in
@@ -21,11 +21,11 @@ pub row_words_spec : {M : Type 1} → statement M
 unfolding words_bytes made_table list_from made_of allows_of
 row_words_spec =
     tie.close (tie.spec
-    (λ c. (refl, rw c.in_default.keys1 refl)) (λ c. (refl, rw c.in_default.keys2 refl))
-    (λ c. (refl, rw c.in_default.keys3 refl)) (λ c. (refl, rw c.in_default.keys4 refl))
-    (λ c. (refl, rw c.in_default.keys5 refl)) (λ c. (refl, rw c.in_default.keys6 refl))
-    (λ c. (refl, rw c.in_default.keys7 refl)) (λ c. (refl, rw c.in_default.keys8 refl))
-    (λ c. (refl, rw c.in_default.keys9 refl)) (λ c. (refl, rw c.in_default.keys10 refl))
-    (λ c. (refl, rw c.in_default.keys11 refl)) (λ c. (refl, rw c.in_default.keys12 refl))
-    (λ c. (refl, rw c.in_default.keys13 refl)) (λ c. (refl, rw c.in_default.keys14 refl))
-    (λ c. (refl, rw c.in_default.keys15 refl)) returns_16)
+    (λ c. (refl, rw c.in-0.is refl)) (λ c. (refl, rw c.in-1.is refl))
+    (λ c. (refl, rw c.in-2.is refl)) (λ c. (refl, rw c.in-3.is refl))
+    (λ c. (refl, rw c.in-4.is refl)) (λ c. (refl, rw c.in-5.is refl))
+    (λ c. (refl, rw c.in-6.is refl)) (λ c. (refl, rw c.in-7.is refl))
+    (λ c. (refl, rw c.in-8.is refl)) (λ c. (refl, rw c.in-9.is refl))
+    (λ c. (refl, rw c.in-10.is refl)) (λ c. (refl, rw c.in-11.is refl))
+    (λ c. (refl, rw c.in-12.is refl)) (λ c. (refl, rw c.in-13.is refl))
+    (λ c. (refl, rw c.in-14.is refl)) returns_16)

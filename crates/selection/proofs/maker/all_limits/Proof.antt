@@ -17,12 +17,12 @@ decreases-loop-row estimate all₀ row₀ all row = 16 - row
 
 loop_again : tie.Need-loop-row-preserved invariant-loop-row decreases-loop-row
 loop_again c =
-    let l = c.before.before.loop-row in
-    record { within = omega arith; size = simp length-set l.invariant.size; limits = set_more (AreLimits _) l.all l.row _ _ (omega arith) l.invariant.limits c.Limits-of.ensures.1 }
+    let l = c.loop-row in
+    record { within = omega arith; size = simp length-set l.invariant.size; limits = set_more (AreLimits _) l.all l.row _ _ (omega arith) l.invariant.limits c.limits_of-l.ensures.1 }
 
 pub all_limits_spec : {M : Type 1} → statement M
 all_limits_spec =
     tie.close (tie.spec invariant-loop-row decreases-loop-row
     (λ c. record { within = omega arith; size = refl; limits = λ j h. absurd (omega arith) }) (λ c κs. omega arith)
     (λ c. omega arith) (λ c. omega arith) (λ c. omega arith) (λ c. omega arith) loop_again
-    (λ c. λ j h. c.before.loop-row.invariant.limits j (omega arith)))
+    (λ c. λ j h. c.loop-row.invariant.limits j (omega arith)))

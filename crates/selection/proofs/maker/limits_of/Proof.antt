@@ -7,10 +7,10 @@ pub limits_of_spec : {M : Type 1} → statement M
 unfolding limits_of
 limits_of_spec =
     tie.close (tie.spec (λ c κs. search rules)
-    (λ c. omega (arith, columns c.before.row_multiples-m.ensures.0))
-    (λ c. omega (arith, columns c.before.before.row_multiples-m.ensures.0))
-    (λ c. omega (arith, columns c.before.before.before.row_multiples-m.ensures.0))
-    (λ c. omega (arith, columns c.before.before.before.before.row_multiples-m.ensures.0))
-    (λ c. omega (arith, columns c.before.before.before.before.before.row_multiples-m.ensures.0))
-    (λ c. let half = c.before.before.before in omega (arith, columns half.before.before.before.row_multiples-m.ensures.0))
+    (λ c. omega (arith, columns c.row_multiples-m.ensures.0))
+    (λ c. omega (arith, columns c.row_multiples-m.ensures.0))
+    (λ c. omega (arith, columns c.row_multiples-m.ensures.0))
+    (λ c. omega (arith, columns c.row_multiples-m.ensures.0))
+    (λ c. omega (arith, columns c.row_multiples-m.ensures.0))
+    (λ c. let half = c in omega (arith, columns half.row_multiples-m.ensures.0))
     (λ c. limits_answer _ _ (search rules) (cc)))

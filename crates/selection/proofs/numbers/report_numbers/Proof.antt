@@ -6,7 +6,7 @@ use Rattle.selection.proofs.numbers.report_numbers.Tie as tie
 pub report_numbers_spec : {M : Type 1} → statement M
 report_numbers_spec =
     tie.close (tie.spec (λ c. search rules) (λ c. search rules)
-    (λ c κs. c.before.before.before.before.requires.cell _ c.before.before.outcome-1.given.1)
+    (λ c κs. c.requires.cell _ c.in-Bad.is)
     (λ c. search rules) (λ c. cc)
-    (λ c. c.bad_numbers.ensures ∙ sym (ap (outcome_numbers c.before.before.before.before.before.args.x.count) c.before.before.before.outcome-1.given.1))
+    (λ c. c.bad_numbers.ensures ∙ sym (ap (outcome_numbers c.args.x.count) c.in-Bad.is))
     (λ c. cc))

@@ -12,8 +12,8 @@ decreases-loop-c table m l changed repaired₀ c₀ repaired c = 128 - c
 
 loop_again : tie.Need-loop-c-preserved invariant-loop-c decreases-loop-c
 loop_again c =
-    let l = c.before.before.before.before in
-    let s = l.before.before.before.before in
+    let l = c in
+    let s = l in
     row_more _ _ _ l.loop-c.invariant s.requires.row (omega arith) (search rules) (byte_is s.args.m.estimate s.args.table.now l.loop-c.c s.requires.row (omega arith) s.requires.limits (s.requires.marks l.loop-c.c (omega arith)) c.byte_of.ensures)
 
 pub byte_row_spec : {M : Type 1} → statement M
@@ -21,5 +21,5 @@ byte_row_spec =
     tie.close (tie.spec invariant-loop-c decreases-loop-c (λ c. row_begins _ _ _)
     (λ c. omega arith) (λ c. omega arith) (λ c. omega arith) (λ c. omega arith)
     (λ c. omega arith) (λ c κs. search rules)
-    (λ c. omega (arith, c.before.before.before.before.loop-c.invariant.size)) (λ c. omega arith) (λ c. omega arith) loop_again (λ c. c.before.loop-c.invariant.size)
-    (λ c. row_ends _ _ _ c.before.loop-c.invariant c.loop-c-test.false))
+    (λ c. omega (arith, c.loop-c.invariant.size)) (λ c. omega arith) (λ c. omega arith) loop_again (λ c. c.loop-c.invariant.size)
+    (λ c. row_ends _ _ _ c.loop-c.invariant c.loop-c-test.false))

@@ -13,8 +13,8 @@ decreases-loop-c table m changed₀ start count₀ c₀ changed count c = 128 - 
 
 loop_again : tie.Need-loop-c-preserved invariant-loop-c decreases-loop-c
 loop_again c =
-    let l = c.before.before.before in
-    let s = l.before.before.before in
+    let l = c in
+    let s = l in
     let t = s.args.table.now in
     let mark = mark_is t l.loop-c.c s.requires.row (omega arith) c.mark_of-mark.ensures.0 in
     (row_more _ _ _ l.loop-c.invariant.0 s.requires.row.small (omega arith) s.requires.room mark, count_mark s.args.m.estimate t s.args.m.row l.loop-c.c l.loop-c.invariant.1 mark)
@@ -24,7 +24,7 @@ mark_row_spec =
     tie.close (tie.spec invariant-loop-c decreases-loop-c (λ c. search rules)
     (λ c. (row_begins _ _ _, sym (count_start _))) (λ c. search rules) (λ c. search rules)
     (λ c. omega arith) (λ c κs. (search rules, omega arith))
-    (λ c. omega arith) (λ c. omega (arith, c.before.before.before.loop-c.invariant.0.size))
-    (λ c. let l = c.before.before.before.loop-c in let h : l.count ≤ l.c = rw l.invariant.1 (count_most _ _) in omega arith)
-    (λ c. omega arith) (λ c. omega arith) loop_again (λ c. c.before.loop-c.invariant.0.size)
-    (λ c. let e : c.before.loop-c.c ≡ 128 = omega arith in (row_ends _ _ _ c.before.loop-c.invariant.0 (omega arith), rw e at c.before.loop-c.invariant.1)))
+    (λ c. omega arith) (λ c. omega (arith, c.loop-c.invariant.0.size))
+    (λ c. let l = c.loop-c in let h : l.count ≤ l.c = rw l.invariant.1 (count_most _ _) in omega arith)
+    (λ c. omega arith) (λ c. omega arith) loop_again (λ c. c.loop-c.invariant.0.size)
+    (λ c. let e : c.loop-c.c ≡ 128 = omega arith in (row_ends _ _ _ c.loop-c.invariant.0 (omega arith), rw e at c.loop-c.invariant.1)))

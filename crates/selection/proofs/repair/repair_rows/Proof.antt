@@ -12,30 +12,30 @@ decreases-loop-row estimate table repaired₀ changed₀ count₀ row₀ repaire
 
 -- the marks of a row whose bytes are written
 abbrev marks : tie.After-slice_known-in-loop-row-2-1 invariant-loop-row decreases-loop-row → tie.After-mark_row-n invariant-loop-row decreases-loop-row
-marks c = let limits = c.before.before.before.before.before in limits.before.before.before
+marks c = let limits = c.before.before.before.before in limits.before.before.before
 
 byte_row_requires : tie.Need-byte_row-requires invariant-loop-row decreases-loop-row
 byte_row_requires c κs =
-    let m = c.before.before.before.before.before in
-    let l = m.before.before.before.before.loop-row in
-    let t = m.before.before.before.before.before.before.before.before.args.table.now in
-    let e = rows_more (λ z. change_mark z t) _ l.row m.before.before.row_multiples-m.ensures.1 m.before.before.row_multiples-m.ensures.2 l.invariant.1.marks m.mark_row-n.ensures.0 in
+    let m = c in
+    let l = m.loop-row in
+    let t = m.args.table.now in
+    let e = rows_more (λ z. change_mark z t) _ l.row m.row_multiples-m.ensures.1 m.row_multiples-m.ensures.2 l.invariant.1.marks m.mark_row-n.ensures.0 in
     let changed = rows_size _ _ (l.row + 1) (search rules) (omega arith) e in
     let repaired = rows_size _ _ _ (search rules) l.invariant.0 l.invariant.1.bytes in
-    rw (m.before.before.row_multiples-m.ensures.1, m.before.before.row_multiples-m.ensures.2) (record { size = search rules; row = omega arith; limits = search rules; changed_room = omega arith; repaired_room = omega arith; marks = row_at _ _ l.row e })
+    rw (m.row_multiples-m.ensures.1, m.row_multiples-m.ensures.2) (record { size = search rules; row = omega arith; limits = search rules; changed_room = omega arith; repaired_room = omega arith; marks = row_at _ _ l.row e })
 
 loop_again : tie.Need-loop-row-preserved invariant-loop-row decreases-loop-row
 loop_again c =
     let m = marks c in
-    let l = m.before.before.before.before in
-    let i = l.loop-row.inv.1 in
-    let same = m.before.before.row_multiples-m.ensures.1 in
-    let row = m.before.before.row_multiples-m.ensures.2 in
-    let t = l.before.before.before.before.args.table.now in
+    let l = m in
+    let i = l.loop-row.invariant.1 in
+    let same = m.row_multiples-m.ensures.1 in
+    let row = m.row_multiples-m.ensures.2 in
+    let t = l.args.table.now in
     let n = m.mark_row-n.ensures.1 ∙ ap₂ (λ (z : Estimate) (r : ℕ). count_below (λ c. is_faulty z t (128 * r + c)) 128) same row in (
       omega arith,
       record {
-        bytes = rows_more (λ z. repaired_byte z t) _ l.loop-row.row same row i.bytes c.before.before.byte_row.ensures;
+        bytes = rows_more (λ z. repaired_byte z t) _ l.loop-row.row same row i.bytes c.byte_row.ensures;
         marks = rows_more (λ z. change_mark z t) _ l.loop-row.row same row i.marks m.mark_row-n.ensures.0;
         count = row_counted _ l.loop-row.row i.count n;
       },
@@ -46,13 +46,13 @@ repair_rows_spec =
     tie.close (tie.spec invariant-loop-row decreases-loop-row
     (λ c. (omega arith, record { bytes = sym (fill_none _ _); marks = sym (fill_none _ _); count = sym (count_start _) }))
     (λ c κs. omega arith)
-    (λ c κs. let l = c.before.before.before.loop-row in record { size = search rules; row = search rules; room = omega (arith, rows_size _ _ _ (search rules) l.invariant.0 l.invariant.1.marks) })
+    (λ c κs. let l = c.loop-row in record { size = search rules; row = search rules; room = omega (arith, rows_size _ _ _ (search rules) l.invariant.0 l.invariant.1.marks) })
     (λ c κs. omega arith) byte_row_requires (λ c. omega arith)
     (λ c.
-    let l = (marks c).before.before.before.before in
-    let a = l.before.before.before.before.args in
-    omega (arith, l.loop-row.inv.1.count, count_most (is_faulty a.estimate a.table.now) (128 * l.loop-row.row)))
+    let l = (marks c).before in
+    let a = l.args in
+    omega (arith, l.loop-row.invariant.1.count, count_most (is_faulty a.estimate a.table.now) (128 * l.loop-row.row)))
     (λ c. omega arith) (λ c. omega arith) loop_again
-    (λ c. rows_size _ _ _ (search rules) c.before.loop-row.invariant.0 c.before.loop-row.invariant.1.bytes)
-    (λ c. rows_size _ _ _ (search rules) c.before.loop-row.invariant.0 c.before.loop-row.invariant.1.marks)
-    (λ c. let e : 128 * c.before.loop-row.row ≡ 2048 = omega arith in rw e at c.before.loop-row.invariant.1))
+    (λ c. rows_size _ _ _ (search rules) c.loop-row.invariant.0 c.loop-row.invariant.1.bytes)
+    (λ c. rows_size _ _ _ (search rules) c.loop-row.invariant.0 c.loop-row.invariant.1.marks)
+    (λ c. let e : 128 * c.loop-row.row ≡ 2048 = omega arith in rw e at c.loop-row.invariant.1))

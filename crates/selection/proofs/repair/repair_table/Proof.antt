@@ -6,9 +6,9 @@ use Rattle.selection.proofs.repair.repair_table.Tie as tie
 pub repair_table_spec : {M : Type 1} → statement M
 repair_table_spec =
     tie.close (tie.spec (λ c κs. search rules) (λ c. search rules) (λ c. search rules)
-    (λ c κs. repair_accepts _ _ _ (sym c.before.before.before.before.refusal_of-admission.ensures ∙ c.before.before.enum_told-1.given.1))
-    (λ c. rw (sym c.before.before.before.refusal_of-admission.ensures ∙ c.before.admission-1.given.1) refl) (λ c. search rules) (λ c. search rules)
+    (λ c κs. repair_accepts _ _ _ (sym c.refusal_of-admission.ensures ∙ c.in-Admitted.is))
+    (λ c. rw (sym c.refusal_of-admission.ensures ∙ c.in-Refused.is) refl) (λ c. search rules) (λ c. search rules)
     (λ c.
-    let k = c.before.before.before.before in
-    let told = k.before.before.before in
-    rw (sym told.before.before.refusal_of-admission.ensures ∙ told.enum_told-1.given.1, k.repair_rows-count.ensures.bytes, k.repair_rows-count.ensures.marks, k.repair_rows-count.ensures.count) refl))
+    let k = c in
+    let told = k in
+    rw (sym told.refusal_of-admission.ensures ∙ told.enum_told-1.given.1, k.repair_rows-count.ensures.bytes, k.repair_rows-count.ensures.marks, k.repair_rows-count.ensures.count) refl))

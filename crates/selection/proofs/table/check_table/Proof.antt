@@ -8,6 +8,6 @@ unfolding report_of
 check_table_spec =
     tie.close (tie.spec (λ c κs. search rules) (λ c. search (tests, c.refused_report.ensures))
     (λ c κs. search rules) (λ c κs. search rules)
-    (λ c. search (tests, c.refused_report-then-above-lt-TABLE_LENGTH.ensures, ← c.before.before.first_above-above.ensures))
-    (λ c κs. is_table _ c.before.before.if-table-ne-TABLE_LENGTH.false (rw (← c.before.first_above-above.ensures) c.if-above-lt-TABLE_LENGTH.false))
-    (λ c. let t = c.before.before.before.before.before.args.table.now in c.check_rows.ensures ∙ report_table _ (is_table t c.before.before.before.if-table-ne-TABLE_LENGTH.false (rw (← c.before.before.first_above-above.ensures) c.before.if-above-lt-TABLE_LENGTH.false))))
+    (λ c. search (tests, c.refused_report-then-above-lt-TABLE_LENGTH.ensures, ← c.first_above-above.ensures))
+    (λ c κs. is_table _ c.if-table-ne-TABLE_LENGTH.false (rw (← c.first_above-above.ensures) c.if-above-lt-TABLE_LENGTH.false))
+    (λ c. let t = c.args.table.now in c.check_rows.ensures ∙ report_table _ (is_table t c.if-table-ne-TABLE_LENGTH.false (rw (← c.first_above-above.ensures) c.if-above-lt-TABLE_LENGTH.false))))

@@ -13,7 +13,7 @@ pub count_from_spec : {M : Type 1} → statement M
 count_from_spec =
     tie.close (tie.spec invariant-loop-row decreases-loop-row (λ c. search rules) (λ c κs. omega arith) (λ c κs. search rules)
     (λ c. omega arith)
-    (λ c. let l = c.before.before.before.loop-row in let h : l.total ≤ 128 * l.row = rw l.invariant.1 (count_most _ _) in omega arith)
+    (λ c. let l = c.loop-row in let h : l.total ≤ 128 * l.row = rw l.invariant.1 (count_most _ _) in omega arith)
     (λ c. omega arith) (λ c. omega arith)
-    (λ c. let l = c.before.before.before.loop-row in (omega arith, row_counted _ l.row l.invariant.1 (rw (c.before.row_multiples.ensures.1, c.before.row_multiples.ensures.2) at c.count_row.ensures)))
-    (λ c. let e : 128 * c.before.loop-row.row ≡ 2048 = omega arith in rw e at c.before.loop-row.invariant.1))
+    (λ c. let l = c.loop-row in (omega arith, row_counted _ l.row l.invariant.1 (rw (c.row_multiples.ensures.1, c.row_multiples.ensures.2) at c.count_row.ensures)))
+    (λ c. let e : 128 * c.loop-row.row ≡ 2048 = omega arith in rw e at c.loop-row.invariant.1))

@@ -17,12 +17,12 @@ decreases-loop-column table m first₀ column₀ first column = 128 - column
 
 loop_again : tie.Need-loop-column-preserved invariant-loop-column decreases-loop-column
 loop_again c =
-    let i = c.before.before.before.loop-column.invariant in
-    record { within = omega arith; most = omega arith; is = i.is ∙ lesser_turn _ 128 _ _ (omega arith) i.most c.before.bad_column.ensures c.lesser-first.ensures }
+    let i = c.loop-column.invariant in
+    record { within = omega arith; most = omega arith; is = i.is ∙ lesser_turn _ 128 _ _ (omega arith) i.most c.bad_column.ensures c.lesser-first.ensures }
 
 pub first_in_row_spec : {M : Type 1} → statement M
 first_in_row_spec =
     tie.close (tie.spec invariant-loop-column decreases-loop-column (λ c. record { within = omega arith; most = omega arith; is = lesser_start _ 128 })
     (λ c κs. record { table = search rules; row = search rules; column = omega arith })
     (λ c κs. search rules) (λ c. omega arith) (λ c. omega arith) loop_again
-    (λ c. let i = c.before.loop-column.invariant in sym (i.is ∙ lesser_end _ 128 _ _ c.loop-column-test.false i.most)))
+    (λ c. let i = c.loop-column.invariant in sym (i.is ∙ lesser_end _ 128 _ _ c.loop-column-test.false i.most)))

@@ -6,5 +6,5 @@ pub is_bad_spec : {M : Type 1} → statement M
 is_bad_spec =
     tie.close (tie.spec (λ c. search rules) (λ c. search rules) (λ c. search rules)
     (λ c. search rules)
-    (λ c κs. record { row = search rules; column = omega arith; byte = c.before.before.requires.table.digits _ })
-    (λ c. let a = c.before.before.before in ap not c.allows.ensures.0 ∙ bad_in_row a.args.table.now a.args.column a.requires.row a.requires.column))
+    (λ c κs. record { row = search rules; column = omega arith; byte = c.requires.table.digits _ })
+    (λ c. let a = c in ap not c.allows.ensures.0 ∙ bad_in_row a.args.table.now a.args.column a.requires.row a.requires.column))

@@ -2,6 +2,7 @@ use Rattle.laws.{proofs.Basics.{◌≤◌, ◌<◌, ◌-◌, ◌≡◌, refl, sy
 use Rattle.laws.proofs.Search.{first_here, first_on, first_end}
 use Rattle.selection.specs.computed.Allowed.{above_four}
 use Rattle.selection.proofs.table.none_above.Statement.{statement}
+use Rattle.selection.proofs.table.none_above.Lts.{then-table-k-gt4, else-table-k-gt4}
 use Rattle.selection.proofs.table.none_above.Tie as tie
 
 -- before k there is none, and the first is the first from k on; or it is passed
@@ -15,12 +16,12 @@ decreases-loop-k table none₀ k₀ none k = 2048 - k
 
 loop_again : tie.Need-loop-k-preserved invariant-loop-k decreases-loop-k
 loop_again c =
-    let i = c.before.before.before.loop-k.invariant.1 in (
+    let i = c.loop-k.invariant.1 in (
       omega arith,
-      ⊎_elim
-          (λ w. inr (w.1, ⊎_elim (λ x. let here = x.1 ∙ first_here _ _ 2048 (omega arith) (lt-ltb _ _ w.0.taken) in omega arith) (λ x. omega arith) i))
-          (λ w. ⊎_elim (λ x. inl (w.1 ∙ x.0, x.1 ∙ first_on _ _ 2048 (omega arith) (le-ltb _ _ w.0.left))) (λ x. inr (w.1 ∙ x.0, omega arith)) i)
-          c.if-table-k-gt4.branch,
+      elim c.if-table-k-gt4.branch [
+        | then-table-k-gt4 w ↦ inr (w.none-is, ⊎_elim (λ x. let here = x.1 ∙ first_here _ _ 2048 (omega arith) (lt-ltb _ _ w.if-table-k-gt4.true) in omega arith) (λ x. omega arith) i)
+        | else-table-k-gt4 w ↦ ⊎_elim (λ x. inl (w.none-is ∙ x.0, x.1 ∙ first_on _ _ 2048 (omega arith) (le-ltb _ _ w.if-table-k-gt4.false))) (λ x. inr (w.none-is ∙ x.0, omega arith)) i
+      ],
     )
 
 returns : tie.Need-returns invariant-loop-k decreases-loop-k
@@ -28,7 +29,7 @@ returns c =
     ⊎_elim
     (λ x. ((λ e. let first = x.1 ∙ first_end _ _ 2048 c.loop-k-test.false in omega arith), (λ q. x.0)))
     (λ x. ((λ e. absurd (true≢false (sym e ∙ x.0))), (λ q. absurd (omega arith))))
-    c.before.loop-k.invariant.1
+    c.loop-k.invariant.1
 
 pub none_above_spec : {M : Type 1} → statement M
 none_above_spec =

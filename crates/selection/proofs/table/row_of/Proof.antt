@@ -6,4 +6,4 @@ pub row_of_spec : {M : Type 1} → statement M
 row_of_spec =
     tie.close (tie.spec (λ c κs. search rules) (λ c. search rules) (λ c. search rules)
     (λ c. search rules) (λ c. search rules)
-    (λ c. let k = c.before.row_start-start in let n : k.result-1 + 128 - k.result-1 ≡ 128 = omega arith in rw (n, k.ensures)))
+    (λ c. let k = c.row_start-start in let n : k.result + 128 - k.result ≡ 128 = omega arith in rw (n, k.ensures)))
