@@ -9,4 +9,4 @@ repair_table_for_spec =
     (λ c.
     let call = c in
     let s = call in
-    rw (sym s.admit_bits-admission.ensures ∙ s.enum_told-1.given.1, ← s.estimate_of.ensures) call.repair_table.ensures))
+    rw (sym s.admit_bits-admission.ensures ∙ s.in-Admitted.is, ← s.estimate_of.ensures) call.repair_table.ensures))

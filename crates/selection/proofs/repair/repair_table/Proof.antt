@@ -11,4 +11,4 @@ repair_table_spec =
     (λ c.
     let k = c in
     let told = k in
-    rw (sym told.refusal_of-admission.ensures ∙ told.enum_told-1.given.1, k.repair_rows-count.ensures.bytes, k.repair_rows-count.ensures.marks, k.repair_rows-count.ensures.count) refl))
+    rw (sym told.refusal_of-admission.ensures ∙ told.in-Admitted.is, k.repair_rows-count.ensures.bytes, k.repair_rows-count.ensures.marks, k.repair_rows-count.ensures.count) refl))
