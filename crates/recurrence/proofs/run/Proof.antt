@@ -4,25 +4,25 @@ use Rattle.selection.{specs.Table.{Passes}, specs.declared.Admission.TheVariants
 use Rattle.recurrence.proofs.{Refusals.{spans}, Rows.{row_of}, run.Statement.{statement}}
 use Rattle.recurrence.proofs.run.Tie as tie
 
-passed : (c : tie.After-enum-told) → let a = c.before.before.before in (a.argument-refusal.result ≡ Admitted) × Passes EightBits a.before.before.before.args.table.now
-passed c = admitted_both EightBits _ c.before.before.admit-after.ensures c.enum_told.given.1
+passed : (c : tie.In-Admitted) → let a = c in (a.argument_refusal-arguments.result ≡ Admitted) × Passes EightBits a.args.table.now
+passed c = admitted_both EightBits _ c.admit_after-admission.ensures c.in-Admitted.is
 
-run_part_requires : tie.Need-run-part-requires
+run_part_requires : tie.Need-run_part-requires
 run_part_requires c κs =
     let told = c.before.before in
-    (row_of (passed told).1 c.before.row_of.ensures, spans _ _ _ _ _ (sym told.before.before.before.argument-refusal.ensures ∙ (passed told).0))
+    (row_of (passed told).1 c.row_of-row.ensures, spans _ _ _ _ _ (sym told.argument_refusal-arguments.ensures ∙ (passed told).0))
 
-returns : tie.Need-returns
+returns : tie.Need-returns-in-Refused
 returns c =
-    let k = c.before.before.before.before in
-    rw (first_lent EightBits _ _ k.admit-after.ensures k.before.argument-refusal.ensures c.before.before.admission.given.1, c.zeros.ensures) refl
+    let k = c in
+    rw (first_lent EightBits _ _ k.admit_after-admission.ensures k.argument_refusal-arguments.ensures c.in-Refused.is, c.zeros.ensures) refl
 
-returns_2 : tie.Need-returns-2
+returns_2 : tie.Need-returns-in-Admitted
 returns_2 c =
-    let row = c.before.before.before.before in
+    let row = c in
     let told = row.before in
-    let k = told.before.before in
-    rw (first_lent EightBits _ _ k.admit-after.ensures k.before.argument-refusal.ensures told.enum_told.given.1) (c.before.before.run-part.ensures _ (passed told).1 row.row_of.ensures)
+    let k = told in
+    rw (first_lent EightBits _ _ k.admit_after-admission.ensures k.argument_refusal-arguments.ensures told.in-Admitted.is) (c.run_part.ensures _ (passed told.before.before.before.before).1 row.row_of-row.ensures)
 
 pub run_spec : {M : Type 1} → statement M
 run_spec =

@@ -4,22 +4,22 @@ use Rattle.selection.{specs.computed.Outcomes.{made_table}, proofs.MadeTables.{k
 use Rattle.recurrence.proofs.{Refusals.{spans}, Rows.{row_of_kept}, run_kept.Statement.{statement}}
 use Rattle.recurrence.proofs.run_kept.Tie as tie
 
-run_part_requires : tie.Need-run-part-requires
+run_part_requires : tie.Need-run_part-requires
 run_part_requires c κs =
-    let row = c.before.before in
-    (row_of_kept row.kept_row.ensures, spans _ _ _ _ _ (sym row.before.before.before.argument-refusal.ensures ∙ row.before.enum_told.given.1))
+    let row = c in
+    (row_of_kept row.kept_row-row.ensures, spans _ _ _ _ _ (sym row.argument_refusal-admission.ensures ∙ row.in-Admitted.is))
 
-returns : tie.Need-returns
+returns : tie.Need-returns-in-Refused
 returns c =
-    let k = c.before.before.before.before in
-    rw (first_kept EightBits _ k.argument-refusal.ensures c.before.before.admission.given.1, c.zeros.ensures) refl
+    let k = c in
+    rw (first_kept EightBits _ k.argument_refusal-admission.ensures c.in-Refused.is, c.zeros.ensures) refl
 
-returns_2 : tie.Need-returns-2
+returns_2 : tie.Need-returns-in-Admitted
 returns_2 c =
-    let ran = c.before.before in
-    let row = ran.before.before.before in
-    rw (first_kept EightBits _ row.before.before.before.argument-refusal.ensures row.before.enum_told.given.1)
-    (ran.run-part.ensures (made_table EightBits) (kept_passes EightBits) row.kept_row.ensures)
+    let ran = c in
+    let row = ran in
+    rw (first_kept EightBits _ row.argument_refusal-admission.ensures row.in-Admitted.is)
+    (ran.run_part.ensures (made_table EightBits) (kept_passes EightBits) row.kept_row-row.ensures)
 
 pub run_kept_spec : {M : Type 1} → statement M
 run_kept_spec =

@@ -4,10 +4,10 @@ use Rattle.recurrence.proofs.run_part.Tie as tie
 
 returns : tie.Need-returns
 returns c t ok is =
-    let ran = c.before.before.before in
-    let a = ran.before.before.before.before.args in
+    let ran = c in
+    let a = ran.args in
     let e = ran.run_row.ensures t ok is in
-    rw (c.values.ensures, e.1, put_back a.buffer.now ran.run_row.new.1.1.1.0 a.place a.n, e.0, part_length a.buffer.now a.place a.n (omega arith)) refl
+    rw (c.values.ensures, e.1, put_back a.buffer.now ran.run_row.new.out a.place a.n, e.0, part_length a.buffer.now a.place a.n (omega arith)) refl
 
 pub run_part_spec : {M : Type 1} → statement M
 run_part_spec =

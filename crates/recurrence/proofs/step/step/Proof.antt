@@ -7,19 +7,19 @@ use Rattle.recurrence.proofs.step.step.Tie as tie
 
 admitted_requires : tie.Need-admitted-requires
 admitted_requires c κs =
-    let k = admitted_both EightBits _ c.before.before.admit-after.ensures c.enum_told.given.1 in
-    (k.1, step_span _ _ _ (sym c.before.before.before.refusal-of.ensures ∙ k.0))
+    let k = admitted_both EightBits _ c.admit_after-admission.ensures c.in-Admitted.is in
+    (k.1, step_span _ _ _ (sym c.refusal_of-arguments.ensures ∙ k.0))
 
-returns : tie.Need-returns
+returns : tie.Need-returns-in-Refused
 returns c =
-    let k = c.before.before.before.before in
-    rw (first_lent EightBits _ _ k.admit-after.ensures k.before.refusal-of.ensures c.before.before.admission.given.1) c.zeros.ensures
+    let k = c in
+    rw (first_lent EightBits _ _ k.admit_after-admission.ensures k.refusal_of-arguments.ensures c.in-Refused.is) c.zeros.ensures
 
-returns_2 : tie.Need-returns-2
+returns_2 : tie.Need-returns-in-Admitted
 returns_2 c =
-    let k = c.before.before.before.before in
-    rw (first_lent EightBits _ _ k.admit-after.ensures k.before.refusal-of.ensures c.before.before.enum_told.given.1)
-    (c.values.ensures ∙ ap (λ (p : RunState). step_values (state_of p)) c.before.admitted.ensures)
+    let k = c in
+    rw (first_lent EightBits _ _ k.admit_after-admission.ensures k.refusal_of-arguments.ensures c.in-Admitted.is)
+    (c.values.ensures ∙ ap (λ (p : RunState). step_values (state_of p)) c.admitted.ensures)
 
 pub step_spec : {M : Type 1} → statement M
 step_spec =

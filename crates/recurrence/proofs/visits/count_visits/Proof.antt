@@ -4,21 +4,21 @@ use Rattle.selection.{proofs.TableRefusals.{admitted_both, first_lent}, specs.de
 use Rattle.recurrence.proofs.{VisitCounts.{visits_spans}, visits.count_visits.Statement.{statement}}
 use Rattle.recurrence.proofs.visits.count_visits.Tie as tie
 
-visit_all_requires : tie.Need-visit-all-requires
+visit_all_requires : tie.Need-visit_all-requires
 visit_all_requires c κs =
-    let k = admitted_both EightBits _ c.before.before.before.admit-after.ensures c.before.enum_told.given.1 in
-    (k.1, visits_spans _ _ _ (sym c.before.before.before.before.refusal-of.ensures ∙ k.0))
+    let k = admitted_both EightBits _ c.admit_after-admission.ensures c.in-Admitted.is in
+    (k.1, visits_spans _ _ _ (sym c.refusal_of-arguments.ensures ∙ k.0))
 
-returns : tie.Need-returns
+returns : tie.Need-returns-in-Refused
 returns c =
-    let k = c.before.before.before in
-    rw (first_lent EightBits _ _ k.admit-after.ensures k.before.refusal-of.ensures c.before.admission.given.1) refl
+    let k = c in
+    rw (first_lent EightBits _ _ k.admit_after-admission.ensures k.refusal_of-arguments.ensures c.in-Refused.is) refl
 
-returns_2 : tie.Need-returns-2
+returns_2 : tie.Need-returns-in-Admitted
 returns_2 c =
-    let told = c.before.before.before.before in
-    let k = told.before.before in
-    rw (first_lent EightBits _ _ k.admit-after.ensures k.before.refusal-of.ensures told.enum_told.given.1, c.before.before.visit-all.ensures) refl
+    let told = c in
+    let k = told in
+    rw (first_lent EightBits _ _ k.admit_after-admission.ensures k.refusal_of-arguments.ensures told.in-Admitted.is, c.visit_all.ensures) refl
 
 pub count_visits_spec : {M : Type 1} → statement M
 count_visits_spec =

@@ -5,4 +5,4 @@ use Rattle.recurrence.proofs.visits.visit_run.Tie as tie
 pub visit_run_spec : {M : Type 1} → statement M
 visit_run_spec =
     tie.close (tie.spec (λ c κs. search rules) (λ c κs. search rules) (λ c κs. search rules)
-    (λ c. search rules) (λ c. let v = c.before.before in v.visit-row.ensures _ v.before.before.before.row_of.ensures))
+    (λ c. search rules) (λ c. let v = c in v.visit_row.ensures _ v.row_of-row.ensures))

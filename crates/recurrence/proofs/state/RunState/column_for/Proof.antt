@@ -6,4 +6,4 @@ use Rattle.recurrence.proofs.state.RunState.column_for.Tie as tie
 pub column_for_spec : {M : Type 1} → statement M
 column_for_spec =
     tie.close (tie.spec (λ c. search rules) (λ c. search rules) (λ c. search rules) (λ c. search rules) (λ c κs. search rules)
-    (λ c. rw c.before.before.enum_told.given.1 refl) (λ c. rw c.before.enum-told2.given.1 c.column-of.ensures))
+    (λ c. rw c.in-SevenBits.is refl) (λ c. rw c.in-EightBits.is c.column_of.ensures))

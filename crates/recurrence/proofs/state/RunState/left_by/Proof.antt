@@ -6,11 +6,11 @@ use Rattle.recurrence.proofs.state.RunState.left_by.Tie as tie
 
 returns : tie.Need-returns
 returns c =
-    let carry = c.before.before in
-    let words = carry.before.before.before in
-    let s = words.before in
+    let carry = c in
+    let words = carry in
+    let s = words in
     let x : get_or s.args.multiples.now s.args.digit 0 ≡ multiple s.args.digit s.args.self.divisor = rw s.requires.1.multiples (multiple_at s.args.self.divisor s.args.digit s.requires.0) in
-    omega (arith, c.wrapping-add-u643.ensures, carry.lowest-carry.ensures.0, carry.before.wrapping-add-u642.ensures, words.wrapping-add-u64.ensures)
+    omega (arith, c.wrapping_add_u64-2.ensures, carry.lowest_carry.ensures.0, carry.wrapping_add_u64.ensures, words.wrapping_add_u64-words.ensures)
 
 pub left_by_spec : {M : Type 1} → statement M
 left_by_spec =

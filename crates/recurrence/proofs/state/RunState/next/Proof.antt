@@ -8,9 +8,9 @@ use Rattle.recurrence.proofs.state.RunState.next.Tie as tie
 returns : tie.Need-returns
 unfolding next_of
 returns c =
-    let s = c.before.before.before in
+    let s = c in
     let p = s.args.self in
-    let d = c.before.digit_at in
+    let d = c.digit_at-digit in
     λ t f.
     let e : d.result ≡ get_or t (cell_at EightBits (state_of p)) 0 = d.ensures.0 ∙ rw (f, s.requires.1.current) (row_at t (row p.divisor) (column EightBits p.sum p.carry) (omega arith)) in
     c.step_by.ensures ∙ ap (λ (n : ℕ). run_state_of (step_by n (state_of p))) e

@@ -5,10 +5,10 @@ use Rattle.recurrence.proofs.state.RunState.step_by.Tie as tie
 
 returns : tie.Need-returns
 returns c =
-    let majority = c.before.before.before in
+    let majority = c in
     let column = majority.before.before in
-    let s = column.before in
-    rw (column.column-after.ensures, majority.wrapping-add-u64.ensures, c.before.before.lowest-carry.ensures.0, c.before.renew.ensures, c.renew2.ensures)
+    let s = column in
+    rw (column.column_after-column.ensures, majority.wrapping_add_u64-majority.ensures, c.lowest_carry.ensures.0, c.renew.ensures, c.renew-2.ensures)
     (step_code s.args.self s.args.digit s.requires.0 s.requires.1)
 
 pub step_by_spec : {M : Type 1} → statement M
