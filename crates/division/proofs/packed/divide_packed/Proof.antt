@@ -3,23 +3,23 @@ use Rattle.laws.proofs.Basics.{sym, ◌∙◌, arith, rules}
 use Rattle.division.proofs.{PackedCalls.{byte_refused, zero_refused, none_refused}, packed.divide_packed.Statement.{statement}}
 use Rattle.division.proofs.packed.divide_packed.Tie as tie
 
-returns : tie.Need-returns
+returns : tie.Need-returns-then-wrong-lt16
 returns c =
-    let s = c.before.before.before in
-    rw (byte_refused s.before.args.dividend s.before.args.divisor _ s.first-above-9.ensures c.before.if1.true) c.zeros.ensures
+    let s = c in
+    rw (byte_refused s.args.dividend s.args.divisor _ s.first_above_9-wrong.ensures c.if-wrong-lt16.true) c.zeros.ensures
 
-returns_2 : tie.Need-returns-2
+returns_2 : tie.Need-returns-then-b-eq0
 returns_2 c =
-    let n = c.before.before.before in
-    let s = n.before in
-    rw (zero_refused s.before.args.dividend s.before.args.divisor (omega (arith, s.first-above-9.ensures)) (sym n.number_of.ensures ∙ c.before.if2.true)) c.zeros2.ensures
+    let n = c in
+    let s = n in
+    rw (zero_refused s.args.dividend s.args.divisor (omega (arith, s.first_above_9-wrong.ensures)) (sym n.number_of-b.ensures ∙ c.if-b-eq0.true)) c.zeros-then-b-eq0.ensures
 
-returns_3 : tie.Need-returns-3
+returns_3 : tie.Need-returns
 returns_3 c =
-    let n = c.before.before.before.before.before in
-    let s = n.before in
-    rw (none_refused s.before.args.dividend s.before.args.divisor (omega (arith, s.first-above-9.ensures)) (λ e. c.before.before.before.if2.false (n.number_of.ensures ∙ e)))
-    (rw (← c.before.before.number-of2.ensures, ← n.number_of.ensures, ← c.before.divide-whole-kept.ensures) c.values.ensures)
+    let n = c in
+    let s = n in
+    rw (none_refused s.args.dividend s.args.divisor (omega (arith, s.first_above_9-wrong.ensures)) (λ e. c.if-b-eq0.false (n.number_of-b.ensures ∙ e)))
+    (rw (← c.number_of-a.ensures, ← n.number_of-b.ensures, ← c.divide_whole_kept.ensures) c.values.ensures)
 
 pub divide_packed_spec : {M : Type 1} → statement M
 divide_packed_spec =

@@ -4,14 +4,14 @@ use Rattle.division.specs.computed.Packed.{operand_byte, is_above9, first_above9
 use Rattle.division.proofs.packed.first_above_9.Statement.{statement}
 use Rattle.division.proofs.packed.first_above_9.Tie as tie
 
-abbrev invariant-loop : tie.invariant-loop
-invariant-loop dividend divisor i₀ i = (i ≤ 16) × (first_above9 dividend divisor ≡ first_from (λ k. is_above9 (operand_byte dividend divisor k)) i (16 - i))
+abbrev invariant-loop-i : tie.invariant-loop-i
+invariant-loop-i dividend divisor i₀ i = (i ≤ 16) × (first_above9 dividend divisor ≡ first_from (λ k. is_above9 (operand_byte dividend divisor k)) i (16 - i))
 
-abbrev decreases-loop : tie.decreases-loop
-decreases-loop dividend divisor i₀ i = 16 - i
+abbrev decreases-loop-i : tie.decreases-loop-i
+decreases-loop-i dividend divisor i₀ i = 16 - i
 
 pub first_above_9_spec : {M : Type 1} → statement M
 first_above_9_spec =
-    tie.close (tie.spec invariant-loop decreases-loop (λ c. (omega arith, refl)) (λ c κs. search rules) (λ c κs. search rules)
-    (λ c. sym (c.before.before.before.before.loop.invariant.1 ∙ first_here _ _ _ (omega arith) (cc))) (λ c. omega arith) (λ c. omega arith)
-    (λ c. (omega arith, c.before.before.before.before.loop.invariant.1 ∙ first_on _ _ _ (omega arith) (cc))) (λ c. sym (c.before.loop.invariant.1 ∙ first_end _ _ _ c.loop-test.false)))
+    tie.close (tie.spec invariant-loop-i decreases-loop-i (λ c. (omega arith, refl)) (λ c κs. search rules) (λ c κs. search rules)
+    (λ c. sym (c.loop-i.invariant.1 ∙ first_here _ _ _ (omega arith) (cc))) (λ c. omega arith) (λ c. omega arith)
+    (λ c. (omega arith, c.loop-i.invariant.1 ∙ first_on _ _ _ (omega arith) (cc))) (λ c. sym (c.loop-i.invariant.1 ∙ first_end _ _ _ c.loop-i-test.false)))

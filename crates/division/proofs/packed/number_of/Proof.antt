@@ -12,22 +12,22 @@ record NumberRead (bytes : List ℕ) (number i : ℕ) : Type 0 where
   is : number ≡ number_to bytes i
   small : number + 2 ≤ 2 * 100 ^ i
 
-abbrev invariant-loop : tie.invariant-loop
-invariant-loop bytes number₀ i₀ number i = NumberRead bytes number i
+abbrev invariant-loop-i : tie.invariant-loop-i
+invariant-loop-i bytes number₀ i₀ number i = NumberRead bytes number i
 
-abbrev decreases-loop : tie.decreases-loop
-decreases-loop bytes number₀ i₀ number i = 8 - i
+abbrev decreases-loop-i : tie.decreases-loop-i
+decreases-loop-i bytes number₀ i₀ number i = 8 - i
 
-loop_again : tie.Need-loop-preserved invariant-loop decreases-loop
+loop_again : tie.Need-loop-i-preserved invariant-loop-i decreases-loop-i
 unfolding number_to
 loop_again c =
-    let l = c.before.before.loop in
+    let l = c.loop-i in
     record { within = omega arith; is = rw (l.invariant.is, c.two_digits.ensures.0, add-one l.i); small = rw (add-one l.i, pow-suc 100 l.i) (omega arith) }
 
 pub number_of_spec : {M : Type 1} → statement M
 unfolding number_to
 number_of_spec =
-    tie.close (tie.spec invariant-loop decreases-loop (λ c. record { within = omega arith; is = refl; small = omega arith })
-    (λ c. omega (arith, pow-le-pow_right {n = 100} (omega arith) {i = c.before.loop.i} {j = 7} (omega arith))) (λ c. search rules) (λ c κs. search rules)
-    (λ c. omega (arith, pow-le-pow_right {n = 100} (omega arith) {i = c.before.before.loop.i} {j = 7} (omega arith)))
-    (λ c. omega arith) (λ c. omega arith) loop_again (λ c. let e : c.before.loop.i ≡ 8 = omega arith in rw e at c.before.loop.invariant.is))
+    tie.close (tie.spec invariant-loop-i decreases-loop-i (λ c. record { within = omega arith; is = refl; small = omega arith })
+    (λ c. omega (arith, pow-le-pow_right {n = 100} (omega arith) {i = c.loop-i.i} {j = 7} (omega arith))) (λ c. search rules) (λ c κs. search rules)
+    (λ c. omega (arith, pow-le-pow_right {n = 100} (omega arith) {i = c.loop-i.i} {j = 7} (omega arith)))
+    (λ c. omega arith) (λ c. omega arith) loop_again (λ c. let e : c.loop-i.i ≡ 8 = omega arith in rw e at c.loop-i.invariant.is))

@@ -6,6 +6,6 @@ use Rattle.division.proofs.root.root_binary64.Tie as tie
 pub root_binary64_spec : {M : Type 1} → statement M
 root_binary64_spec =
     tie.close (tie.spec (λ c κs. search rules) (λ c. search rules) (λ c κs. search rules) (λ c. search rules)
-    (λ c κs. direction_span _ (sym c.before.before.refusal-of.ensures ∙ c.enum_told.given.1)) (λ c κs. search rules)
-    (λ c. rw (sym c.before.before.before.before.refusal-of.ensures ∙ c.before.before.admission.given.1) c.zeros.ensures)
-    (λ c. rw (sym c.before.before.before.before.refusal-of.ensures ∙ c.before.before.enum_told.given.1, ← c.before.root-of.ensures) c.values.ensures))
+    (λ c κs. direction_span _ (sym c.refusal_of-admission.ensures ∙ c.in-Admitted.is)) (λ c κs. search rules)
+    (λ c. rw (sym c.refusal_of-admission.ensures ∙ c.in-Refused.is) c.zeros.ensures)
+    (λ c. rw (sym c.refusal_of-admission.ensures ∙ c.in-Admitted.is, ← c.root_of.ensures) c.values.ensures))

@@ -6,6 +6,6 @@ use Rattle.division.proofs.root.root_of.Tie as tie
 pub root_of_spec : {M : Type 1} → statement M
 root_of_spec =
     tie.close (tie.spec (λ c κs. search rules) (λ c. search rules) (λ c. search rules)
-    (λ c κs. (root_operand c.before.before.before.args.p (sym c.before.before.by-class.ensures ∙ c.enum_told.given.1), c.before.before.before.requires))
-    (λ c. rw (sym c.before.before.before.by-class.ensures ∙ c.before.decided.given.1))
-    (λ c. rw (sym c.before.before.before.by-class.ensures ∙ c.before.enum_told.given.1) c.finite-root.ensures))
+    (λ c κs. (root_operand c.args.p (sym c.by_class-decided.ensures ∙ c.in-Undecided.is), c.requires))
+    (λ c. rw (sym c.by_class-decided.ensures ∙ c.in-Decided.is))
+    (λ c. rw (sym c.by_class-decided.ensures ∙ c.in-Undecided.is) c.finite_root.ensures))

@@ -6,5 +6,5 @@ use Rattle.division.proofs.root.root_whole.Tie as tie
 pub root_whole_spec : {M : Type 1} → statement M
 root_whole_spec =
     tie.close (tie.spec (λ c κs. search rules) (λ c. search rules) (λ c. search rules)
-    (λ c κs. root_span _ (sym c.before.before.refusal-of.ensures ∙ c.enum_told.given.1)) (λ c. rw (sym c.before.before.before.refusal-of.ensures ∙ c.before.admission.given.1))
-    (λ c. rw (sym c.before.before.before.refusal-of.ensures ∙ c.before.enum_told.given.1) c.values.ensures))
+    (λ c κs. root_span _ (sym c.refusal_of-admission.ensures ∙ c.in-Admitted.is)) (λ c. rw (sym c.refusal_of-admission.ensures ∙ c.in-Refused.is))
+    (λ c. rw (sym c.refusal_of-admission.ensures ∙ c.in-Admitted.is) c.values.ensures))

@@ -10,5 +10,5 @@ counted a s h l e = let b = after_bounds a s h l in rw e (record { is = refl; fe
 
 pub digits_after_spec : {M : Type 1} → statement M
 digits_after_spec =
-    tie.close (tie.spec (λ c. omega (arith, (room_above c.args.a c.requires.0).0)) (λ c. counted _ _ c.before.requires.0 c.before.requires.1 (omega arith))
-    (λ c. search rules) (λ c. search rules) (λ c. counted _ _ c.before.requires.0 c.before.requires.1 (omega arith)))
+    tie.close (tie.spec (λ c. omega (arith, (room_above c.args.a c.requires.0).0)) (λ c. counted _ _ c.requires.0 c.requires.1 (omega arith))
+    (λ c. search rules) (λ c. search rules) (λ c. counted _ _ c.requires.0 c.requires.1 (omega arith)))

@@ -8,5 +8,5 @@ use Rattle.division.proofs.whole.divide_kept.Tie as tie
 pub divide_kept_spec : {M : Type 1} → statement M
 divide_kept_spec =
     tie.close (tie.spec (λ c κs. search rules) (λ c. search rules) (λ c. search rules) (λ c κs. search rules) (λ c. search rules)
-    (λ c κs. (row_of_kept c.before.kept_row.ensures, omega arith, omega arith, omega arith, omega arith))
-    (λ c. let k = c.before.before.before.Shift-of in shifted_is _ _ _ k.result _ k.ensures.is (omega arith) (c.shifted.ensures _ (kept_passes EightBits) c.before.before.kept_row.ensures)))
+    (λ c κs. (row_of_kept c.kept_row-row.ensures, omega arith, omega arith, omega arith, omega arith))
+    (λ c. let k = c.before.before.before.shift_of-s in shifted_is _ _ _ k.result _ k.ensures.is (omega arith) (c.shifted.ensures _ (kept_passes EightBits) c.kept_row-row.ensures)))

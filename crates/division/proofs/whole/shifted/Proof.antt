@@ -6,4 +6,4 @@ use Rattle.division.proofs.whole.shifted.Tie as tie
 
 pub shifted_spec : {M : Type 1} → statement M
 unfolding shifted_through
-shifted_spec = tie.close (tie.spec (λ c κs. search rules) (λ c. search rules) (λ c t p e. rw (c.before.shifted-run.ensures t p e)))
+shifted_spec = tie.close (tie.spec (λ c κs. search rules) (λ c. search rules) (λ c t p e. rw (c.shifted_run-ran.ensures t p e)))

@@ -3,14 +3,14 @@ use Rattle.laws.proofs.{Basics.{refl, ℕ, ◌^◌, ◌≤◌, arith, ltb, rules
 use Rattle.division.proofs.{RootDigits.{one_more}, root.RootState.next.Statement.{statement}}
 use Rattle.division.proofs.root.RootState.next.Tie as tie
 
-add_t8 : tie.Need-overflow-add-t8
+add_t8 : tie.Need-overflow_add-result
 add_t8 c =
     let trial = c.before.before in
-    let u = trial.before.before.before.before.args.self.unit in
-    omega (arith, c.before.chosen.ensures, cond_in (λ (z : ℕ). z ≤ u) (ltb trial.wrapping-sub-u64.result (2 ^ 63)) {x = u} {y = 0} (omega arith) (omega arith))
+    let u = trial.args.self.unit in
+    omega (arith, c.chosen.ensures, cond_in (λ (z : ℕ). z ≤ u) (ltb trial.wrapping_sub_u64-less.result (2 ^ 63)) {x = u} {y = 0} (omega arith) (omega arith))
 
 pub next_spec : {M : Type 1} → statement M
 next_spec =
     tie.close (tie.spec (λ c. search rules) (λ c. search rules)
     (λ c κs. search rules) (λ c κs. search rules) add_t8 (λ c κs. search rules)
-    (λ c m k d. one_more m k _ _ _ _ _ d refl (omega arith) c.before.before.before.wrapping-sub-u64.ensures c.before.before.chosen.ensures c.chosen2.ensures))
+    (λ c m k d. one_more m k _ _ _ _ _ d refl (omega arith) c.wrapping_sub_u64-less.ensures c.chosen.ensures c.chosen-2.ensures))
