@@ -4,4 +4,4 @@ use Rattle.callers.proofs.divides_samples.Statement.{statement}
 use Rattle.callers.proofs.divides_samples.Tie as tie
 
 pub divides_samples_spec : {M : Type 1} → statement M
-divides_samples_spec = tie.close (tie.spec (λ c κs. search rules) (λ c. search rules) (λ c. divides_samples c.before.before.quendaric-divide-samples.ensures))
+divides_samples_spec = tie.close (tie.spec (λ c κs. search rules) (λ c. search rules) (λ c. divides_samples c.quendaric_divide_samples.ensures))
