@@ -34,7 +34,7 @@ quarter_mod a b x = rw (add-mod-mod, mod_sum a b (x + 256) 512) (half (a + b + x
     half : (t : ℕ) {u : ℕ} → u ≡ t + 256 → u % 512 / 4 ≡ (t / 2 + 128) % 256 / 2
     half t e = omega arith
 
--- the code's column: it rules the tops of the words and of the multiple, and neither of the next words
+-- the code's column: it needs the tops of the words and of the multiple, and neither of the next words
 ahead : (a b x k l : ℕ) → k ≤ 1 → l / 2 ^ 55 ≡ top_bits_of x
     → ((bit_and (a % 2 ^ 62) (2 ^ 64 - 2 ^ 53) + bit_and (b % 2 ^ 62) (2 ^ 64 - 2 ^ 53)) % 2 ^ 64 * 4 % 2 ^ 64 + l) % 2 ^ 64 / 2 ^ 57
     ≡ column EightBits (sum3 a b x * 4 % 2 ^ 64) ((maj3 a b x * 2 + k) * 4 % 2 ^ 64)

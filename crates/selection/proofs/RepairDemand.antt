@@ -57,7 +57,7 @@ module _ (E : Estimate) where
 
   -- ---- the demand
 
-  -- § 14.2 The repaired table passes, and no passing table rules fewer changes.
+  -- § 14.2 The repaired table passes, and no passing table needs fewer changes.
   pub repair_demand : RepairDemand E
   repair_demand = record {
     outcome = repairs_right E;

@@ -12,7 +12,7 @@ use Rattle.selection.specs.declared.Estimate.TheVariants.{SevenBits, EightBits}
 abbrev pub divisor_multiples : ℕ → List ℕ
 divisor_multiples D = 2 * D ∷ D ∷ 0 ∷ (2 ^ 64 - 1 - D) ∷ (2 ^ 64 - 1 - 2 * D) ∷ []
 
--- the nine bits of a multiple that the next column rules, plus 256: two bits up, the column's 64
+-- the nine bits of a multiple that the next column needs, plus 256: two bits up, the column's 64
 abbrev pub top_bits_of : ℕ → ℕ
 top_bits_of x = (x / 2 ^ 53 + 256) % 512
 
@@ -29,7 +29,7 @@ run_state_of p =
 abbrev pub state_of : RunState → State
 state_of p = record { sum = p.sum; carry = p.carry; divisor = p.divisor; digit = p.digit; value = p.value; decremented = p.decremented }
 
--- the bits of a word that the next column of a divider with the estimate E rules, before the word is moved up by two bits
+-- the bits of a word that the next column of a divider with the estimate E needs, before the word is moved up by two bits
 abbrev pub mask_of : Estimate → ℕ
 mask_of SevenBits = 2 ^ 64 - 2 ^ 54
 mask_of EightBits = 2 ^ 64 - 2 ^ 53

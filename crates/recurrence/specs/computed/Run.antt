@@ -10,7 +10,7 @@ use Rattle.recurrence.specs.declared.RunResult.{RunResult}
 use Rattle.recurrence.specs.declared.Ran.{Ran}
 use Rattle.selection.specs.declared.Estimate.TheVariants.{EightBits}
 
--- the most digits that the recurrence gives: whole-number division rules so many
+-- the most digits that the recurrence gives: whole-number division needs so many
 -- § 6.1 A caller's run has at most 28 digits, a run inside the unit 31.
 abbrev pub longest : ℕ
 longest = 31

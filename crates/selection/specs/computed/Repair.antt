@@ -59,7 +59,7 @@ module _ (E : Estimate) where
     pub repairs : RepairAccepts (length t) (length rs) (length cs) → RepairedTable t rs cs x.repaired x.changed x.answer.count
 
   -- what is claimed of a repair, where a is the buffer that holds it and n the number of changes
-  -- § 14.2 The repaired table passes, and no passing table rules fewer changes.
+  -- § 14.2 The repaired table passes, and no passing table needs fewer changes.
   pub record RepairClaim (t a : List ℕ) (n : ℕ) : Type 0 where
     -- the output passes the check
     pub passes : Passes E (take 2048 a)

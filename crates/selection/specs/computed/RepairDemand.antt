@@ -29,7 +29,7 @@ module _ (E : Estimate) where
   pub record RepairExample : Type 0 where
     pub outcome : repair_of E read_back lent lent ≡ record { answer = record { refusal = refusal 0 0; count = 2 }; repaired = made_table E; changed = slice_set (slice_set (replicate 2048 0) 0 1) 215 1 }
 
-  -- § 14.2 The repaired table passes, and no passing table rules fewer changes.
+  -- § 14.2 The repaired table passes, and no passing table needs fewer changes.
   pub record RepairDemand : Type 0 where
     -- the outcome, where it refuses and where not; and nothing else fits
     pub outcome : (t rs cs : List ℕ) → Repairs E t rs cs (repair_of E t rs cs)
