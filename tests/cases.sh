@@ -95,13 +95,13 @@ changed() {
     printf "\\$3" | dd of="$work/changed" bs=1 seek="$2" conv=notrunc 2>/dev/null
 }
 
-# The commands on standard input, each behind `    $ `, are a case each, but for those of rt: what it prints is what stands below
-# it, indented. Sets count to their number.
+# The commands on standard input, each behind `    $ `, are a case each, but for those that build what is proved: what it prints is
+# what stands below it, indented. Sets count to their number.
 runs_commands() {
     count=0
     while IFS= read -r line; do
         case $line in
-        '    $ rt '*) ;;
+        '    $ rt '* | '    $ tools/archive'* | '    $ tools/programs'*) ;;
         '    $ '*)
             count=$((count + 1))
             echo "${line#    $ }" >"command.$count"

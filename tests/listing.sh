@@ -2,7 +2,7 @@
 # Whole outputs of `listing` and `maker`, by seven bits and by eight: tables, other inputs, arguments, reads and writes that
 # fail or are interrupted.
 #
-# Drawn inputs are in tests/host/tests/listing.rs. Run it after `rt check listing maker` has written target/bin/.
+# Drawn inputs are in tests/host/tests/listing.rs. Run it after `tools/programs`.
 # shellcheck source=tests/cases.sh
 . "$(dirname "$0")/cases.sh"
 

@@ -1,7 +1,7 @@
 #!/bin/sh
 # The commands of README.md (docking stations) and ONE-WRONG-CELL.md print what the pages say.
 #
-# They are run in a folder of their own. Run it after `rt staticlib quendaric`.
+# They are run in a folder of their own. Run it after `tools/archive`.
 # shellcheck source=tests/cases.sh
 . "$(dirname "$0")/cases.sh"
 for name in include examples tools target tables; do

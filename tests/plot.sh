@@ -1,7 +1,7 @@
 #!/bin/sh
 # The pictures in docs/ are those that `plot` draws; refusals, arguments and lost outputs are told.
 #
-# Whether a picture is its table's is asked by tests/host/tests/plot.rs. Run it after `rt check plot` has written target/bin/.
+# Whether a picture is its table's is asked by tests/host/tests/plot.rs. Run it after `tools/programs`.
 # shellcheck source=tests/cases.sh
 . "$(dirname "$0")/cases.sh"
 

@@ -1,8 +1,7 @@
 #!/bin/sh
 # Both outputs of `repair`, by seven bits and by eight: tables, other inputs, reads and writes that fail or are interrupted.
 #
-# A repaired table passes the check. Drawn inputs are in tests/host/tests/repair.rs. Run it after `rt check repair listing`
-# has written target/bin/.
+# A repaired table passes the check. Drawn inputs are in tests/host/tests/repair.rs. Run it after `tools/programs`.
 # shellcheck source=tests/cases.sh
 . "$(dirname "$0")/cases.sh"
 

@@ -1,8 +1,8 @@
 #!/bin/sh
 # The commands of TABLE-MAKER.md print what it says, and the files that they write hold the table's bytes.
 #
-# What is burned is the made table, what is read back is the Pentium's; all in a folder of their own. Run it after `rt check
-# maker listing repair plot` and `rt staticlib quendaric`.
+# What is burned is the made table, what is read back is the Pentium's; all in a folder of their own. Run it after `tools/programs`
+# and `tools/archive`.
 # shellcheck source=tests/cases.sh
 . "$(dirname "$0")/cases.sh"
 page=$root/docs/TABLE-MAKER.md

@@ -1,7 +1,7 @@
 #!/bin/sh
 # `vectors` counts or tells each damage of twenty changed files.
 #
-# It is seen in the file's line and in the total. Run it after `rt check vectors` has written target/bin/.
+# It is seen in the file's line and in the total. Run it after `tools/programs`.
 # shellcheck source=tests/cases.sh
 . "$(dirname "$0")/cases.sh"
 

@@ -1,4 +1,4 @@
-//! The programs that `rt check` wrote below target/bin.
+//! The programs that `tools/programs` wrote below target/bin.
 use std::io::Write;
 use std::net::Shutdown;
 use std::os::fd::OwnedFd;
@@ -53,7 +53,7 @@ fn started(name: &str, arguments: &[&str], input: Stdio) -> Child {
         .stdout(Stdio::piped())
         .stderr(Stdio::piped())
         .spawn()
-        .unwrap_or_else(|e| panic!("{program}: {e}; run `rt check {name}` first"))
+        .unwrap_or_else(|e| panic!("{program}: {e}; run `tools/programs {name}` first"))
 }
 
 fn ended(name: &str, child: Child) -> Output {
