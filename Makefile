@@ -32,9 +32,10 @@ $(library): build/quendaric.o
 	rm -f $@
 	$(AR) rcs $@ build/quendaric.o
 
+# a copy: the kit takes no checkout with a link in it
 build/libquendaric.so: build/quendaric.o
 	$(CC) $(CFLAGS) $(LDFLAGS) -shared -Wl,-soname,$(soname) build/quendaric.o -o build/$(soname)
-	ln -sf $(soname) $@
+	cp build/$(soname) $@
 
 # each tool that is older than a file of which it may be made
 programs: $(library)
