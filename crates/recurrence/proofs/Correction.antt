@@ -9,7 +9,7 @@ use Rattle.recurrence.specs.{computed.Recheck.{exact_result}, computed.OnTheFly.
 use Rattle.recurrence.proofs.{Steps.{biased, below_word}, Digits.{divisor_after}, Invariant.{Meets, fits_word, Invariant, word_after, quarter}, Pair.{word_one}}
 use Rattle.selection.specs.declared.Estimate.{Estimate}
 
--- S and M − S-as-D, corrected, are Q and R
+-- S and M − S·D, corrected, are Q and R
 pub record Corrected (S M D Q R : ℕ) : Type 0 where
   pub quotient : corrected_quotient (pos S) (diff M (S * D)) ≡ pos Q
   pub remainder : corrected_remainder (diff M (S * D)) D ≡ pos R

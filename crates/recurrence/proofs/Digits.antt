@@ -5,7 +5,7 @@ use Rattle.std.proofs.Common.{pow-suc}
 use Rattle.selection.{specs.Cell.{digit}, proofs.BiasedPoints.{digit_diff}, specs.declared.Estimate.{Estimate}}
 use Rattle.recurrence.specs.Recurrence.{cell_at, next_of, after, digit_of, digits, value}
 
--- ---- a digit more: S' = 4S + q
+-- ---- a digit more: S′ = 4S + q
 
 value_append : (ds : List ℕ) (d : ℕ) → value (ds ++ (d ∷ [])) ≡ pos 4 *ℤ value ds +ℤ digit d
 unfolding value

@@ -22,7 +22,7 @@ pub record Meets (W N D i S : ℕ) : Type 0 where
 pub meets_start : {W N D : ℕ} → Operands N D → W ≡ N + 2 ^ 63 → Meets W N D 0 0
 meets_start o e = record { in_range = record { least = o.least; most = o.most; above = omega (arith, o.least); below = omega (arith, o.dividend, o.least) }; meets = omega arith; size = omega arith }
 
--- P' = 4 (P − qD) and P = M − 4SD give P' = 4M − 4(4S + q)D, of a step with an allowed digit, and 4S + q is not negative
+-- P′ = 4 (P − qD) and P = M − 4SD give P′ = 4M − 4(4S + q)D, of a step with an allowed digit, and 4S + q is not negative
 pub meets_next : {d W D W' N i S : ℕ} → Meets W N D i S → AllowedAt d W D → Next d D W W' → (1 < 4 * S + d) × Meets W' N D (suc i) (4 * S + d - 2)
 meets_next {d} {W} {D} {W'} {N} {i} {S} m f e =
     let k : 1 < 4 * S + d = lt_of_mul-lt-mul_right D (omega (arith, m.in_range.least, m.meets, f.high)) in

@@ -1,4 +1,4 @@
--- One step: with a digit that is allowed, P' = 4 (P − qD), and P' is in range again. A remainder P is handled as its word P + 2^63, a
+-- One step: with a digit that is allowed, P′ = 4 (P − qD), and P′ is in range again. A remainder P is handled as its word P + 2^63, a
 -- natural number below 2^64, which `omega` reads.
 use Rattle.laws.proofs.{Basics.{◌≡◌, List, ℕ, ◌+◌, ◌-◌, ◌*◌, ◌/◌, ◌%◌, ◌^◌, ◌≤◌, ◌<◌, arith, get_or, pos, ◌-ℤ◌, ◌*ℤ◌}, Diff.{diff, diffs}}
 use Rattle.selection.{proofs.DigitBytes.{up_to_four}, specs.Word.{Within}, specs.Cell.{row, column, digit, Allows}, specs.Table.{Passes}, specs.Repair.{FaultyAt}}
@@ -38,7 +38,7 @@ pub record AllowedAt (d W D : ℕ) : Type 0 where
   pub low : 3 * (d * D) + 3 * 2 ^ 63 ≤ 3 * W + 8 * D
   pub high : 3 * W + 4 * D ≤ 3 * (d * D) + 3 * 2 ^ 63
 
--- W' is the word of P' = 4 (P − qD)
+-- W′ is the word of P′ = 4 (P − qD)
 abbrev pub Next : ℕ → ℕ → ℕ → ℕ → Type 0
 Next d D W W' = W' + 4 * (d * D) + 3 * 2 ^ 63 ≡ 4 * W + 8 * D
 

@@ -84,7 +84,7 @@ outside_neither M D {z} p o = (
     far h = ⊎_elim (λ x. ⊎_elim (λ y. omega (arith, div-add-mod' M D, mod-lt M p)) (λ y. omega (arith, div-add-mod' M D, mod-lt M p)) h)
         (λ x. ⊎_elim (λ y. omega (arith, div-add-mod' M D, mod-lt M p)) (λ y. omega (arith, div-add-mod' M D, mod-lt M p)) h) o.out
 
--- S-as-D at most D from M: the result is right
+-- S·D at most D from M: the result is right
 inside_result : (S M D : ℕ) → S * D ≤ M + D → M < S * D + D → (Q : ℕ) × (R : ℕ) × Corrected S M D Q R
 inside_result S M D lo hi = ⊎_elim
     (λ (h : S * D ≤ M). (S, M - S * D, corrected_same S M D (M - S * D) (omega arith) (omega arith))) (λ (h : M < S * D). less S lo h) (le_or_lt (S * D) M)

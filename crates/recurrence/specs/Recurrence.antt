@@ -57,7 +57,7 @@ abbrev pub start_of : ℕ → ℕ → State
 start_of N D = state_from N 0 D
 
 -- S, the sum of q_i·4^(n−1−i)
--- § 6.5 S is the number that the digits make; the end remainder is N·4^(n−1) − S-as-D.
+-- § 6.5 S is the number that the digits make; the end remainder is N·4^(n−1) − S·D.
 unfoldable pub value : List ℕ → ℤ
 value [] = pos 0
 value (d ∷ ds) = pos (4 ^ length ds) *ℤ digit d +ℤ value ds
@@ -104,8 +104,8 @@ module _ (E : Estimate) where
   abbrev pub digits : List ℕ → ℕ → ℕ → ℕ → List ℕ
   digits t N D n = list_from (digit_of t N D) 0 n
 
-  -- the end remainder, N·4^(n−1) − S-as-D
-  -- § 6.5 S is the number that the digits make; the end remainder is N·4^(n−1) − S-as-D.
+  -- the end remainder, N·4^(n−1) − S·D
+  -- § 6.5 S is the number that the digits make; the end remainder is N·4^(n−1) − S·D.
   unfoldable pub end_remainder : List ℕ → ℕ → ℕ → ℕ → ℤ
   end_remainder t N D n = pos (N * 4 ^ (n - 1)) -ℤ value (digits t N D n) *ℤ pos D
 

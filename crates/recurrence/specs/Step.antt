@@ -17,6 +17,6 @@ pub record StepTaken (s k D d : ℕ) (x : Stepped) : Type 0 where
   -- the next words: exclusive or and majority of PS, PC and the multiple, as the run forms them
   pub sum : x.sum ≡ sum3 s k (multiple d D) * 4 % 2 ^ 64
   pub carry : x.carry ≡ (maj3 s k (multiple d D) * 2 + lowest_carry d) * 4 % 2 ^ 64
-  -- they make P' = 4(P − qD), in range again
+  -- they make P′ = 4(P − qD), in range again
   pub next : signed (x.sum + x.carry) ≡ pos 4 *ℤ (signed (s + k) -ℤ x.digit *ℤ pos D)
   pub range : Within 8 D (pos 3 *ℤ signed (x.sum + x.carry))

@@ -30,8 +30,8 @@ pub record RunsRight (E : Estimate) (t : List ℕ) (N D n : ℕ) : Type 0 where
   -- each digit is the table's at the cell of D and the words that the steps have reached
   -- § 6.8 Each digit is the table's in the cell that the steps have reached.
   pub selected : (i : ℕ) → i < n → slice_index (digits E t N D n) i ≡ slice_index t (128 * row D + column E (after E t N D i).sum (after E t N D i).carry)
-  -- each step is P' = 4(P − qD)
-  -- § 6.3 The next remainder is P' = 4(P − qD).
+  -- each step is P′ = 4(P − qD)
+  -- § 6.3 The next remainder is P′ = 4(P − qD).
   pub step : (i : ℕ) → i < n → residue (after E t N D (suc i)) ≡ pos 4 *ℤ (residue (after E t N D i) -ℤ digit (slice_index (digits E t N D n) i) *ℤ pos D)
   -- before each step and after the last, the signed residue is the true remainder, and in range
   pub exact : (i : ℕ) → i ≤ n → residue (after E t N D i) ≡ pos (N * 4 ^ i) -ℤ pos 4 *ℤ (value (digits E t N D i) *ℤ pos D)
