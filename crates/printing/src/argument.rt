@@ -1,8 +1,10 @@
 // The estimate that a program is asked for by its argument.
 ghost use Rattle.std.specs.Prelude.{◌≡◌};
+ghost use Rattle.io.specs.Counts.{IsPrefixLen};
 ghost use Rattle.printing.specs.Argument.{by_digit, asked_by};
 
 use selection::Estimate;
+use std::env::{Env, FillError};
 
 #[derive(Clone, Copy)]
 pub enum Asked {
@@ -38,4 +40,25 @@ pub fn estimate_asked(words: usize, word: &[u8]) -> Asked
         return Asked::Other;
     }
     by_digit(word[0])
+}
+
+// How many words are on the command line, the program's name among them.
+pub fn word_count<E: Env>(environment: &E) -> usize {
+    let mut none = [0u8; 0];
+    for i in 0..usize::MAX {
+        if let Err(FillError::NotPresent) = environment.arg(i, &mut none) {
+            return i;
+        }
+    }
+    usize::MAX
+}
+
+// Word i of the command line at the start of a lent buffer, and its length. A longer one does not fit, and is none.
+pub fn word<E: Env>(environment: &E, i: usize, buffer: &mut [u8]) -> usize
+    ensures { IsPrefixLen result buffer.new }
+{
+    match environment.arg(i, buffer) {
+        Ok(length) => length,
+        Err(_) => 0,
+    }
 }

@@ -1,9 +1,9 @@
-// Reading into a lent buffer. `io::read_full` does not tell a read that fails from the end of the input.
-ghost use Rattle.std.specs.Prelude.{◌-◌, ◌≤◌, length};
+// Reading into a lent buffer. `Read::read_exact` does not tell how much came before the end of the input.
+ghost use Rattle.std.specs.Prelude.{◌-◌, ◌≤◌, length, IfOk};
 ghost use Rattle.io.specs.Counts.{IsPrefixLen};
-ghost use Rattle.libc.specs.Io.{Moved};
 
 use crate::{AGAIN, interrupted};
+use std::io::{Read, Result};
 
 // The first `count` bytes of a buffer were read: all of the input, or as much as there is room for. Or a read failed.
 #[derive(Clone, Copy)]
@@ -13,47 +13,53 @@ pub struct Input {
 }
 
 // One read, from the index `from` on.
-fn read_once(fd: i32, buffer: &mut [u8], from: usize) -> isize
+fn read_once<R: Read>(reader: &mut R, buffer: &mut [u8], from: usize) -> Result<usize>
     requires { from ≤ length buffer.old }
-    ensures { Moved (length buffer.old - from) result }
+    ensures { IfOk result (λ n. n ≤ length buffer.old - from) }
 {
-    libc::read(fd, &mut buffer[from..])
+    reader.read(&mut buffer[from..])
 }
 
 // The same, made again where a signal has interrupted it.
-fn read_from(fd: i32, buffer: &mut [u8], from: usize) -> isize
+fn read_from<R: Read>(reader: &mut R, buffer: &mut [u8], from: usize) -> Result<usize>
     requires { from ≤ length buffer.old }
-    ensures { Moved (length buffer.old - from) result }
+    ensures { IfOk result (λ n. n ≤ length buffer.old - from) }
 {
     for _ in 0..AGAIN {
-        let got = read_once(fd, buffer, from);
-        if !interrupted(got) {
-            return got;
+        match read_once(reader, buffer, from) {
+            Ok(n) => return Ok(n),
+            Err(error) => {
+                if !interrupted(&error) {
+                    return Err(error);
+                }
+            }
         }
     }
-    read_once(fd, buffer, from)
+    read_once(reader, buffer, from)
 }
 
-pub fn read_input(fd: i32, buffer: &mut [u8]) -> Input
+pub fn read_input<R: Read>(reader: &mut R, buffer: &mut [u8]) -> Input
     ensures { IsPrefixLen result.count buffer.new }
 {
     let mut count: usize = 0;
     while count < buffer.len() {
-        let got = read_from(fd, buffer, count);
-        if got < 0 {
-            return Input {
-                count,
-                failed: true,
-            };
+        match read_from(reader, buffer, count) {
+            Ok(more) => {
+                if more == 0 {
+                    return Input {
+                        count,
+                        failed: false,
+                    };
+                }
+                count += more;
+            }
+            Err(_) => {
+                return Input {
+                    count,
+                    failed: true,
+                };
+            }
         }
-        let more = io::count(got, buffer);
-        if more == 0 {
-            return Input {
-                count,
-                failed: false,
-            };
-        }
-        count += more;
     }
     Input {
         count,

@@ -8,12 +8,14 @@ pub mod text;
 
 ghost use Rattle.std.specs.Prelude.{◌≡◌, nat_abs};
 
+use std::io::{Error, ErrorKind};
+
 // How often in a row a call that a signal interrupts is made again. There is an end to it, since every function is proved to return.
 const AGAIN: usize = 1000;
 
-// Whether a signal has interrupted the call that has just answered this.
-fn interrupted(got: isize) -> bool {
-    got < 0 && os::errno() == libc::EINTR
+// Whether a signal has interrupted the call that has just failed with this.
+fn interrupted(error: &Error) -> bool {
+    error.kind() == ErrorKind::Interrupted
 }
 
 // How far a number is from zero. The least one has no opposite, so one is added before its sign is changed.

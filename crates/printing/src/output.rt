@@ -1,39 +1,45 @@
-// Writing what a lent buffer holds. `io::write_all` takes a write that a signal has interrupted for one that failed.
-ghost use Rattle.std.specs.Prelude.{◌-◌, ◌≤◌, length};
-ghost use Rattle.libc.specs.Io.{Moved};
+// Writing what a lent buffer holds. `Write::write_all` does not tell how many bytes were taken, and makes an interrupted write again up to 2^64 times.
+ghost use Rattle.std.specs.Prelude.{◌-◌, ◌≤◌, length, IfOk};
 
 use crate::{AGAIN, interrupted};
+use std::io::{Result, Write};
 
 // One write, of the bytes from the index `from` on.
-fn write_once(fd: i32, bytes: &[u8], from: usize) -> isize
+fn write_once<W: Write>(writer: &mut W, bytes: &[u8], from: usize) -> Result<usize>
     requires { from ≤ length bytes.now }
-    ensures { Moved (length bytes.now - from) result }
+    ensures { IfOk result (λ n. n ≤ length bytes.now - from) }
 {
-    libc::write(fd, &bytes[from..])
+    writer.write(&bytes[from..])
 }
 
 // The same, made again where a signal has interrupted it.
-fn write_from(fd: i32, bytes: &[u8], from: usize) -> isize
+fn write_from<W: Write>(writer: &mut W, bytes: &[u8], from: usize) -> Result<usize>
     requires { from ≤ length bytes.now }
-    ensures { Moved (length bytes.now - from) result }
+    ensures { IfOk result (λ n. n ≤ length bytes.now - from) }
 {
     for _ in 0..AGAIN {
-        let got = write_once(fd, bytes, from);
-        if !interrupted(got) {
-            return got;
+        match write_once(writer, bytes, from) {
+            Ok(n) => return Ok(n),
+            Err(error) => {
+                if !interrupted(&error) {
+                    return Err(error);
+                }
+            }
         }
     }
-    write_once(fd, bytes, from)
+    write_once(writer, bytes, from)
 }
 
 // How many bytes were taken: all of them, or those before the first write that failed or took none.
-pub fn write_output(fd: i32, bytes: &[u8]) -> usize
+pub fn write_output<W: Write>(writer: &mut W, bytes: &[u8]) -> usize
     ensures { result ≤ length bytes.now }
 {
     let mut count: usize = 0;
     while count < bytes.len() {
-        let got = write_from(fd, bytes, count);
-        let more = io::count(got, bytes);
+        let more = match write_from(writer, bytes, count) {
+            Ok(n) => n,
+            Err(_) => 0,
+        };
         if more == 0 {
             return count;
         }

@@ -19,10 +19,10 @@ up : (n : ℕ) → negsuc n +ℤ pos 1 ≡ neg_ℤ (pos n)
 up zero = refl
 up (suc n) = +ℤ_one (negsuc (suc n))
 
-at : (c : tie.Then1) → Below c.before.args.number
+at : (c : tie.Then-number-lt0) → Below c.before.args.number
 at c =
     let f = c.before.ranges.number in
-    negative c.before.args.number (rw (to_z-of_z f) at c.if1.true) (λ n i.
+    negative c.before.args.number (rw (to_z-of_z f) at c.if-number-lt0.true) (λ n i.
     record { n = n; small = (rw i at f).sfits; raised = rw (to_z-of_z f, i) (up n); size = rw i (sym (add-one n)) })
 
 -- what is held after the sign is changed
@@ -32,10 +32,10 @@ negated b = rw (b.raised, to_z-of_z (opposite_fits b.n b.small)) (+ℤ_idl _ ∙
 cast : {z : ℤ} (b : Below z) → held (pos 0 -ℤ held (held z +ℤ pos 1)) ≡ pos b.n
 cast b = rw (negated b, to_z-of_z (record { sfits = b.small }))
 
-cast_result_2 : tie.Need-overflow-cast-result-2
+cast_result_2 : tie.Need-overflow_cast-result-2
 cast_result_2 c =
     let f = c.before.ranges.number in
-    rw (to_z-of_z f) (positive c.before.args.number (rw (to_z-of_z f) at c.if1.false) (λ n i. rw i tt), Fits-nat_abs tt f)
+    rw (to_z-of_z f) (positive c.before.args.number (rw (to_z-of_z f) at c.if-number-lt0.false) (λ n i. rw i tt), Fits-nat_abs tt f)
 
 pub magnitude_spec : {M : Type 1} → statement M
 magnitude_spec =

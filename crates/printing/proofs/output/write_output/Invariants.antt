@@ -1,0 +1,9 @@
+-- `printing::output::write_output`: a write takes no more bytes than it is handed.
+use Rattle.std.proofs.Common.{length, ◌-◌, ◌≤◌}
+use Rattle.printing.proofs.output.write_output.Given as goal
+
+abbrev pub invariant-loop-count : goal.invariant-loop-count
+invariant-loop-count g l = l.count ≤ length l.bytes
+
+abbrev pub decreases-loop-count : goal.decreases-loop-count
+decreases-loop-count g l = length l.bytes - l.count
