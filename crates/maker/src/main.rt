@@ -4,10 +4,10 @@
 ghost use Rattle.std.specs.Prelude.{◌≡◌};
 ghost use Rattle.selection.specs.computed.Outcomes.{made_table};
 
-use libc::{STDERR_FILENO, STDOUT_FILENO};
-use printing::argument::{Asked, estimate_asked};
+use printing::argument::{Asked, estimate_asked, word, word_count};
 use printing::output::write_output;
 use selection::{Estimate, TABLE_LENGTH};
+use std::env::Env;
 
 fn made(estimate: Estimate) -> [u8; TABLE_LENGTH]
     ensures { result ≡ made_table estimate }
@@ -18,18 +18,18 @@ fn made(estimate: Estimate) -> [u8; TABLE_LENGTH]
 }
 
 // What the first argument asks for. A longer one does not fit, and is none.
-fn argument() -> Asked {
-    let mut word = [0u8; 1];
-    let length = os::arg(1, &mut word);
-    estimate_asked(os::arg_count(), &word[..length])
+fn argument<E: Env>(environment: &E) -> Asked {
+    let mut first = [0u8; 1];
+    let length = word(environment, 1, &mut first);
+    estimate_asked(word_count(environment), &first[..length])
 }
 
-fn main() {
-    let Asked::Of(estimate) = argument() else {
-        write_output(STDERR_FILENO, b"usage: maker [7|8] > TABLE\n");
+fn main(rt: HostRuntime) {
+    let Asked::Of(estimate) = argument(&rt) else {
+        write_output(&mut rt.stderr(), b"usage: maker [7|8] > TABLE\n");
         return;
     };
-    if write_output(STDOUT_FILENO, &made(estimate)) != TABLE_LENGTH {
-        write_output(STDERR_FILENO, b"maker: not all was written\n");
+    if write_output(&mut rt.stdout(), &made(estimate)) != TABLE_LENGTH {
+        write_output(&mut rt.stderr(), b"maker: not all was written\n");
     }
 }

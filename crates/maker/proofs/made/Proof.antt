@@ -10,4 +10,4 @@ filled E s e = rw (e, drop_of_length-le s {i = 2048} (omega arith)) (append-nil 
 pub made_spec : {M : Type 1} → statement M
 made_spec =
     tie.close (tie.spec (λ c. search rules) (λ c κs. search rules)
-    (λ c. ap (λ (x : MakeOutcome). x.buffer) c.before.make-table.ensures ∙ filled _ (replicate 2048 0) (length-replicate {A = ℕ} 2048 0)))
+    (λ c. ap (λ (x : MakeOutcome). x.buffer) c.before.make_table.ensures ∙ filled _ (replicate 2048 0) (length-replicate {A = ℕ} 2048 0)))
