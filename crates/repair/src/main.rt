@@ -7,14 +7,14 @@ ghost use Rattle.io.specs.Counts.{IsPrefixLen};
 ghost use Rattle.printing.specs.Text.{Appended};
 ghost use Rattle.repair.specs.Changes.{cell_text, cells_upto, changes_text, Writes, WritesRead};
 
-use libc::{STDERR_FILENO, STDIN_FILENO, STDOUT_FILENO};
-use printing::argument::{Asked, estimate_asked};
+use printing::argument::{Asked, estimate_asked, word, word_count};
 use printing::input::read_input;
 use printing::output::write_output;
 use printing::text::{append, append_number, append_refusal};
 use selection::bits::bits_of;
 use selection::repair::repair_table;
 use selection::{Estimate, TABLE_LENGTH};
+use std::env::Env;
 
 // How much is to be written: bytes of the table and bytes of the text.
 #[derive(Clone, Copy)]
@@ -117,31 +117,34 @@ fn repair_input(
 }
 
 // What the first argument asks for. A longer one does not fit, and is none.
-fn argument() -> Asked {
-    let mut word = [0u8; 1];
-    let length = os::arg(1, &mut word);
-    estimate_asked(os::arg_count(), &word[..length])
+fn argument<E: Env>(environment: &E) -> Asked {
+    let mut first = [0u8; 1];
+    let length = word(environment, 1, &mut first);
+    estimate_asked(word_count(environment), &first[..length])
 }
 
 // A read or a write that fails is told. Where the text cannot be told, the table is not written: a repair is not handed on in silence.
-fn main() {
-    let Asked::Of(estimate) = argument() else {
-        write_output(STDERR_FILENO, b"usage: repair [7|8] < TABLE > REPAIRED\n");
+fn main(rt: HostRuntime) {
+    let Asked::Of(estimate) = argument(&rt) else {
+        write_output(
+            &mut rt.stderr(),
+            b"usage: repair [7|8] < TABLE > REPAIRED\n",
+        );
         return;
     };
     let mut bytes = [0u8; INPUT];
-    let input = read_input(STDIN_FILENO, &mut bytes);
+    let input = read_input(&mut rt.stdin(), &mut bytes);
     if input.failed {
-        write_output(STDERR_FILENO, b"repair: not all was read\n");
+        write_output(&mut rt.stderr(), b"repair: not all was read\n");
         return;
     }
     let mut table = [0u8; TABLE_LENGTH];
     let mut text = [0u8; ROOM];
     let written = repair_input(estimate, &bytes, input.count, &mut table, &mut text);
-    if write_output(STDERR_FILENO, &text[..written.text]) != written.text {
+    if write_output(&mut rt.stderr(), &text[..written.text]) != written.text {
         return;
     }
-    if write_output(STDOUT_FILENO, &table[..written.table]) != written.table {
-        write_output(STDERR_FILENO, b"repair: not all was written\n");
+    if write_output(&mut rt.stdout(), &table[..written.table]) != written.table {
+        write_output(&mut rt.stderr(), b"repair: not all was written\n");
     }
 }
