@@ -7,13 +7,13 @@ ghost use Rattle.selection.specs.Table.{Table};
 ghost use Rattle.printing.specs.Text.{Appended};
 ghost use Rattle.listing.specs.Listing.{Listed, Lists, ListsRead, line_of, witness_text, line_text, lines_upto, table_text, listing_of};
 
-use libc::{STDERR_FILENO, STDIN_FILENO, STDOUT_FILENO};
-use printing::argument::{Asked, estimate_asked};
+use printing::argument::{Asked, estimate_asked, word, word_count};
 use printing::input::read_input;
 use printing::output::write_output;
 use printing::text::{append, append_number, append_signed};
 use selection::table::Outcome;
 use selection::{CellVerdict, Estimate, TABLE_LENGTH, Witness};
+use std::env::Env;
 
 // What the listing has of one cell: nothing, or the row, the column, the digit and the witness against it.
 #[derive(Clone, Copy)]
@@ -129,27 +129,27 @@ fn listing_of_input(
 }
 
 // What the first argument asks for. A longer one does not fit, and is none.
-fn argument() -> Asked {
-    let mut word = [0u8; 1];
-    let length = os::arg(1, &mut word);
-    estimate_asked(os::arg_count(), &word[..length])
+fn argument<E: Env>(environment: &E) -> Asked {
+    let mut first = [0u8; 1];
+    let length = word(environment, 1, &mut first);
+    estimate_asked(word_count(environment), &first[..length])
 }
 
 // A read or a write that fails is told: a table that is read in part would look too short, and a lost line would make a bad cell look allowed.
-fn main() {
-    let Asked::Of(estimate) = argument() else {
-        write_output(STDERR_FILENO, b"usage: listing [7|8] < TABLE\n");
+fn main(rt: HostRuntime) {
+    let Asked::Of(estimate) = argument(&rt) else {
+        write_output(&mut rt.stderr(), b"usage: listing [7|8] < TABLE\n");
         return;
     };
     let mut bytes = [0u8; INPUT];
-    let input = read_input(STDIN_FILENO, &mut bytes);
+    let input = read_input(&mut rt.stdin(), &mut bytes);
     if input.failed {
-        write_output(STDERR_FILENO, b"listing: not all was read\n");
+        write_output(&mut rt.stderr(), b"listing: not all was read\n");
         return;
     }
     let mut out = [0u8; ROOM];
     let end = listing_of_input(estimate, &bytes, input.count, &mut out);
-    if write_output(STDOUT_FILENO, &out[..end]) != end {
-        write_output(STDERR_FILENO, b"listing: not all was written\n");
+    if write_output(&mut rt.stdout(), &out[..end]) != end {
+        write_output(&mut rt.stderr(), b"listing: not all was written\n");
     }
 }

@@ -2,14 +2,14 @@
 use Rattle.laws.proofs.Basics.{ℕ, arith, replicate, length-replicate}
 use lib.Seq.{take_all}
 use Rattle.printing.proofs.Texts.{appended_size, appended_take, counts}
-use Rattle.repair.proofs.Writing.{Called, sizes, writes_table, writes_refusal}
+use Rattle.repair.proofs.Writing.{Called, sizes, writes_table}
 use Rattle.repair.proofs.repair.Goals as goal
 
 pub returns-clause-fact : goal.returns-clause-fact
 returns-clause-fact c =
     let r = c.repair_table-answer in
     let k : Called c.args.estimate c.args.bytes.now c.args.table.now (replicate 2048 0) (record { answer = r.result; repaired = r.new.repaired; changed = r.new.changed }) =
-        record { table_room = omega arith; marks_room = length-replicate {A = ℕ} 2048 0; outcome = r.ensures } in
+    record { table_room = omega arith; marks_room = length-replicate {A = ℕ} 2048 0; outcome = r.ensures } in
     rw (take_all 2048 r.new.repaired (omega (arith, sizes _ k c.if-answer-ne0.false))) (writes_table _ k c.if-answer-ne0.false (appended_take c.append_changes.ensures.appended))
 
 pub returns-clause-prefix_len : goal.returns-clause-prefix_len
