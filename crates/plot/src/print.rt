@@ -1,15 +1,17 @@
 // How the picture is printed, piece by piece. Here and where it is drawn, the answer is whether all was written, and the first write
-// that fails is the last. No contract can say which bytes a call of the C library's writes.
-use libc::STDOUT_FILENO;
+// that fails is the last. No contract can say which bytes a write to standard output gives away.
 use printing::output::write_output;
+use printing::text::append_number;
+use std::io::Stdout;
 
-pub(crate) fn print_text(text: &[u8]) -> bool {
-    write_output(STDOUT_FILENO, text) == text.len()
+pub(crate) fn print_text(out: Stdout, text: &[u8]) -> bool {
+    let mut writer = out;
+    write_output(&mut writer, text) == text.len()
 }
 
 // A number in decimal, and what follows it.
-pub(crate) fn print_number(number: u64, end: &[u8]) -> bool {
+pub(crate) fn print_number(out: Stdout, number: u64, end: &[u8]) -> bool {
     let mut digits = [0u8; 20];
-    let count = io::decimal(number, &mut digits);
-    print_text(&digits[..count]) && print_text(end)
+    let count = append_number(&mut digits, 0, number, b"");
+    print_text(out, &digits[..count]) && print_text(out, end)
 }

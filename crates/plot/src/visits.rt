@@ -7,6 +7,7 @@ use crate::cells::{has_point, is_drawn};
 use crate::picture;
 use crate::print::{print_number, print_text};
 use selection::{Estimate, TABLE_LENGTH};
+use std::io::Stdout;
 
 const BITS: u64 = 6;
 
@@ -60,51 +61,51 @@ fn shade_of(visits: u32) -> u64
     6
 }
 
-fn print_class(cell: Visited) -> bool {
+fn print_class(out: Stdout, cell: Visited) -> bool {
     if 0 < cell.visits {
-        return print_text(b"v") && print_number(shade_of(cell.visits), b"' ");
+        return print_text(out, b"v") && print_number(out, shade_of(cell.visits), b"' ");
     }
     if cell.in_range {
-        return print_text(b"never' ");
+        return print_text(out, b"never' ");
     }
-    print_text(b"none' ")
+    print_text(out, b"none' ")
 }
 
 // What a browser shows of a cell under the pointer.
-fn print_title(cell: Visited) -> bool {
-    print_text(b"><title>row ")
-        && print_number(cell.row, b", column ")
-        && print_number(cell.column, b", visits: ")
-        && print_number(cell.visits as u64, b"")
-        && (cell.in_range || print_text(b", out of range"))
-        && print_text(b"</title></path>\n")
+fn print_title(out: Stdout, cell: Visited) -> bool {
+    print_text(out, b"><title>row ")
+        && print_number(out, cell.row, b", column ")
+        && print_number(out, cell.column, b", visits: ")
+        && print_number(out, cell.visits as u64, b"")
+        && (cell.in_range || print_text(out, b", out of range"))
+        && print_text(out, b"</title></path>\n")
 }
 
-fn print_visited(cell: Visited) -> bool
+fn print_visited(out: Stdout, cell: Visited) -> bool
     requires { (cell.row ≤ 15) × (cell.column < 112) }
 {
-    print_text(b"<path class='")
-        && print_class(cell)
-        && picture::print_edge(cell.row, cell.column, cell.column + 1)
-        && print_title(cell)
+    print_text(out, b"<path class='")
+        && print_class(out, cell)
+        && picture::print_edge(out, cell.row, cell.column, cell.column + 1)
+        && print_title(out, cell)
 }
 
-fn draw_visited(visits: &[u32], k: usize) -> bool
+fn draw_visited(out: Stdout, visits: &[u32], k: usize) -> bool
     requires { (2048 ≤ length visits.now) × (k < 2048) }
 {
     let cell = visited_at(visits, k);
     if is_drawn(cell.column) {
-        print_visited(cell)
+        print_visited(out, cell)
     } else {
         true
     }
 }
 
-fn draw_all(visits: &[u32]) -> bool
+fn draw_all(out: Stdout, visits: &[u32]) -> bool
     requires { 2048 ≤ length visits.now }
 {
     for k in 0..TABLE_LENGTH {
-        if !draw_visited(visits, k) {
+        if !draw_visited(out, visits, k) {
             return false;
         }
     }
@@ -126,8 +127,9 @@ fn count_met(visits: &[u32]) -> u64
 }
 
 // The shades, from light to dark, and stripes for a cell that is never met; the line below the heading.
-fn print_shades(met: u64) -> bool {
+fn print_shades(out: Stdout, met: u64) -> bool {
     print_text(
+        out,
         b"<style>\n\
         .v1{fill:#fdf3b8}.v2{fill:#fbd97c}.v3{fill:#f5a54f}.v4{fill:#dd5f3c}.v5{fill:#a92a50}.v6{fill:#4d1259}\n\
         .never{fill:url(#stripes)}.none{fill:#efefef}\n\
@@ -137,11 +139,12 @@ fn print_shades(met: u64) -> bool {
         </pattern></defs>\n\
         <text x='100' y='60' font-size='16'>28 digits of each of the 1,024 pairs of operands of 6 significant bits: \
         28,672 digits, taken at ",
-    ) && print_number(met, b" cells.</text>\n<g class='cells'>\n")
+    ) && print_number(out, met, b" cells.</text>\n<g class='cells'>\n")
 }
 
-fn print_legend() -> bool {
+fn print_legend(out: Stdout) -> bool {
     print_text(
+        out,
         b"<text x='836' y='96' font-weight='bold'>visits of a cell</text>\n\
         <path class='v6' d='M836 106h34v20h-34z'/><text x='880' y='121'>128 or more</text>\n\
         <path class='v5' d='M836 133h34v20h-34z'/><text x='880' y='148'>64 to 127</text>\n\
@@ -151,28 +154,29 @@ fn print_legend() -> bool {
         <path class='v1' d='M836 241h34v20h-34z'/><text x='880' y='256'>1 to 7</text>\n\
         <path class='never' d='M836 268h34v20h-34z'/><text x='880' y='283'>never met</text>\n\
         <path class='none' d='M836 295h34v20h-34z'/><text x='880' y='310'>out of range</text>\n",
-    ) && picture::print_line_keys()
+    ) && picture::print_line_keys(out)
 }
 
-fn draw_picture(visits: &[u32]) -> bool
+fn draw_picture(out: Stdout, visits: &[u32]) -> bool
     requires { 2048 ≤ length visits.now }
 {
     picture::print_start(
+        out,
         b"P-D plot of the visits of a table's cells",
         b"P-D plot: how often each cell of the table is met",
-    ) && print_shades(count_met(visits))
-        && draw_all(visits)
-        && picture::print_frame()
-        && picture::print_axes()
-        && print_legend()
+    ) && print_shades(out, count_met(visits))
+        && draw_all(out, visits)
+        && picture::print_frame(out)
+        && picture::print_axes(out)
+        && print_legend(out)
 }
 
 // What the call refuses gets the two lines of a refusal.
-pub(crate) fn draw_visits(bytes: &[u8]) -> bool {
+pub(crate) fn draw_visits(out: Stdout, bytes: &[u8]) -> bool {
     let mut visits = [0u32; TABLE_LENGTH];
     let refusal = recurrence::visits::count_visits(bytes, BITS, DIGITS, &mut visits);
     if 0 < refusal.number {
-        return picture::print_refusal(refusal);
+        return picture::print_refusal(out, refusal);
     }
-    draw_picture(&visits)
+    draw_picture(out, &visits)
 }

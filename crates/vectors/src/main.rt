@@ -8,10 +8,13 @@ ghost use Rattle.vectors.specs.Vectors.{nibble_of, hex_of, is_root, vector_of, i
 ghost use Rattle.vectors.specs.Report.{counts_text, total_text, added, Room, WithFile, Reports};
 
 use division::format::Binary64;
-use libc::{STDERR_FILENO, STDOUT_FILENO};
+use printing::argument::word_count;
 use printing::input::{Input, read_input};
 use printing::output::write_output;
 use printing::text::{append, append_number};
+use std::fs::File;
+use std::io;
+use std::io::{Cursor, Read, Write};
 
 // One case: two operands, or the operand of a root, a direction, and the pattern and flags that are expected.
 #[derive(Clone, Copy)]
@@ -47,9 +50,6 @@ struct Page {
 
 // Room for the longest report: 16 bytes of names, eight lines of a name and two numbers of 20 digits, and 38 bytes on files that were not read.
 const ROOM: usize = 500;
-
-// How often in a row an opening that a signal interrupts is tried again.
-const AGAIN: usize = 1000;
 
 // Room for the bytes of 16,000 lines and one byte more, so that a longer file is seen.
 const FILE: usize = 896001;
@@ -248,44 +248,88 @@ fn count_lines(bytes: &[u8]) -> Counts
     }
 }
 
-// Tried again where a signal has interrupted it.
-fn open_file(name: &[u8]) -> i32 {
-    for _ in 0..AGAIN {
-        let fd = os::open_read(name);
-        if 0 <= fd || os::errno() != libc::EINTR {
-            return fd;
-        }
-    }
-    os::open_read(name)
+// A file, and why the last of its reads that failed did so.
+#[derive(Drop)]
+struct Source {
+    file: File,
+    failure: Option<io::Error>,
 }
 
-// A file that cannot be opened, or of which a read fails, is told on standard error.
-fn read_file(name: &[u8], bytes: &mut [u8; FILE]) -> Input
+impl Read for Source {
+    fn read(&mut self, buf: &mut [u8]) -> io::Result<usize> {
+        let got = self.file.read(buf);
+        if let Err(error) = &got {
+            self.failure = Some(*error);
+        }
+        got
+    }
+}
+
+// Where the number begins that std puts behind the system's words for an error, or else where a text that zeros follow ends.
+fn words_end(text: &[u8]) -> usize
+    ensures { result ≤ length text.now }
+{
+    for (i, c) in text.iter().enumerate() {
+        if *c == 0 || text[i..].starts_with(b" (os error ") {
+            return i;
+        }
+    }
+    text.len()
+}
+
+// A file that cannot be opened, or of which a read fails, is told on standard error, in the system's words.
+fn tell_failure(rt: &HostRuntime, name: &str, error: io::Error) {
+    let mut words = Cursor::new([0u8; 320]);
+    let _ = write!(words, "{error}");
+    let text = words.into_inner();
+    let mut stderr = rt.stderr();
+    write_output(&mut stderr, name.as_bytes());
+    write_output(&mut stderr, b": ");
+    write_output(&mut stderr, &text[..words_end(&text)]);
+    write_output(&mut stderr, b"\n");
+}
+
+// What was read of an open file.
+fn read_open(rt: &HostRuntime, name: &str, file: File, bytes: &mut [u8; FILE]) -> Input
     ensures { Counts·io result.count bytes.new }
 {
-    let fd = open_file(name);
-    if fd < 0 {
-        os::fail(name);
-        return Input {
-            count: 0,
-            failed: true,
-        };
+    let mut source = Source {
+        file,
+        failure: None,
+    };
+    let input = read_input(&mut source, bytes);
+    if let Some(error) = source.failure {
+        if input.failed {
+            tell_failure(rt, name, error);
+        }
     }
-    let input = read_input(fd, bytes);
-    if input.failed {
-        os::fail(name);
-    }
-    libc::close(fd);
     input
 }
 
-fn tell_too_long(name: &[u8]) {
-    write_output(STDERR_FILENO, name);
-    write_output(STDERR_FILENO, b": more than 16000 lines\n");
+// The opening is tried again where a signal has interrupted it, by std.
+fn read_file(rt: &HostRuntime, name: &str, bytes: &mut [u8; FILE]) -> Input
+    ensures { Counts·io result.count bytes.new }
+{
+    match File::open(rt, name) {
+        Ok(file) => read_open(rt, name, file, bytes),
+        Err(error) => {
+            tell_failure(rt, name, error);
+            Input {
+                count: 0,
+                failed: true,
+            }
+        }
+    }
+}
+
+fn tell_too_long(rt: &HostRuntime, name: &str) {
+    let mut stderr = rt.stderr();
+    write_output(&mut stderr, name.as_bytes());
+    write_output(&mut stderr, b": more than 16000 lines\n");
 }
 
 // What is told of a file of which that was read.
-fn run_of(name: &[u8], bytes: &[u8; FILE], input: Input) -> FileRun
+fn run_of(rt: &HostRuntime, name: &str, bytes: &[u8; FILE], input: Input) -> FileRun
     requires { Counts·io input.count bytes.now }
     ensures { result ≡ run_of bytes.now input }
 {
@@ -294,19 +338,19 @@ fn run_of(name: &[u8], bytes: &[u8; FILE], input: Input) -> FileRun
     }
     let count = input.count;
     if FILE <= count {
-        tell_too_long(name);
+        tell_too_long(rt, name);
         return FileRun::Unread;
     }
     let all: &[u8] = bytes;
     FileRun::Counted(count_lines(&all[..count]))
 }
 
-fn run_file(name: &[u8]) -> FileRun
+fn run_file(rt: &HostRuntime, name: &str) -> FileRun
     ensures { Ran result }
 {
     let mut bytes = [0u8; FILE];
-    let input = read_file(name, &mut bytes);
-    run_of(name, &bytes, input)
+    let input = read_file(rt, name, &mut bytes);
+    run_of(rt, name, &bytes, input)
 }
 
 // A name, the number of lines and how many of them differ, and what follows them.
@@ -355,15 +399,15 @@ fn with_unread(page: Page) -> Page
 }
 
 // Runs a file. One of which not all was read has no line.
-fn with_file(out: &mut [u8], page: Page, name: &[u8]) -> Page
+fn with_file(rt: &HostRuntime, out: &mut [u8], page: Page, name: &str) -> Page
     requires { Room out.old page name.now }
     ensures with_file { WithFile out.old page name.now out.new result }
     ensures end_bound { (result.end ≤ page.end + length name.now + 43) × (result.total.run ≤ page.total.run + 16000) × (result.total.differ ≤ page.total.differ + 16000) × (result.unread ≤ page.unread + 1) }
 {
-    let run = run_file(name);
+    let run = run_file(rt, name);
     match run {
         FileRun::Unread => with_unread(page),
-        FileRun::Counted(counts) => with_counts(out, page, name, counts),
+        FileRun::Counted(counts) => with_counts(out, page, name.as_bytes(), counts),
     }
 }
 
@@ -381,7 +425,7 @@ fn append_total(out: &mut [u8], page: Page) -> usize
 }
 
 // All that is printed.
-fn report(out: &mut [u8; ROOM]) -> usize
+fn report(rt: &HostRuntime, out: &mut [u8; ROOM]) -> usize
     ensures { Reports (take result out.new) × Counts·io result out.new }
 {
     let start = Page {
@@ -389,45 +433,43 @@ fn report(out: &mut [u8; ROOM]) -> usize
         total: Counts { run: 0, differ: 0 },
         unread: 0,
     };
-    let one = with_file(out, start, b"div-testfloat.txt");
-    let two = with_file(out, one, b"div-glibc.txt");
-    let three = with_file(out, two, b"div-llvm.txt");
-    let four = with_file(out, three, b"div-mpfr.txt");
-    let five = with_file(out, four, b"div-nan.txt");
-    let six = with_file(out, five, b"sqrt-testfloat.txt");
-    let seven = with_file(out, six, b"sqrt-glibc.txt");
+    let one = with_file(rt, out, start, "div-testfloat.txt");
+    let two = with_file(rt, out, one, "div-glibc.txt");
+    let three = with_file(rt, out, two, "div-llvm.txt");
+    let four = with_file(rt, out, three, "div-mpfr.txt");
+    let five = with_file(rt, out, four, "div-nan.txt");
+    let six = with_file(rt, out, five, "sqrt-testfloat.txt");
+    let seven = with_file(rt, out, six, "sqrt-glibc.txt");
     append_total(out, seven)
 }
 
-fn print_report() {
+fn print_report(rt: &HostRuntime) {
     let mut out = [0u8; ROOM];
-    let end = report(&mut out);
-    if write_output(STDOUT_FILENO, &out[..end]) != end {
-        write_output(STDERR_FILENO, b"vectors: not all was written\n");
+    let end = report(rt, &mut out);
+    if write_output(&mut rt.stdout(), &out[..end]) != end {
+        write_output(&mut rt.stderr(), b"vectors: not all was written\n");
     }
 }
 
 // Whether the program runs where its files are: the first of them can be opened.
-fn files_are_here() -> bool {
-    let fd = open_file(b"div-testfloat.txt");
-    if fd < 0 {
-        return false;
-    }
-    libc::close(fd);
-    true
+fn files_are_here(rt: &HostRuntime) -> bool {
+    File::open(rt, "div-testfloat.txt").is_ok()
 }
 
-fn main() {
-    if 1 < os::arg_count() {
-        write_output(STDERR_FILENO, b"usage: vectors (in crates/vectors/data)\n");
+fn main(rt: HostRuntime) {
+    if 1 < word_count(&rt) {
+        write_output(
+            &mut rt.stderr(),
+            b"usage: vectors (in crates/vectors/data)\n",
+        );
         return;
     }
-    if !files_are_here() {
+    if !files_are_here(&rt) {
         write_output(
-            STDERR_FILENO,
+            &mut rt.stderr(),
             b"vectors: no div-testfloat.txt here; run it in crates/vectors/data\n",
         );
         return;
     }
-    print_report();
+    print_report(&rt);
 }
