@@ -10,7 +10,7 @@ mod visits;
 ghost use Rattle.std.specs.Prelude.{◌≤◌, ◌<◌};
 ghost use Rattle.selection.specs.Table.{Table};
 
-use printing::argument::{Asked, argument, word, word_count};
+use printing::argument::{Asked, estimate_asked, word, word_count};
 use printing::input::read_input;
 use printing::output::write_output;
 use selection::table::Outcome;
@@ -130,6 +130,13 @@ fn draw_asked(out: Stdout, estimate: Estimate, bytes: &[u8], of_visits: bool) ->
         return visits::draw_visits(out, bytes);
     }
     draw(out, estimate, bytes)
+}
+
+// What the first argument asks for. A longer one does not fit, and is none.
+fn argument(rt: &HostRuntime) -> Asked {
+    let mut first = [0u8; 1];
+    let length = word(rt, 1, &mut first);
+    estimate_asked(word_count(rt), &first[..length])
 }
 
 // One byte more than a table has, so that a longer input is seen. A read that fails is told, since a table read in part would look too short, and so is

@@ -1,9 +1,0 @@
--- `plot::draw_cell` is safe and ends: what is drawn is in the picture.
-use Rattle.laws.proofs.Basics.{arith, rules}
-use Rattle.plot.proofs.draw_cell.Statement.{statement}
-use Rattle.plot.proofs.draw_cell.Tie as tie
-
-pub draw_cell_spec : {M : Type 1} → statement M
-draw_cell_spec =
-    tie.close (tie.spec (λ c κs. search rules) (λ c κs. search rules)
-    (λ c κs. (omega (arith, c.before.before.cell_at.ensures.row), (c.before.is-drawn.ensures.yes c.if1.true).1)) (λ c. search rules) (λ c. search rules))
