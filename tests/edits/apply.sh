@@ -1,4 +1,4 @@
-# Sourced by run and joint. apply EDIT CRATE: makes the edit's replacements in crates/CRATE. Each old text stands in its file
+# Sourced by the scripts beside it. apply EDIT CRATE: makes the edit's replacements in crates/CRATE. Each old text stands in its file
 # once, and gives way to the new one.
 apply() { # EDIT CRATE
     file='' old=''
@@ -21,7 +21,22 @@ apply() { # EDIT CRATE
     done < "$1"
 }
 
+# The crate in whose folder the edit stands: crates/CRATE/must-fail/NAME.edit or tests/edits/CRATE/NAME.edit.
+crate_of() { # EDIT
+    case $1 in crates/*) crate=${1#crates/} ;; *) crate=${1#tests/edits/} ;; esac
+    echo "${crate%%/*}"
+}
+
+# Copies the crates into the folder, without what checks left in out/.
+copy_of_crates() { # FOLDER
+    tar -c --exclude='crates/*/out' crates crates.txt $(ls HANDLES 2>/dev/null || true) | tar -x -C "$1"
+}
+
+# What `rt must-fail` says of an edit that it refuses because a fact fails: nothing stands in brackets behind it. Where proof files only name what the
+# edit took away, or where the prover met a limit of its own, it says so there; where the text cannot be read, it says BAD EDIT.
+FOR_A_FACT='^rt: must-fail .*: refused, as it must be\(: \|$\)'
+
 # The prover's answer in the file LOG names what is no longer there: such a refusal shows nothing.
 names_missing() { # LOG
-    grep -qE 'can be named from here|error: .* is not in scope' "$1"
+    grep -qE 'has no `|has no field|error: .* is not in scope' "$1"
 }
