@@ -27,6 +27,13 @@ crate_of() { # EDIT
     echo "${crate%%/*}"
 }
 
+# The lower crate of a joint edit, whose texts it changes.
+lower_of() { # EDIT
+    pair=$(sed -n 's/^crates: //p' "$1")
+    lower=${pair% *}
+    echo "${lower:-division}"
+}
+
 # Copies the crates into the folder, without what checks left in out/.
 copy_of_crates() { # FOLDER
     tar -c --exclude='crates/*/out' crates crates.txt $(ls HANDLES 2>/dev/null || true) | tar -x -C "$1"
@@ -38,5 +45,9 @@ FOR_A_FACT='^rt: must-fail .*: refused, as it must be\(: \|$\)'
 
 # The prover's answer in the file LOG names what is no longer there: such a refusal shows nothing.
 names_missing() { # LOG
-    grep -qE 'has no `|has no field|error: .* is not in scope' "$1"
+    names_missing_in "$1" > /dev/null
+}
+
+names_missing_in() { # LOG
+    grep -m 1 -E ': error: .*(has no `|has no field|is not in scope|is no name)' "$1"
 }
