@@ -1,7 +1,7 @@
 -- Whether a wrong table affected a division of whole numbers: its mark, what it claims, the refusals of the call, and that no other answer fits.
 use Rattle.laws.{proofs.Basics.{◌≡◌, refl, ap, ◌∙◌, List, inl, inr, ⊎_elim, ℕ, ◌+◌, ◌-◌, ◌*◌, ◌/◌, ◌%◌, ◌^◌, ◌≤◌, ◌<◌, arith, length}, proofs.Tests.{Decides}, specs.Shifts.{shift_to}}
 use Rattle.std.proofs.Common.{mod-lt, pos_of_ne-zero, lt_of_mul-lt-mul_right, div-add-mod', le-div_iff_mul-le, mul-div_cancel, pow_pos}
-use Rattle.selection.{proofs.RefusalNames.{refusal, first_refusal, rank, WellFormed, refuses_one, refuses, cleared, clear_admits}, specs.declared.Admission.TheVariants.{Admitted}}
+use Rattle.selection.{proofs.RefusalNames.{first_refusal, rank, WellFormed, refuses_one, refuses, cleared, clear_admits}, specs.declared.Admission.TheVariants.{Admitted}}
 use Rattle.selection.specs.declared.Estimate.{Estimate}
 use Rattle.recurrence.specs.{computed.Recheck.{exact_result, ShowsWrong, Marks, mark_zeros, mark_values, runs_wrong, run_mark}, Recurrence.{result_of}}
 use Rattle.recurrence.{proofs.RightRuns.{wrong_decides, run_mark_right, run_mark_claim, mark_is, mark_one}, specs.declared.recheck.AffectedMark.{AffectedMark}}

@@ -1,6 +1,6 @@
 -- Whether a wrong table affected a run: the refusals of the call, its answer, and that no other answer fits.
 use Rattle.laws.proofs.Basics.{◌≡◌, refl, List, ℕ, arith, length}
-use Rattle.selection.{proofs.RefusalNames.{refusal, first_refusal, rank, WellFormed, refuses_one, refuses, cleared, clear_admits}, specs.declared.Admission.TheVariants.{Admitted}}
+use Rattle.selection.{proofs.RefusalNames.{first_refusal, rank, WellFormed, refuses_one, refuses, cleared, clear_admits}, specs.declared.Admission.TheVariants.{Admitted}}
 use Rattle.selection.specs.declared.Estimate.{Estimate}
 use Rattle.recurrence.specs.{computed.Recheck.{affected_run_rules, mark_zeros, mark_values, AffectedRunAccepts, RunRechecks, run_mark, affected_run_of}, declared.recheck.AffectedMark.{AffectedMark}}
 use Rattle.recurrence.proofs.RightRuns.{wrong_decides, run_mark_right, mark_one}

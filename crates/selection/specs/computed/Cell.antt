@@ -4,7 +4,7 @@ use Rattle.selection.specs.computed.Refusals.{Rule, below, either_of, number, nu
 use Rattle.selection.specs.declared.Estimate.{Estimate}
 use Rattle.selection.specs.declared.CellVerdict.{CellVerdict}
 use Rattle.selection.specs.declared.CellVerdict.TheVariants.{Allowed, Disallowed, Refused}
-use Rattle.selection.specs.Cell.{LeastWitness, row, Allows, column, digit}
+use Rattle.selection.specs.Cell.{LeastWitness, Allows, digit}
 
 -- a row, a column and a byte that the single-cell call takes
 pub record IsCell (r c b : ℕ) : Type 0 where

@@ -1,7 +1,7 @@
 -- The answers, computed: `cell_of`, `row_limits_of`, `made_table`, `make_of`, `report_of`, `repair_of`. A reader need not believe them: `cell_checked`, `allows_decides`, `limits_right`,
 -- `made_table_is`, `report_checked`, `limits_told`, `make_right` and `repairs_right` show that each is the answer in the specification's words, and
 -- `cell_checked_one`, `limited_one`, `made_one`, `makes_one`, `checked_one`, `repairs_one` that there is no other.
-use Rattle.std.specs.Prelude.{ℕ, zero, ◌+◌, ◌/◌, ◌%◌, cond, List, [], ◌∷◌, ◌++◌, length, drop, nat_lt, slice_index}
+use Rattle.std.specs.Prelude.{ℕ, ◌+◌, ◌/◌, ◌%◌, cond, List, [], ◌∷◌, ◌++◌, length, drop, nat_lt, slice_index}
 use Rattle.laws.specs.Lists.{list_from, filled}
 use Rattle.laws.specs.Search.{first_from}
 use Rattle.laws.specs.Counting.{count_below}

@@ -1,5 +1,5 @@
 -- `clear` meets its contract: all before c are zeros, and the rest is as it was.
-use Rattle.laws.{proofs.Basics.{ℕ, ◌≤◌, ◌-◌, ◌≡◌, sym, ap, ◌∙◌, ⊎_elim, List, arith, length, set}, specs.Lists.{filled}, proofs.Lists.{fill_none, fill_more, fill_length}}
+use Rattle.laws.{proofs.Basics.{ℕ, ◌≤◌, ◌-◌, ◌≡◌, sym, ap, ◌∙◌, List, arith, length, set}, specs.Lists.{filled}, proofs.Lists.{fill_none, fill_more, fill_length}}
 use lib.Seq.{set-get_or}
 use Rattle.recurrence.proofs.visits.clear.Statement.{statement}
 use Rattle.recurrence.proofs.visits.clear.Lts.{then-visits-c-ne0, else-visits-c-ne0}

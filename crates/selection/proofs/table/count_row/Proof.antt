@@ -1,4 +1,4 @@
-use Rattle.laws.{proofs.Basics.{◌≤◌, ◌-◌, ⊎_elim, ◌≡◌, sym, ◌∙◌, arith, rules}, specs.Counting.{count_below}, proofs.Counting.{count_start, count_one, count_other, count_most}}
+use Rattle.laws.{proofs.Basics.{◌≤◌, ◌-◌, ◌≡◌, sym, ◌∙◌, arith, rules}, specs.Counting.{count_below}, proofs.Counting.{count_start, count_one, count_other, count_most}}
 use Rattle.selection.specs.computed.Allowed.{is_bad_in}
 use Rattle.selection.proofs.table.count_row.Statement.{statement}
 use Rattle.selection.proofs.table.count_row.Lts.{then-is_bad, else-is_bad}
