@@ -1,5 +1,5 @@
 // How the picture is printed, piece by piece. Here and where it is drawn, the answer is whether all was written, and the first write
-// that fails is the last. No contract can say which bytes a write to standard output gives away.
+// that fails is the last. No contract can say which bytes reach the system.
 use printing::output::write_output;
 use printing::text::append_number;
 use std::io::Stdout;

@@ -248,6 +248,11 @@ fn count_lines(bytes: &[u8]) -> Counts
     }
 }
 
+// Tried again where a signal has interrupted it, by std.
+fn open_file(rt: &HostRuntime, name: &str) -> io::Result<File> {
+    File::open(rt, name)
+}
+
 // A file, and why the last of its reads that failed did so.
 #[derive(Drop)]
 struct Source {
@@ -277,7 +282,7 @@ fn words_end(text: &[u8]) -> usize
     text.len()
 }
 
-// A file that cannot be opened, or of which a read fails, is told on standard error, in the system's words.
+// Why a file was not read, in the system's words.
 fn tell_failure(rt: &HostRuntime, name: &str, error: io::Error) {
     let mut words = Cursor::new([0u8; 320]);
     let _ = write!(words, "{error}");
@@ -306,11 +311,11 @@ fn read_open(rt: &HostRuntime, name: &str, file: File, bytes: &mut [u8; FILE]) -
     input
 }
 
-// The opening is tried again where a signal has interrupted it, by std.
+// A file that cannot be opened, or of which a read fails, is told on standard error.
 fn read_file(rt: &HostRuntime, name: &str, bytes: &mut [u8; FILE]) -> Input
     ensures { Counts·io result.count bytes.new }
 {
-    match File::open(rt, name) {
+    match open_file(rt, name) {
         Ok(file) => read_open(rt, name, file, bytes),
         Err(error) => {
             tell_failure(rt, name, error);
@@ -453,7 +458,7 @@ fn print_report(rt: &HostRuntime) {
 
 // Whether the program runs where its files are: the first of them can be opened.
 fn files_are_here(rt: &HostRuntime) -> bool {
-    File::open(rt, "div-testfloat.txt").is_ok()
+    open_file(rt, "div-testfloat.txt").is_ok()
 }
 
 fn main(rt: HostRuntime) {
