@@ -89,6 +89,7 @@ pub(crate) fn bad_end(estimate: Estimate, table: &[u8], row: usize, from: usize)
 }
 
 // Whether a column is drawn. A point lies in the columns 20 to 106, so the others have none in any row.
+#[tactic(auto, using(crate::proofs::Points::drawn_no))]
 pub(crate) fn is_drawn(column: u64) -> bool
     requires { column ≤ 127 }
     ensures { DrawnIs column result }
