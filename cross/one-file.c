@@ -15,6 +15,8 @@
 
    No licence has been granted: you may read this file, but not copy, change or ship it without asking its owners. */
 
+#define QUENDARIC_ONE_FILE
+
 /* An answer in parts is moved as a whole, also where a part of it has no meaning and was not written. */
 #if defined(__GNUC__) && !defined(__clang__)
 #pragma GCC diagnostic ignored "-Wmaybe-uninitialized"

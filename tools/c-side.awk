@@ -106,25 +106,23 @@ END {
 
 # ---- cross/calls.c
 
-# The parameter in the proved function: a length is 64 bits wide, a list is the address of its slice.
+# The parameter in the proved function: a length is 64 bits wide, and stands behind its list.
 function proved_type(call, i) {
-    if (arg_shape[call, i] != "number") return "const void *"
+    if (arg_shape[call, i] != "number") return "const void *" (arg_shape[call, i] ~ /read|written/ ? ", uint64_t" : "")
     return arg_type[call, i] == "usize" ? "uint64_t" : c_type(arg_type[call, i])
 }
 function crossed(call,    i, text, part, n) {
     text = "void quendaric_proved_" call "(void *"
     for (i = 1; i <= arg_count[call]; i++) text = text ", " proved_type(call, i)
     text = text ");\n" head_of(call, "quendaric_" call, ") {") "\n  quendaric_" answer_of[call] " answer;\n"
-    for (i = 1; i <= arg_count[call]; i++)
-        if (arg_shape[call, i] ~ /read|written/) text = text filled("  const slice lent_NAME = {NAME, LENGTH};\n", call, i)
     part[1] = "&answer"
-    n = passed(call, part, 1, "&lent_NAME", "")
+    n = passed(call, part, 1, "NAME", "LENGTH")
     return text wrapped("  quendaric_proved_" call "(", part, n, ");") "\n  return answer;\n}\n"
 }
 END {
     file = made "/calls.c"
     print "/* The calls of include/quendaric.h over the proved functions, for the archives that cross/build makes. tools/prototypes" >file
-    print "   makes this file: do not edit it. */\n\n#include \"slice.h\"" >file
+    print "   makes this file: do not edit it. */\n\n#include \"target.h\"" >file
     for (i = 1; i <= number; i++) printf "\n%s", crossed(calls[i]) >file
 }
 

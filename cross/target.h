@@ -1,26 +1,21 @@
-/* How the proved functions take a list, and what a target must be like: cross/calls.c holds a target against this
-   when it is compiled. */
+/* What a target must be like for the proved functions: cross/calls.c holds a target against this when it is compiled. */
 
-#ifndef QUENDARIC_SLICE_H
-#define QUENDARIC_SLICE_H
+#ifndef QUENDARIC_TARGET_H
+#define QUENDARIC_TARGET_H
 
 #include "quendaric.h"
 
-#ifdef __GNUC__
-#define QUENDARIC_ALIGNED __attribute__((aligned(8)))
-#else
-#define QUENDARIC_ALIGNED
-#endif
-
-/* A pointer at byte 0 and a length of 64 bits at byte 8, however wide pointers are. */
-typedef struct {
-  const void *start;
-  uint64_t length QUENDARIC_ALIGNED;
-} slice;
-
 #define QUENDARIC_HOLDS(name, fact) typedef char quendaric_holds_##name[(fact) ? 1 : -1]
 
-QUENDARIC_HOLDS(slice, sizeof(slice) == 16 && offsetof(slice, length) == 8);
+#ifndef QUENDARIC_ONE_FILE
+/* A list: a pointer at byte 0 and a length of 64 bits at byte 8, however wide pointers are. */
+typedef struct {
+  const void *start;
+  uint64_t length;
+} quendaric_list;
+
+QUENDARIC_HOLDS(list, sizeof(quendaric_list) == 16 && offsetof(quendaric_list, length) == 8);
+#endif
 QUENDARIC_HOLDS(pointer, sizeof(void *) == sizeof(size_t) && (sizeof(void *) == 4 || sizeof(void *) == 8));
 QUENDARIC_HOLDS(bool, sizeof(bool) == 1);
 QUENDARIC_HOLDS(answer, sizeof(quendaric_limits) == 24 && offsetof(quendaric_report, remainder) == 48);
