@@ -11,8 +11,9 @@
 #   5. `zeroext` goes from definitions. No call in the module has it, and a definition may not count on what no call does.
 # It fails where the number of functions is not `calls`, and on any line whose form is not listed below: of these forms
 # none says how wide a pointer is, in which order bytes stand, or how arguments travel. A list is 16 bytes, its pointer at
-# 0 and its length, of 64 bits, at 8, also where it is loaded as a pair (cross/target.h); every other place in memory is a number of
-# bytes from the start of its object. A variable that holds a pointer is as wide as a pointer, so it is only loaded and stored as one.
+# 0 and its length, of 64 bits, at 8, also where it is loaded as a pair (cross/target.h): of each pair that is listed the second part
+# stands at 8. Every other place in memory is a number of bytes from the start of its object. A variable that holds a pointer is as wide
+# as a pointer, so it is only loaded and stored as one.
 # The proved functions are written to the file `heads` as cross/calls.c has to declare them.
 function fail(text) {
     print "portable: " FILENAME ":" FNR ": " text > "/dev/stderr"
@@ -148,7 +149,7 @@ $0 == "start:" { starting = 1; next }
 $0 == "attributes #0 = { nounwind }" || /^attributes #[1-4] = \{ ((nocallback|nofree|nosync|nounwind|willreturn|speculatable|cold|noreturn|memory\([a-z: ]+\)) )+\}$/ { next }
 /^declare void @llvm\.mem(move\.p0\.p0|set\.p0)\.i64\(/ || /^declare i64 @llvm\.ctlz\.i64\(i64, i1 immarg\) / ||
     /^declare void @llvm\.trap\(\) / { next }
-/^define (internal )?(noundef )?(void|i1|i8|i16|i32|i64|\{ (ptr|i64), i64 \}) @("[A-Za-z0-9_:]+"|quendaric_proved_[a-z0-9_]+)\(((ptr|i1|i8|i16|i32|i64) noundef %a[0-9]+(, )?)*\) #0 \{$/ {
+/^define (internal )?(noundef )?(void|i1|i8|i16|i32|i64|\{ ((ptr|double|i8|i16|i32|i64), (i64|double)|(i64|double), i(8|16|32)) \}) @("[A-Za-z0-9_:]+"|quendaric_proved_[a-z0-9_]+)\(((ptr|double|i1|i8|i16|i32|i64) noundef %a[0-9]+(, )?)*\) #0 \{$/ {
     split("", pointers)
     next
 }
@@ -167,7 +168,7 @@ $0 == "attributes #0 = { nounwind }" || /^attributes #[1-4] = \{ ((nocallback|no
     for (i = 1; i <= n; i++) if (w[i] in pointers) fail("a pointer is used as bytes: " $0)
 }
 /^load (ptr|double|i8|i16|i32|i64), ptr %[ar][0-9]+, align [1248](, !range !2)?(, !noundef !1)?$/ { next }
-/^load \{ (ptr|i64), i64 \}, ptr %[ar][0-9]+, align 8$/ || /^extractvalue \{ (ptr|i64), i64 \} %r[0-9]+, [01]$/ { next }
+/^load \{ ((ptr|double|i8|i16|i32|i64), (i64|double)|(i64|double), i(8|16|32)) \}, ptr %[ar][0-9]+, align 8$/ || /^extractvalue \{ ((ptr|double|i8|i16|i32|i64), (i64|double)|(i64|double), i(8|16|32)) \} %r[0-9]+, [01]$/ { next }
 /^store (ptr|double|i8|i16|i32|i64) (%[ar])?-?[0-9]+, ptr %[ar][0-9]+, align [1248]$/ { next }
 /^getelementptr (inbounds nuw )?i8, ptr %[ar][0-9]+, i64 (%[ar])?[0-9]+$/ { next }
 /^(add|sub|mul|udiv|urem|shl|lshr|and|or|xor)( nuw| nsw)? i(8|16|32|64) (%[ar])?-?[0-9]+, (%[ar])?-?[0-9]+$/ { next }
@@ -177,10 +178,10 @@ $0 == "attributes #0 = { nounwind }" || /^attributes #[1-4] = \{ ((nocallback|no
 /^bitcast (i64 %[ar][0-9]+ to double|double %[ar][0-9]+ to i64)$/ { next }
 /^call void @llvm\.mem(move\.p0\.p0|set\.p0)\.i64\(ptr %[ar][0-9]+, (ptr %[ar][0-9]+|i8 [0-9]+), i64 [0-9]+, i1 false\)$/ { next }
 /^call i64 @llvm\.ctlz\.i64\(i64 %[ar][0-9]+, i1 false\)$/ || /^call void @llvm\.trap\(\)$/ { next }
-/^call (void|i1|i8|i16|i32|i64|\{ (ptr|i64), i64 \}) @"[A-Za-z0-9_:]+"\(((ptr|i1|i8|i16|i32|i64) ((%[ar])?-?[0-9]+|true|false)(, )?)*\)$/ { next }
+/^call (void|i1|i8|i16|i32|i64|\{ ((ptr|double|i8|i16|i32|i64), (i64|double)|(i64|double), i(8|16|32)) \}) @"[A-Za-z0-9_:]+"\((((ptr|i1|i8|i16|i32|i64) ((%[ar])?-?[0-9]+|true|false)|double %[ar][0-9]+)(, )?)*\)$/ { next }
 /^br label %[a-z0-9.]+$/ || /^br i1 %[ar][0-9]+, label %[a-z0-9.]+, label %[a-z0-9.]+$/ { next }
 /^switch i(8|16|32|64) %[ar][0-9]+, label %[a-z0-9.]+ \[$/ || /^i(8|16|32|64) -?[0-9]+, label %[a-z0-9.]+$/ || /^\]$/ { next }
-/^ret (void|i(1|8|16|32|64) (%[ar])?-?[0-9]+|\{ (ptr|i64), i64 \} %r[0-9]+)$/ || /^ret i1 (true|false)$/ || /^unreachable$/ { next }
+/^ret (void|i(1|8|16|32|64) (%[ar])?-?[0-9]+|\{ ((ptr|double|i8|i16|i32|i64), (i64|double)|(i64|double), i(8|16|32)) \} %r[0-9]+)$/ || /^ret i1 (true|false)$/ || /^unreachable$/ { next }
 { fail("a form that is not listed: " $0) }
 END {
     if (!bad && (named != 2 || proved != calls || wrapped != calls || calls == 0)) {

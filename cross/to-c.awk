@@ -18,12 +18,14 @@ function fail(text) {
     bad = 1
     exit 1
 }
-# Two words that travel together are a struct: pair for { i64, i64 }, list for { ptr, i64 }.
+# Two parts that travel together, as { i64, i8 }, are a struct: list where the first is a pointer, and else pair. Here the type is i64_i8.
 function width(type) {
-    if (type !~ /^(ptr|double|i1|i8|i16|i32|i64|pair|list)$/) fail("no C is known for the type " type)
-    return type ~ /^(ptr|pair|list)$/ ? type : type == "double" ? 64 : type == "i1" ? 8 : substr(type, 2) + 0
+    if (type !~ /^(ptr|double|i1|i8|i16|i32|i64)$/) fail("no C is known for the type " type)
+    return type == "ptr" ? "ptr" : type == "double" ? 64 : type == "i1" ? 8 : substr(type, 2) + 0
 }
-function c_type(type) { return type == "i1" ? "bool" : type == "ptr" ? "bytes" : type ~ /^(void|pair|list)$/ ? type : "uint" width(type) "_t" }
+function c_type(type) { return type == "i1" ? "bool" : type == "ptr" ? "bytes" : type == "void" ? "void" : type ~ /_/ ? (type ~ /^ptr_/ ? "list" : "pair") : "uint" width(type) "_t" }
+# the type of part 0 or 1
+function part_of(type, which) { if (which) sub(/^.*_/, "", type); else sub(/_.*/, "", type); return type }
 # @"a::b" as a name of C
 function c_name(name) {
     if (name !~ /^@("[A-Za-z0-9_:]+"|quendaric_proved_[a-z0-9_]+)$/) fail("no C is known for the name " name)
@@ -68,7 +70,13 @@ function apart(to, from) { return origin(to) != "" && origin(from) != "" && orig
 # Where a block stores a word, and the block behind it, if that is all it does and it is entered once.
 function stores(name) { return lines[at, name] == 2 && jumped[at, name] == 1 && (at, name) in stored && (at, name) in next_of ? stored[at, name] " " next_of[at, name] : "" }
 
-{ gsub(/\{ i64, i64 \}/, "pair"); gsub(/\{ ptr, i64 \}/, "list") }
+{
+    while (match($0, /\{ [a-z0-9]+, [a-z0-9]+ \}/)) {
+        pair = substr($0, RSTART + 2, RLENGTH - 4)
+        sub(/, /, "_", pair)
+        $0 = substr($0, 1, RSTART - 1) pair substr($0, RSTART + RLENGTH)
+    }
+}
 
 # ---- First reading
 NR == FNR && /^define / { at++; next }
@@ -172,13 +180,22 @@ op == "alloca" {
 }
 op == "load" {
     sub(/,$/, "", w[2]); sub(/,$/, "", w[4])
+    if (w[2] ~ /_/) {
+        declare(c_type(w[2]), result)
+        typed[result] = w[2]
+        place = value("ptr", w[4])
+        body = body "  " result ".first = " helper("load_" width(part_of(w[2], 0))) "(" place ");\n"
+        body = body "  " result ".second = " helper("load_" width(part_of(w[2], 1))) "(" place " + 8);\n"
+        next
+    }
     if ((at, w[4]) in plain) set(w[2], "v" substr(w[4], 3))
     else set(w[2], helper("load_" width(w[2])) "(" value("ptr", w[4]) ")")
     next
 }
 op == "extractvalue" {
     sub(/,$/, "", w[3])
-    set(w[2] == "list" && w[4] == 0 ? "ptr" : "i64", value(w[2], w[3]) (w[4] == 0 ? ".first" : ".second"))
+    type = part_of(w[2], w[4])
+    set(type, (type == "ptr" || width(type) == 64 ? "" : "(" c_type(type) ")") substr(w[3], 2) (w[4] == 0 ? ".first" : ".second"))
     next
 }
 op == "store" { sub(/,$/, "", w[3]); sub(/,$/, "", w[5]); store(w[2], w[5], value(w[2], w[3])); next }
@@ -259,13 +276,8 @@ END {
     if (bad) exit 1
     print "typedef unsigned char *bytes;"
     print "typedef struct {\n  uint64_t first, second;\n} pair;\ntypedef struct {\n  bytes first;\n  uint64_t second;\n} list;\n"
-    if ("load_pair" in needed || "load_list" in needed) needed["load_64"] = 1
-    if ("load_list" in needed) needed["load_ptr"] = 1
     for (size = 8; size <= 64; size *= 2) print_access(size, "uint" size "_t")
     print_access("ptr", "bytes")
-    # a list is 16 bytes, its length at 8
-    if ("load_pair" in needed) print "static inline pair load_pair(const unsigned char *at) {\n  pair both;\n  both.first = load_64(at);\n  both.second = load_64(at + 8);\n  return both;\n}"
-    if ("load_list" in needed) print "static inline list load_list(const unsigned char *at) {\n  list both;\n  both.first = load_ptr(at);\n  both.second = load_64(at + 8);\n  return both;\n}"
     if ("leading_zeros" in needed)
         print "static inline uint64_t leading_zeros(uint64_t word) {\n  unsigned count = 64, half;\n  for (half = 32; half > 0; half /= 2)\n    if (word >> half != 0) {\n      count -= half;\n      word >>= half;\n    }\n  return count - word;\n}"
     if ("either" in needed)
