@@ -1,5 +1,5 @@
 // The estimate that a program is asked for by its argument.
-ghost use Rattle.std.specs.Prelude.{◌≡◌};
+ghost use Rattle.std.specs.Prelude.{◌≡◌, ◌≤◌};
 ghost use Rattle.io.specs.Counts.{IsPrefixLen};
 ghost use Rattle.printing.specs.Argument.{by_digit, asked_by};
 
@@ -42,15 +42,20 @@ pub fn estimate_asked(words: usize, word: &[u8]) -> Asked
     by_digit(word[0])
 }
 
-// How many words are on the command line, the program's name among them.
-pub fn word_count<E: Env>(environment: &E) -> usize {
+// No program takes more than one argument, so that no more words are counted.
+const MANY_WORDS: usize = 3;
+
+// How many words are on the command line, the program's name among them; or three, where there are more.
+pub fn word_count<E: Env>(environment: &E) -> usize
+    ensures { result ≤ 3 }
+{
     let mut none = [0u8; 0];
-    for i in 0..usize::MAX {
+    for i in 0..MANY_WORDS {
         if let Err(FillError::NotPresent) = environment.arg(i, &mut none) {
             return i;
         }
     }
-    usize::MAX
+    MANY_WORDS
 }
 
 // Word i of the command line at the start of a lent buffer, and its length. A longer one does not fit, and is none.

@@ -1,5 +1,6 @@
 // Reading into a lent buffer. `Read::read_exact` does not tell how much came before the end of the input.
-ghost use Rattle.std.specs.Prelude.{◌-◌, ◌≤◌, length, IfOk};
+ghost use Rattle.std.specs.Prelude.{◌≡◌, ◌-◌, ◌<◌, ◌≤◌, length, take, drop, false, IfOk, OnErr};
+ghost use Rattle.std.specs.Io.KnownBytes.{Consumes, IsAtEnd, Keeps};
 ghost use Rattle.io.specs.Counts.{IsPrefixLen};
 
 use crate::{AGAIN, interrupted};
@@ -15,7 +16,11 @@ pub struct Input {
 // One read, from the index `from` on.
 fn read_once<R: Read>(reader: &mut R, buffer: &mut [u8], from: usize) -> Result<usize>
     requires { from ≤ length buffer.old }
-    ensures { IfOk result (λ n. n ≤ length buffer.old - from) }
+    ensures room { IfOk result (λ n. n ≤ length buffer.old - from) }
+    ensures before { take from buffer.new ≡ take from buffer.old }
+    ensures bytes { IfOk result (λ n. Consumes (R.remaining reader.old) (R.remaining reader.new) (take n (drop from buffer.new))) }
+    ensures end { IfOk result (λ n. n ≡ 0 → from < length buffer.old → IsAtEnd (R.remaining reader.new)) }
+    ensures err { OnErr result (Keeps (R.remaining reader.old) (R.remaining reader.new)) }
 {
     reader.read(&mut buffer[from..])
 }
@@ -23,7 +28,11 @@ fn read_once<R: Read>(reader: &mut R, buffer: &mut [u8], from: usize) -> Result<
 // The same, made again where a signal has interrupted it.
 fn read_from<R: Read>(reader: &mut R, buffer: &mut [u8], from: usize) -> Result<usize>
     requires { from ≤ length buffer.old }
-    ensures { IfOk result (λ n. n ≤ length buffer.old - from) }
+    ensures room { IfOk result (λ n. n ≤ length buffer.old - from) }
+    ensures before { take from buffer.new ≡ take from buffer.old }
+    ensures bytes { IfOk result (λ n. Consumes (R.remaining reader.old) (R.remaining reader.new) (take n (drop from buffer.new))) }
+    ensures end { IfOk result (λ n. n ≡ 0 → from < length buffer.old → IsAtEnd (R.remaining reader.new)) }
+    ensures err { OnErr result (Keeps (R.remaining reader.old) (R.remaining reader.new)) }
 {
     for _ in 0..AGAIN {
         match read_once(reader, buffer, from) {
@@ -38,8 +47,11 @@ fn read_from<R: Read>(reader: &mut R, buffer: &mut [u8], from: usize) -> Result<
     read_once(reader, buffer, from)
 }
 
+// Of a reader that tells its bytes, those that it has lost stand at the start of the buffer; and none is left where no read failed and there is room for more.
 pub fn read_input<R: Read>(reader: &mut R, buffer: &mut [u8]) -> Input
-    ensures { IsPrefixLen result.count buffer.new }
+    ensures count { IsPrefixLen result.count buffer.new }
+    ensures bytes { Consumes (R.remaining reader.old) (R.remaining reader.new) (take result.count buffer.new) }
+    ensures end { result.failed ≡ false → result.count < length buffer.new → IsAtEnd (R.remaining reader.new) }
 {
     let mut count: usize = 0;
     while count < buffer.len() {
