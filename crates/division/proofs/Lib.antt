@@ -24,6 +24,7 @@ pub mod RatioCalls
 pub mod AdmittedAnswers
 pub mod IeeeLaws
 pub mod IeeeOne
+pub mod AffectedRecords
 pub mod Rechecking
 pub mod RecheckingWhole
 pub mod RecheckExamples

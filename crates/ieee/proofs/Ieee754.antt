@@ -1,16 +1,16 @@
 -- Binary64 answers by the logic's own account of IEEE 754, through every table that passes.
 use Rattle.laws.proofs.Basics.{◌≡◌, refl, ap, ◌∙◌, sym, Bool, true, false, cond, List, ℕ, zero, suc, ◌≤◌, ◌<◌, zero-le, arith, length, get_or, T}
-use lib.{Ieee.{of_bits, le}, Ieee.Scale.{finite}, Ieee.Positive.{positive}}
+use lib.{Ieee.{of_bits, le}, Ieee.Scale.{finite}}
 use Rattle.selection.{proofs.RefusalNames.{refusal}, specs.declared.Refusal.{Refusal}, specs.Table.{Passes}, proofs.MadeTables.{kept_passes}, specs.declared.Estimate.TheVariants.{EightBits}}
 use Rattle.division.specs.{declared.format.Binary64Result.{Binary64Result}, declared.format.Binary64.{Binary64}, Format.{negative, magnitude, largest_finite}, computed.Format.{binary64_values}}
 use Rattle.division.{specs.Ieee.{Ieee}, specs.computed.Binary64.{binary64_of}, specs.computed.Samples.{samples_of}, proofs.AdmittedAnswers.{binary64_answer}, proofs.SampleRuns.{samples_right}}
 use Rattle.division.proofs.IeeeLaws.{ieee_through}
 use Rattle.ieee.specs.{LanguageQuotient.{value_of, one}, Directions.{quotient_sign, Pinned, negated, mirrored}}
-use Rattle.ieee.specs.computed.Ieee754.{answer_value, Sorted, OneSensitivity, IeeeThrough, NamedPatterns, Thirds, Ieee754}
+use Rattle.ieee.specs.computed.Ieee754.{Sorted, OneSensitivity, IeeeThrough, NamedPatterns, Thirds, Ieee754}
 use Rattle.ieee.proofs.{LanguageQuotient.{special_quotient, language_quotient_law}, LanguageOrder.{SignedLe}, Operands.{top, magnitude_top, seen, finite_stands}, AnswerUnits.{is_le}}
 use Rattle.ieee.proofs.{Directions.{directed}, DirectedOne.{pinned_one}, DirectionOrder.{directions_ordered, toward_zero}, InexactFlag.{silent}}
 use Rattle.ieee.proofs.{ExactQuotients.{exact_quotient, over_one, over_itself}, Signalling.{signals, silent_nan}, SignSymmetry.{negated_neg, dividend_negated, divisor_negated}}
-use Rattle.ieee.proofs.BiggerStays.{bigger_stays}
+use Rattle.ieee.proofs.BiggerAnswers.{bigger}
 
 -- an answer without a refusal is its pattern and flags
 abbrev told : Binary64 → Binary64Result
@@ -39,10 +39,6 @@ module _ (t : List ℕ) (p : Passes EightBits t) where
   pinned : (direction a b : ℕ) → direction ≤ 3 → Pinned direction a b (binary64_of t direction a b).pattern
   pinned d a b l = record { special = special_quotient d a b (means d a b l); directed = λ f. directed a b f.dividend f.divisor d l (means d a b l) }
 
-  bigger : (direction a b d : ℕ) → direction ≤ 3 → T (finite (value_of a)) → T (finite (value_of b)) → T (positive (value_of d)) → T (le (value_of a) (value_of b))
-      → T (le (answer_value t direction a d) (answer_value t direction b d))
-  bigger direction a b d l = bigger_stays direction a b d (means direction a d l) (means direction b d l)
-
   sorted : (direction d : ℕ) (currents sensitivities given : List ℕ) → direction ≤ 3 → length currents ≡ length sensitivities → length currents ≤ length given
       → OneSensitivity d currents sensitivities → Sorted (length currents) currents → Sorted (length currents) (samples_of t direction currents sensitivities given).concentrations
   sorted direction d xs ys given l e r o s =
@@ -50,7 +46,7 @@ module _ (t : List ℕ) (p : Passes EightBits t) where
       record {
         ordered = λ i j h k.
             let g : i < length xs = omega arith in
-            rw (each i g, each j k, o.one i g, o.one j k) (bigger direction (get_or xs i 0) (get_or xs j 0) d l (o.currents_finite i g) (o.currents_finite j k) o.above (s.ordered i j h k));
+            rw (each i g, each j k, o.one i g, o.one j k) (bigger t p direction (get_or xs i 0) (get_or xs j 0) d l (o.currents_finite i g) (o.currents_finite j k) o.above (s.ordered i j h k));
       }
 
   through : IeeeThrough t
@@ -71,7 +67,7 @@ module _ (t : List ℕ) (p : Passes EightBits t) where
     quiet = λ d a b l. silent_nan d a b (means d a b l);
     dividend_negated = λ d a b l w. let o = dividend_negated d a b l w (means d (negated a) b l) (means (mirrored d) a b (mirrored_span d)) in record { value = o.value; flags = o.flags };
     divisor_negated = λ d a b l w. let o = divisor_negated d a b l w (means d a (negated b) l) (means (mirrored d) a b (mirrored_span d)) in record { value = o.value; flags = o.flags };
-    bigger = bigger;
+    bigger = bigger t p;
     sorted = sorted;
   }
 

@@ -13,6 +13,7 @@ pub mod ExactQuotients
 pub mod SignSymmetry
 pub mod BiggerStays
 pub mod Signalling
+pub mod BiggerAnswers
 pub mod Ieee754
 pub mod RootOrder
 pub mod OperandKinds

@@ -13,6 +13,7 @@ pub mod OneWord
 pub mod StepRange
 pub mod StepDemand
 pub mod Visiting
+pub mod VisitSums
 pub mod VisitCounts
 pub mod Straying
 pub mod RightRuns
