@@ -39,9 +39,12 @@ copy_of_crates() { # FOLDER
     tar -c --exclude='crates/*/out' crates crates.txt $(ls HANDLES 2>/dev/null || true) | tar -x -C "$1"
 }
 
-# What `rt must-fail` says of an edit that it refuses because a fact fails: nothing stands in brackets behind it. Where proof files only name what the
-# edit took away, or where the prover met a limit of its own, it says so there; where the text cannot be read, it says BAD EDIT.
-FOR_A_FACT='^rt: must-fail .*: refused, as it must be\(: \|$\)'
+# The lines of the file LOG, what `rt must-fail` or `rt ci` said, of the edits that are refused because a fact fails: nothing stands in brackets behind
+# `refused`. Where proof files only name what the edit took away, or where the prover met a limit of its own, it says so there, or it tells first what
+# depends on a proof that names it; where the text cannot be read, it says BAD EDIT.
+for_a_fact() { # LOG
+    grep '^rt: must-fail .*: refused, as it must be\(: \|$\)' "$1" | grep -v ': error: [0-9]* declarations\? that depends\? on '
+}
 
 # The prover's answer in the file LOG names what is no longer there: such a refusal shows nothing.
 names_missing() { # LOG
