@@ -4,12 +4,13 @@
 #
 # It reads the forms that portable.awk lists, and fails on any other. Sums, differences and products are C's, of unsigned
 # numbers, so that none of them is undefined. Memory is bytes, read and written by memcpy (cross/one-file.c calls it q_copy,
-# memmove q_move, memset q_fill). What cannot be reached is an endless loop. Three things are for the sake of speed:
+# memmove q_move, memset q_fill). What cannot be reached is an endless loop. Four things are for the sake of speed and of the stack:
 #   1. A scalar that is only loaded and stored as what it is becomes a variable of C, and no bytes.
 #   2. A move is memcpy, which gcc sees through where it does not see through memmove, if its two places cannot overlap: one
 #      is in a variable of this function, the other in another one or handed in by the caller. Any other is memmove.
 #   3. Where both arms of a branch do nothing but store a word in the same place, C stores one of the two words, chosen by a
 #      mask: gcc would make a jump of it, which depends on a digit.
+#   4. A variable of at most 64 bytes is set to zeros, and moved as a whole to another, by words: gcc keeps in memory what memset has seen.
 # No pointer is `restrict`: an answer may be written to the place of an argument (state = state.next()).
 # The module is read twice. The first time it is noted what is used, and how; how often a label is jumped to; and what a
 # block stores.
@@ -171,7 +172,9 @@ op == "alloca" {
     if ((at, "%" result) in plain) declare(c_type(type), "v" substr(result, 2))
     else if (type ~ /^\[/) {
         size = substr(type, 2) + 0
-        locals = locals "  union {\n    uint64_t words[" int((size + 7) / 8) "];\n    unsigned char bytes[" size "];\n  } " memory ";\n  const bytes " result " = " memory ".bytes;\n"
+        rooms[size] = 1
+        room[at, result] = size
+        locals = locals "  room_" size " " memory ";\n  const bytes " result " = " memory ".bytes;\n"
     } else
         locals = locals "  " c_type(type) " " memory ";\n  const bytes " result " = (bytes)&" memory ";\n"
     typed[result] = "ptr"
@@ -232,6 +235,16 @@ op == "bitcast" { set(w[5], value(w[2], w[3])); next }
 op == "call" && /@llvm\.mem(move|set)/ {
     split(arguments(line), w, ", ")
     sub(/ull$/, "", w[3])
+    # a whole variable, by words
+    if ((at, w[1]) in room && room[at, w[1]] == w[3] && w[3] <= 64) {
+        if (/@llvm\.memset/ && w[2] == 0) {
+            body = body " "
+            for (i = 0; 8 * i < w[3]; i++) body = body " m" substr(w[1], 2) ".words[" i "] ="
+            body = body " 0;\n"
+            next
+        }
+        if (/@llvm\.memmove/ && (at, w[2]) in room && room[at, w[2]] == w[3]) { body = body "  m" substr(w[1], 2) " = m" substr(w[2], 2) ";\n"; next }
+    }
     body = body "  " (/@llvm\.memset/ ? "q_fill" : apart(w[1], w[2]) ? "q_copy" : "q_move") "(" w[1] ", " w[2] ", " w[3] ");\n"
     next
 }
@@ -276,6 +289,10 @@ END {
     if (bad) exit 1
     print "typedef unsigned char *bytes;"
     print "typedef struct {\n  uint64_t first, second;\n} pair;\ntypedef struct {\n  bytes first;\n  uint64_t second;\n} list;\n"
+    for (size in rooms) sizes[++n_sizes] = size + 0
+    for (i = 1; i <= n_sizes; i++)
+        for (j = i; j > 1 && sizes[j - 1] > sizes[j]; j--) { size = sizes[j]; sizes[j] = sizes[j - 1]; sizes[j - 1] = size }
+    for (i = 1; i <= n_sizes; i++) print "typedef union {\n  uint64_t words[" int((sizes[i] + 7) / 8) "];\n  unsigned char bytes[" sizes[i] "];\n} room_" sizes[i] ";"
     for (size = 8; size <= 64; size *= 2) print_access(size, "uint" size "_t")
     print_access("ptr", "bytes")
     if ("leading_zeros" in needed)

@@ -32,7 +32,7 @@
 
    No call keeps a pointer, allocates memory or has state, so all calls are reentrant and may be made from any thread.
 
-   Target. The archive of `rt staticlib` is for x86-64 with the System V calling convention and a size_t of 64 bits. It
+   Target. The archive of tools/archive is for x86-64 with the System V calling convention and a size_t of 64 bits. It
    needs no library and uses vector registers. cross/build makes archives for little-endian Arm, AArch64 and RISC-V from
    the same proved functions (docs/TARGETS.md). A call uses at most QUENDARIC_STACK bytes of stack below its caller's.
    dist/quendaric.c has the same calls as C99, for any other little-endian target or where there is no kit;
