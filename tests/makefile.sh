@@ -10,9 +10,7 @@ command -v make >/dev/null || { echo "makefile: NOT RUN, for want of make"; exit
 copy=$(mktemp -d)
 trap 'rm -rf "$copy"' EXIT
 mkdir "$copy/bin" "$copy/clone"
-for part in *; do
-    case $part in target | build) ;; *) cp -r "$part" "$copy/clone" ;; esac
-done
+tar cf - --exclude=./target --exclude=./build --exclude=./.git --exclude='./crates/*/out' . | tar xf - -C "$copy/clone"
 
 fail() {
     echo "makefile: $1"
