@@ -43,7 +43,15 @@ copy_of_crates() { # FOLDER
 # `refused`. Where proof files only name what the edit took away, or where the prover met a limit of its own, it says so there, or it tells first what
 # depends on a proof that names it; where the text cannot be read, it says BAD EDIT.
 for_a_fact() { # LOG
-    grep '^rt: must-fail .*: refused, as it must be\(: \|$\)' "$1" | grep -v ': error: [0-9]* declarations\? that depends\? on '
+    grep '^rt: must-fail .*: refused, as it must be\(: \|$\)' "$1" | grep -v "$DEPENDS"
+}
+DEPENDS=': error: [0-9]* declarations\? that depends\? on '
+
+# The same beside the gate, where an edit may also change a file of laws in which others rest on the one that fails: it says BAD EDIT of such a file, but
+# what it names first is what depends on a law that was rejected for its fact.
+for_a_fact_or_its_law() { # LOG
+    for_a_fact "$1" || true
+    grep '^rt: must-fail .*: BAD EDIT: the prover cannot read the edited text' "$1" | grep "$DEPENDS.*, which was rejected," || true
 }
 
 # The prover's answer in the file LOG names what is no longer there: such a refusal shows nothing. A field that a record of specs/ does not have is a fact: a
