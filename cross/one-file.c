@@ -3,10 +3,10 @@
 
        cc -O2 program.c quendaric.c
 
-   This file is made, not written: review the proof, not this. tools/one-file makes it, by cross/to-c.awk and cross/calls.c,
-   from the module that the kit (KIT) compiled of the functions that it had proved. A
-   statement stands for each line of that module. That this translation is right, and what your compiler makes of it, is
-   tested and not proved (docs/TRUSTED.md, section 4). Do not edit it.
+   This file is made, not written: review the proof, not this. tools/one-file makes it, by cross/after-passes.awk, cross/to-c.awk
+   and cross/calls.c, from the module that the kit (KIT) compiled of the functions that it had proved, after the kit's clang
+   had passed that module. A statement stands for each line of what is left of it. That all this is right, and what your
+   compiler makes of it, is tested and not proved (docs/TRUSTED.md, section 4). Do not edit it.
 
    For C99 or C++11 and later, and little-endian targets. It has no state, allocates nothing, and asks for memcpy, memmove
    and memset alone. Compile it with -O2 or -O3: the stack that quendaric.h names was measured so, and without optimisation
@@ -16,11 +16,6 @@
    No licence has been granted: you may read this file, but not copy, change or ship it without asking its owners. */
 
 #define QUENDARIC_ONE_FILE
-
-/* An answer in parts is moved as a whole, also where a part of it has no meaning and was not written. */
-#if defined(__GNUC__) && !defined(__clang__)
-#pragma GCC diagnostic ignored "-Wmaybe-uninitialized"
-#endif
 
 /* The compiler's own, so that -ffreestanding makes no calls of them where a few instructions do. */
 #ifdef __GNUC__

@@ -9,6 +9,8 @@
 #      made sure that each does nothing but call its function, with what it was given, in the same order. (A list without a place
 #      gets one there, which its function never asks for.)
 #   5. `zeroext` goes from definitions. No call in the module has it, and a definition may not count on what no call does.
+#   6. A byte and a pointer, which an option of a reference is, are loaded one by one: as a pair in memory the pointer would stand where
+#      the target's width puts it.
 # It fails where the number of functions is not `calls`, and on any line whose form is not listed below: of these forms
 # none says how wide a pointer is, in which order bytes stand, or how arguments travel. A list is 16 bytes, its pointer at
 # 0 and its length, of 64 bits, at 8, also where it is loaded as a pair (cross/target.h): of each pair that is listed the second part
@@ -23,7 +25,7 @@ function fail(text) {
 # 1
 /^target (datalayout = "e-|triple = "x86_64-unknown-linux-gnu"$)/ { named++; next }
 # 2
-/^attributes #0 = / { sub(/ "probe-stack"="inline-asm" "stack-probe-size"="[0-9]+" "target-cpu"="x86-64"/, "") }
+/^attributes #[0-2] = / { sub(/ "probe-stack"="inline-asm" "stack-probe-size"="[0-9]+" "target-cpu"="x86-64"/, "") }
 # 3
 function declared(head) {
     gsub(/, ptr noundef %a[0-9]+/, ", const void *", head)
@@ -140,16 +142,31 @@ wrapping != "" {
 }
 # 5
 /^define / { gsub(/ zeroext/, "") }
+# 6
+/^  %r[0-9]+ = load \{ i8, ptr \}, ptr %[ar][0-9]+, align 8$/ {
+    to = substr($1, 3) + 0
+    from = $9
+    sub(/,$/, "", from)
+    if (to >= 1000000) fail("too many values")
+    print "  %r" to + 1000000 " = load i8, ptr " from ", align 1"
+    print "  %r" to + 2000000 " = getelementptr i8, ptr " from ", i64 8"
+    print "  %r" to + 3000000 " = load ptr, ptr %r" to + 2000000 ", align 8"
+    print "  %r" to + 4000000 " = insertvalue { i8, ptr } poison, i8 %r" to + 1000000 ", 0"
+    print "  %r" to " = insertvalue { i8, ptr } %r" to + 4000000 ", ptr %r" to + 3000000 ", 1"
+    next
+}
 { print }
 
 # The forms.
 /^(; .*)?$/ || $0 == "source_filename = \"rattle\"" || /^}$/ || /^[a-z]+\.[0-9]+:( .*)?$/ { starting = 0; next }
 $0 == "start:" { starting = 1; next }
+# bytes that never change, as the kept table
+/^@static\.[0-9]+ = private unnamed_addr constant \[[0-9]+ x i8\] (zeroinitializer|c"[^"]*"), align 1$/ { next }
 /^!llvm\.ident = !\{!0\}$/ || /^!0 = !\{!"rattle logic=[0-9a-f]+"\}$/ || $0 == "!1 = !{}" || $0 == "!2 = !{i8 0, i8 2}" { next }
-$0 == "attributes #0 = { nounwind }" || /^attributes #[1-4] = \{ ((nocallback|nofree|nosync|nounwind|willreturn|speculatable|cold|noreturn|memory\([a-z: ]+\)) )+\}$/ { next }
+/^attributes #[0-2] = \{ ((inlinehint|noinline) )?nounwind \}$/ || /^attributes #[1-9] = \{ ((nocallback|nofree|nosync|nounwind|willreturn|speculatable|cold|noreturn|memory\([a-z: ]+\)) )+\}$/ { next }
 /^declare void @llvm\.mem(move\.p0\.p0|set\.p0)\.i64\(/ || /^declare i64 @llvm\.ctlz\.i64\(i64, i1 immarg\) / ||
     /^declare void @llvm\.trap\(\) / { next }
-/^define (internal )?(noundef )?(void|i1|i8|i16|i32|i64|\{ ((ptr|double|i8|i16|i32|i64), (i64|double)|(i64|double), i(8|16|32)) \}) @("[A-Za-z0-9_:]+"|quendaric_proved_[a-z0-9_]+)\(((ptr|double|i1|i8|i16|i32|i64) noundef %a[0-9]+(, )?)*\) #0 \{$/ {
+/^define (internal )?(noundef )?(void|ptr|i1|i8|i16|i32|i64|\{ ((ptr|double|i8|i16|i32|i64), (i64|double)|(i64|double), i(8|16|32)|i8, ptr) \}) @("[^"]+"|quendaric_proved_[a-z0-9_]+)\(((ptr|double|i1|i8|i16|i32|i64) (noundef )?%a[0-9]+(, )?)*\) #[0-2] \{$/ {
     split("", pointers)
     next
 }
@@ -162,26 +179,26 @@ $0 == "attributes #0 = { nounwind }" || /^attributes #[1-4] = \{ ((nocallback|no
 {
     # what is left of the line when a pointer is loaded from a variable of pointers, or stored there
     line = $0 " "
-    if (/^(load ptr, ptr|store ptr %[ar][0-9]+, ptr) %r[0-9]+,/) sub(/ptr %r[0-9]+, align/, "", line)
+    if (/^(load ptr, ptr|store ptr (%[ar]|@static\.)[0-9]+, ptr) %r[0-9]+,/) sub(/ptr %r[0-9]+, align/, "", line)
     gsub(/[,()]/, " ", line)
     n = split(line, w, " ")
     for (i = 1; i <= n; i++) if (w[i] in pointers) fail("a pointer is used as bytes: " $0)
 }
 /^load (ptr|double|i8|i16|i32|i64), ptr %[ar][0-9]+, align [1248](, !range !2)?(, !noundef !1)?$/ { next }
-/^load \{ ((ptr|double|i8|i16|i32|i64), (i64|double)|(i64|double), i(8|16|32)) \}, ptr %[ar][0-9]+, align 8$/ || /^extractvalue \{ ((ptr|double|i8|i16|i32|i64), (i64|double)|(i64|double), i(8|16|32)) \} %r[0-9]+, [01]$/ { next }
-/^store (ptr|double|i8|i16|i32|i64) (%[ar])?-?[0-9]+, ptr %[ar][0-9]+, align [1248]$/ { next }
-/^getelementptr (inbounds nuw )?i8, ptr %[ar][0-9]+, i64 (%[ar])?[0-9]+$/ { next }
+/^load \{ ((ptr|double|i8|i16|i32|i64), (i64|double)|(i64|double), i(8|16|32)) \}, ptr %[ar][0-9]+, align 8$/ || /^extractvalue \{ ((ptr|double|i8|i16|i32|i64), (i64|double)|(i64|double), i(8|16|32)|i8, ptr) \} %r[0-9]+, [01]$/ { next }
+/^store (ptr|double|i8|i16|i32|i64) (%[ar]|@static\.)?-?[0-9]+, ptr %[ar][0-9]+, align [1248]$/ { next }
+/^getelementptr (inbounds nuw )?i8, ptr (%[ar]|@static\.)[0-9]+, i64 (%[ar])?[0-9]+$/ { next }
 /^(add|sub|mul|udiv|urem|shl|lshr|and|or|xor)( nuw| nsw)? i(8|16|32|64) (%[ar])?-?[0-9]+, (%[ar])?-?[0-9]+$/ { next }
-/^xor i1 %r[0-9]+, true$/ { next }
-/^icmp (eq|ne|ult|ule|ugt|uge) i(1|8|16|32|64) (%[ar])?-?[0-9]+, (%[ar])?-?[0-9]+$/ { next }
+/^(xor|and|or) i1 %[ar][0-9]+, (%[ar][0-9]+|true|false)$/ { next }
+/^icmp (eq|ne|ult|ule|ugt|uge|slt|sle|sgt|sge) i(1|8|16|32|64) (%[ar])?-?[0-9]+, (%[ar])?-?[0-9]+$/ { next }
 /^(zext|trunc|trunc nuw) i(1|8|16|32|64) (%[ar][0-9]+|true|false) to i(1|8|16|32|64)$/ { next }
 /^bitcast (i64 %[ar][0-9]+ to double|double %[ar][0-9]+ to i64)$/ { next }
 /^call void @llvm\.mem(move\.p0\.p0|set\.p0)\.i64\(ptr %[ar][0-9]+, (ptr %[ar][0-9]+|i8 [0-9]+), i64 [0-9]+, i1 false\)$/ { next }
 /^call i64 @llvm\.ctlz\.i64\(i64 %[ar][0-9]+, i1 false\)$/ || /^call void @llvm\.trap\(\)$/ { next }
-/^call (void|i1|i8|i16|i32|i64|\{ ((ptr|double|i8|i16|i32|i64), (i64|double)|(i64|double), i(8|16|32)) \}) @"[A-Za-z0-9_:]+"\((((ptr|i1|i8|i16|i32|i64) ((%[ar])?-?[0-9]+|true|false)|double %[ar][0-9]+)(, )?)*\)$/ { next }
+/^call (void|ptr|i1|i8|i16|i32|i64|\{ ((ptr|double|i8|i16|i32|i64), (i64|double)|(i64|double), i(8|16|32)|i8, ptr) \}) @"[^"]+"\((((ptr|i1|i8|i16|i32|i64) ((%[ar]|@static\.)?-?[0-9]+|true|false)|double %[ar][0-9]+)(, )?)*\)$/ { next }
 /^br label %[a-z0-9.]+$/ || /^br i1 %[ar][0-9]+, label %[a-z0-9.]+, label %[a-z0-9.]+$/ { next }
 /^switch i(8|16|32|64) %[ar][0-9]+, label %[a-z0-9.]+ \[$/ || /^i(8|16|32|64) -?[0-9]+, label %[a-z0-9.]+$/ || /^\]$/ { next }
-/^ret (void|i(1|8|16|32|64) (%[ar])?-?[0-9]+|\{ ((ptr|double|i8|i16|i32|i64), (i64|double)|(i64|double), i(8|16|32)) \} %r[0-9]+)$/ || /^ret i1 (true|false)$/ || /^unreachable$/ { next }
+/^ret (void|ptr %[ar][0-9]+|i(1|8|16|32|64) (%[ar])?-?[0-9]+|\{ ((ptr|double|i8|i16|i32|i64), (i64|double)|(i64|double), i(8|16|32)|i8, ptr) \} %r[0-9]+)$/ || /^ret i1 (true|false)$/ || /^unreachable$/ { next }
 { fail("a form that is not listed: " $0) }
 END {
     if (!bad && (named != 2 || proved != calls || wrapped != calls || calls == 0)) {

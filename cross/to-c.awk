@@ -1,30 +1,29 @@
-# Writes the module that cross/portable.awk has passed as C99, for compilers other than the kit's: a statement for each line.
+# Writes the module that cross/after-passes.awk has written again as C99, for compilers other than the kit's: a statement for each line.
 #
-#     awk -f cross/to-c.awk module.ll module.ll
+#     awk -f cross/to-c.awk plain.ll plain.ll
 #
-# It reads the forms that portable.awk lists, and fails on any other. Sums, differences and products are C's, of unsigned
+# It reads the forms of that script, and fails on any other. Sums, differences and products are C's, of unsigned
 # numbers, so that none of them is undefined. Memory is bytes, read and written by memcpy (cross/one-file.c calls it q_copy,
-# memmove q_move, memset q_fill). What cannot be reached is an endless loop. Four things are for the sake of speed and of the stack:
+# memmove q_move, memset q_fill); what may lie at any address is read byte by byte. What cannot be reached is an endless loop. Five things are for the sake of speed and of the stack:
 #   1. A scalar that is only loaded and stored as what it is becomes a variable of C, and no bytes.
 #   2. A move is memcpy, which gcc sees through where it does not see through memmove, if its two places cannot overlap: one
 #      is in a variable of this function, the other in another one or handed in by the caller. Any other is memmove.
-#   3. Where both arms of a branch do nothing but store a word in the same place, C stores one of the two words, chosen by a
-#      mask: gcc would make a jump of it, which depends on a digit.
+#   3. One of two words is chosen by a mask: gcc would make a jump of it, which depends on a digit.
 #   4. A variable of at most 64 bytes is set to zeros, and moved as a whole to another, by words: gcc keeps in memory what memset has seen.
+#   5. What is true or false is a byte, 1 or 0: gcc does not join bools of a loop side by side.
 # No pointer is `restrict`: an answer may be written to the place of an argument (state = state.next()).
-# The module is read twice. The first time it is noted what is used, and how; how often a label is jumped to; and what a
-# block stores.
+# The module is read twice. The first time it is noted what is used, and how, and which labels are jumped to.
 function fail(text) {
     print "to-c: " FILENAME ":" FNR ": " text > "/dev/stderr"
     bad = 1
     exit 1
 }
-# Two parts that travel together, as { i64, i8 }, are a struct: list where the first is a pointer, and else pair. Here the type is i64_i8.
+# Two parts that travel together, as { i64, i8 }, are a struct: list where the first is a pointer, found where the second is one, and else pair. Here the type is i64_i8.
 function width(type) {
     if (type !~ /^(ptr|double|i1|i8|i16|i32|i64)$/) fail("no C is known for the type " type)
     return type == "ptr" ? "ptr" : type == "double" ? 64 : type == "i1" ? 8 : substr(type, 2) + 0
 }
-function c_type(type) { return type == "i1" ? "bool" : type == "ptr" ? "bytes" : type == "void" ? "void" : type ~ /_/ ? (type ~ /^ptr_/ ? "list" : "pair") : "uint" width(type) "_t" }
+function c_type(type) { return type == "i1" ? "uint8_t" : type == "ptr" ? "bytes" : type == "void" ? "void" : type ~ /_/ ? (type ~ /^ptr_/ ? "list" : type ~ /_ptr$/ ? "found" : "pair") : "uint" width(type) "_t" }
 # the type of part 0 or 1
 function part_of(type, which) { if (which) sub(/^.*_/, "", type); else sub(/_.*/, "", type); return type }
 # @"a::b" as a name of C
@@ -35,12 +34,25 @@ function c_name(name) {
     gsub(/::/, "_", name)
     return "q_" name
 }
+# What a generic function is made for stands in angle brackets behind its name: here a number stands for it.
+function plain_name(name, short) {
+    if (name in named_as) return named_as[name]
+    short = name
+    sub(/::<.*/, "", short)
+    gsub(/[^A-Za-z0-9_:]+/, "_", short)
+    return named_as[name] = short "_" ++instances[short]
+}
+# bytes that never change
+function constant(text) { sub(/^@static\./, "static_", text); return text }
 # an operand of a type
 function value(type, text) {
+    if (text ~ /^@static\./) return "(bytes)" constant(text)
+    if (text == "null") return "(bytes)0"
     if (text ~ /^%/ || text == "true" || text == "false") return text ~ /^%/ ? substr(text, 2) : text
     if (text ~ /^-/) return "(" c_type(type) ")-" substr(text, 2) (width(type) == 64 ? "ull" : "")
     return width(type) == 64 ? text "ull" : text
 }
+function turned(type, text) { return "(" c_type(type) ")(" value(type, text) " ^ " (width(type) == 64 ? "0x8000000000000000ull" : width(type) == 32 ? "0x80000000u" : width(type) == 16 ? "0x8000u" : "0x80u") ")" }
 function label(text) { sub(/^%/, "", text); sub(/,$/, "", text); gsub(/\./, "_", text); return text }
 # a variable, declared in a line with fifteen others of its type
 function declare(type, name) { names[type] = names[type] (declared[type]++ % 16 ? ", " : (names[type] == "" ? "" : ";\n") "  " type " ") name }
@@ -68,10 +80,10 @@ function store(type, place, text) {
 # The variable in which a pointer lies, "caller" for an argument, or nothing where neither is known.
 function origin(name) { return name ~ /^a/ ? "caller" : base[name] }
 function apart(to, from) { return origin(to) != "" && origin(from) != "" && origin(to) != origin(from) }
-# Where a block stores a word, and the block behind it, if that is all it does and it is entered once.
-function stores(name) { return lines[at, name] == 2 && jumped[at, name] == 1 && (at, name) in stored && (at, name) in next_of ? stored[at, name] " " next_of[at, name] : "" }
 
 {
+    while (match($0, /@"[A-Za-z0-9_:]*[^A-Za-z0-9_:"][^"]*"/))
+        $0 = substr($0, 1, RSTART + 1) plain_name(substr($0, RSTART + 2, RLENGTH - 3)) substr($0, RSTART + RLENGTH - 1)
     while (match($0, /\{ [a-z0-9]+, [a-z0-9]+ \}/)) {
         pair = substr($0, RSTART + 2, RLENGTH - 4)
         sub(/, /, "_", pair)
@@ -81,31 +93,73 @@ function stores(name) { return lines[at, name] == 2 && jumped[at, name] == 1 && 
 
 # ---- First reading
 NR == FNR && /^define / { at++; next }
-NR == FNR && /^[a-z]+(\.[0-9]+)?:/ { here = $0; sub(/:.*/, "", here); here = label(here); next }
-NR == FNR && / = alloca (double|ptr|i[0-9]+), / { lines[at, here]++; sub(/,$/, "", $4); plain[at, $1] = $4; next }
+NR == FNR && /^[a-z]+(\.[0-9]+)?:/ { next }
+NR == FNR && / = alloca (double|ptr|i[0-9]+), / { sub(/,$/, "", $4); plain[at, $1] = $4; next }
 NR == FNR {
     line = $0
     while (match(line, /label %[a-z0-9.]+/)) {
-        jumped[at, label(substr(line, RSTART + 6, RLENGTH - 6))]++
+        jumped[at, label(substr(line, RSTART + 6, RLENGTH - 6))] = 1
         line = substr(line, RSTART + RLENGTH)
     }
     line = $0
+    made = ""
+    if (match(line, /^ *%r[0-9]+ = /)) { made = line; gsub(/^ *| = .*/, "", made) }
     sub(/^ *(%r[0-9]+ = )?/, "", line)
     gsub(/[,()]/, " ", line)
     n = split(line, w, " ")
+    # a value that is only made is used where what is made of it is used
+    if (made != "" && w[1] !~ /^(call|alloca)$/) { made_of[at, ++values[at]] = line; value_of[at, values[at]] = made }
+    else for (i = 1; i <= n; i++) used[at, w[i]] = 1
+    if ($0 ~ /^}/) {
+        do {
+            more = 0
+            for (k = values[at]; k > 0; k--) if (!((at, k) in counted) && (at, value_of[at, k]) in used) {
+                counted[at, k] = more = 1
+                n_parts = split(made_of[at, k], parts, " ")
+                for (i = 1; i <= n_parts; i++) used[at, parts[i]] = 1
+            }
+        } while (more)
+    }
     for (i = 1; i <= n; i++) {
-        used[at, w[i]] = 1
         if ((at, w[i]) in plain && !((w[1] == "load" && i == 4 || w[1] == "store" && i == 5) && plain[at, w[i]] == w[2]))
             delete plain[at, w[i]]
     }
-    if (n && w[1] != "}") lines[at, here]++
-    if (w[1] == "store" && w[2] == "i64") { stored[at, here] = w[5]; word[at, here] = w[3] }
-    if (w[1] == "br" && w[2] == "label") next_of[at, here] = label(w[3])
     next
 }
 
 # ---- Second reading
 /^(;.*)?$/ || /^(source_filename|attributes|declare|!)/ { next }
+/^@static\.[0-9]+ = / {
+    name = constant($1)
+    size = $0
+    sub(/^[^[]*\[/, "", size)
+    size += 0
+    text = $0
+    if ($0 ~ /x i64\]/) {
+        sub(/^[^]]*\] \[/, "", text)
+        sub(/\].*/, "", text)
+        gsub(/i64 -/, "(uint64_t)-", text)
+        gsub(/i64 /, "", text)
+        gsub(/,/, "ull,", text)
+        constants = constants "static const uint64_t " name "[" size "] = {\n  " text "ull\n};\n\n"
+        next
+    }
+    # a list of no bytes has one that nothing reads
+    if (!sub(/^[^"]*"/, "", text)) text = "0"
+    else {
+        sub(/".*/, "", text)
+        left = text
+        text = ""
+        for (i = 0; left != ""; i++) {
+            if (left !~ /^\\/) fail("a constant with a byte that is not written by its number")
+            text = text (i ? i % 32 ? ", " : ",\n  " : "") "0x" tolower(substr(left, 2, 2))
+            left = substr(left, 4)
+        }
+        if (i != size) fail("a constant of another length")
+    }
+    constants = constants "static const unsigned char " name "[" (size ? size : 1) "] = {\n  " text "\n};\n\n"
+    next
+}
 /^define / {
     head = $0
     internal = sub(/^define internal /, "", head) || 0
@@ -119,8 +173,11 @@ NR == FNR {
     parameters = head
     sub(/^[^(]*\(/, "", parameters)
     sub(/\).*/, "", parameters)
+    gsub(/ noundef/, "", parameters)
     n = split(parameters, part, ", ")
     parameters = locals = body = ""
+    pointers = ""
+    rooms_here = 0
     split("", names)
     split("", declared)
     split("", base)
@@ -128,32 +185,33 @@ NR == FNR {
     for (i = 1; i <= n; i++) {
         split(part[i], each, " ")
         # as cross/calls.c declares them: the answer, and what is only lent
-        given = c_type(each[1]) " " substr(each[3], 2)
+        given = c_type(each[1]) " " substr(each[2], 2)
         if (!internal && each[1] == "ptr") {
-            given = (i > 1 ? "const " : "") "void *p" substr(each[3], 3)
-            locals = locals "  const bytes " substr(each[3], 2) " = (bytes)p" substr(each[3], 3) ";\n"
+            given = (i > 1 ? "const " : "") "void *p" substr(each[2], 3)
+            locals = locals "  const bytes " substr(each[2], 2) " = (bytes)p" substr(each[2], 3) ";\n"
         }
         parameters = parameters (i > 1 ? ", " : "") given
-        if (!((at, each[3]) in used)) body = body "  (void)" substr(each[3], 2) ";\n"
+        if (!((at, each[2]) in used)) body = body "  (void)" substr(each[2], 2) ";\n"
     }
     heads[at] = "static " (internal ? "inline " : "") c_type(type) " " c_name(name) "(" (n ? parameters : "void") ")"
     split("", typed)
     next
 }
 /^}/ {
-    n = split("list pair bytes uint64_t uint32_t uint16_t uint8_t bool", order, " ")
+    for (i = 1; i <= rooms_here; i++) {
+        to = room_at[i]
+        if (body ~ ("(^|[^A-Za-z0-9_])" to "([^A-Za-z0-9_]|$)")) pointers = pointers "  const bytes " to " = m" substr(to, 2) ".bytes;\n"
+    }
+    n = split("list found pair bytes uint64_t uint32_t uint16_t uint8_t", order, " ")
     for (i = 1; i <= n; i++) if (order[i] in names) locals = locals names[order[i]] ";\n"
-    bodies[at] = "{\n" locals body "}\n"
+    bodies[at] = "{\n" locals pointers body "}\n"
     next
 }
 /^[a-z]+(\.[0-9]+)?:/ {
     sub(/:.*/, "")
-    here = label($0)
-    if (jumped[at, here] > 0 && !((at, here) in taken)) body = body here ":;\n"
+    if ((at, label($0)) in jumped) body = body label($0) ":;\n"
     next
 }
-# a block whose work a mask has done
-(at, here) in taken { next }
 {
     line = $0
     sub(/^ +/, "", line)
@@ -162,6 +220,7 @@ NR == FNR {
     gsub(/, ![a-z]+ ![0-9]+/, "", line)
     n = split(line, w, " ")
     op = w[1]
+    if (result != "" && op !~ /^(call|alloca)$/ && !((at, "%" result) in used)) next
 }
 op == "alloca" {
     type = line
@@ -174,7 +233,8 @@ op == "alloca" {
         size = substr(type, 2) + 0
         rooms[size] = 1
         room[at, result] = size
-        locals = locals "  room_" size " " memory ";\n  const bytes " result " = " memory ".bytes;\n"
+        locals = locals "  room_" size " " memory ";\n"
+        room_at[++rooms_here] = result
     } else
         locals = locals "  " c_type(type) " " memory ";\n  const bytes " result " = (bytes)&" memory ";\n"
     typed[result] = "ptr"
@@ -192,6 +252,8 @@ op == "load" {
         next
     }
     if ((at, w[4]) in plain) set(w[2], "v" substr(w[4], 3))
+    # a place of any address: a library's memcpy may read it by words, which a processor can be set to refuse
+    else if (w[2] ~ /^i(16|32|64)$/ && w[6] == 1) set(w[2], helper("read_" width(w[2])) "(" value("ptr", w[4]) ")")
     else set(w[2], helper("load_" width(w[2])) "(" value("ptr", w[4]) ")")
     next
 }
@@ -201,18 +263,29 @@ op == "extractvalue" {
     set(type, (type == "ptr" || width(type) == 64 ? "" : "(" c_type(type) ")") substr(w[3], 2) (w[4] == 0 ? ".first" : ".second"))
     next
 }
+op == "insertvalue" {
+    # of nothing and the first part, then of that and the second
+    sub(/,$/, "", w[3]); sub(/,$/, "", w[5])
+    if (!(result in typed)) { declare(c_type(w[2]), result); typed[result] = w[2] }
+    if (w[3] == "poison" && w[6] == 0) body = body "  " result ".first = " value(w[4], w[5]) ";\n"
+    else if (w[3] != "poison" && w[6] == 1) body = body "  " result ".first = " substr(w[3], 2) ".first;\n  " result ".second = " value(w[4], w[5]) ";\n"
+    else fail("no C is known for: " line)
+    next
+}
 op == "store" { sub(/,$/, "", w[3]); sub(/,$/, "", w[5]); store(w[2], w[5], value(w[2], w[3])); next }
 op == "getelementptr" {
-    sub(/^getelementptr (inbounds nuw )?i8, ptr /, "", line)
+    if (!sub(/^getelementptr i8, ptr /, "", line)) fail("no C is known for: " line)
     split(line, w, ", i64 ")
     set("ptr", value("ptr", w[1]) " + (size_t)" value("i64", w[2]))
     base[result] = origin(value("ptr", w[1]))
     next
 }
 op ~ /^(add|sub|mul|udiv|urem|shl|lshr|and|or|xor)$/ {
-    sub(/^[a-z]+ ((nuw|nsw) )?/, "", line)
+    sub(/^[a-z]+ /, "", line)
     split(line, w, " ")
     sub(/,$/, "", w[2])
+    # true and false have no sum
+    if (w[1] == "i1" && op !~ /^(and|or|xor)$/) fail("no C is known for: " op " " line)
     sign = op == "add" ? "+" : op == "sub" ? "-" : op == "mul" ? "*" : op == "udiv" ? "/" : op == "urem" ? "%" : op == "shl" ? "<<" : op == "lshr" ? ">>" : op == "and" ? "&" : op == "or" ? "|" : "^"
     wide = width(w[1]) < 64 ? "(uint32_t)" : ""
     set(w[1], (width(w[1]) < 64 ? "(" c_type(w[1]) ")(" wide : "") value(w[1], w[2]) " " sign " " wide value(w[1], w[3]) (width(w[1]) < 64 ? ")" : ""))
@@ -220,21 +293,48 @@ op ~ /^(add|sub|mul|udiv|urem|shl|lshr|and|or|xor)$/ {
 }
 op == "icmp" {
     sub(/,$/, "", w[4])
-    sign = w[2] == "eq" ? "==" : w[2] == "ne" ? "!=" : w[2] == "ult" ? "<" : w[2] == "ule" ? "<=" : w[2] == "ugt" ? ">" : w[2] == "uge" ? ">=" : ""
+    sign = w[2] ~ /lt$/ ? "<" : w[2] ~ /le$/ ? "<=" : w[2] ~ /gt$/ ? ">" : w[2] ~ /ge$/ ? ">=" : w[2] == "eq" ? "==" : w[2] == "ne" ? "!=" : ""
     if (sign == "") fail("no C is known for: " line)
-    set("i1", value(w[3], w[4]) " " sign " " value(w[3], w[5]))
+    # signed numbers compare as unsigned ones do when the sign bit of both is turned over
+    if (w[2] ~ /^s/ && w[3] !~ /^i(8|16|32|64)$/) fail("no C is known for: " line)
+    if (w[2] == "slt" && w[5] == "0") set("i1", value(w[3], w[4]) " >> " width(w[3]) - 1)
+    else if (w[2] ~ /^s/) set("i1", turned(w[3], w[4]) " " sign " " turned(w[3], w[5]))
+    else set("i1", value(w[3], w[4]) " " sign " " value(w[3], w[5]))
     next
 }
 op == "zext" || op == "trunc" {
-    if (w[2] == "nuw") { w[2] = w[3]; w[3] = w[4]; w[5] = w[6] }
     if (w[5] == "i1") set("i1", "(" value(w[2], w[3]) " & 1) != 0")
     else set(w[5], "(" c_type(w[5]) ")" value(w[2], w[3]))
     next
 }
+# one of two values; of the two parts that travel together as well
+op == "select" {
+    sub(/,$/, "", w[3]); sub(/,$/, "", w[5])
+    if (w[2] != "i1" || w[4] != w[6]) fail("no C is known for: " line)
+    if (w[4] == "i64") set(w[4], helper("either") "(" value("i1", w[3]) ", " value(w[4], w[5]) ", " value(w[4], w[7]) ")")
+    else set(w[4], value("i1", w[3]) " ? " value(w[4], w[5]) " : " value(w[4], w[7]))
+    next
+}
+# the sign moves in from above
+op == "ashr" {
+    sub(/,$/, "", w[3])
+    if (w[4] !~ /^[0-9]+$/ || w[4] == 0) fail("no C is known for: " line)
+    wide = width(w[2]) < 64 ? "(uint32_t)" : ""
+    x = value(w[2], w[3])
+    sign = "0 - (" wide x " >> " width(w[2]) - 1 ")"
+    set(w[2], "(" c_type(w[2]) ")(" (w[4] == width(w[2]) - 1 ? sign : wide x " >> " w[4] " | (" sign ") << " width(w[2]) - w[4]) ")")
+    next
+}
+op == "ptrtoint" && w[5] == "i64" { set("i64", "(uint64_t)(size_t)" value("ptr", w[3])); next }
+op == "inttoptr" && w[2] == "i64" { set("ptr", "(bytes)(size_t)" value("i64", w[3])); next }
+# any value where the module has none that means something; here each has one
+op == "freeze" { set(w[2], value(w[2], w[3])); next }
 op == "bitcast" { set(w[5], value(w[2], w[3])); next }
 op == "call" && /@llvm\.mem(move|set)/ {
     split(arguments(line), w, ", ")
     sub(/ull$/, "", w[3])
+    # as a number: as texts 8 is not below 16
+    w[3] += 0
     # a whole variable, by words
     if ((at, w[1]) in room && room[at, w[1]] == w[3] && w[3] <= 64) {
         if (/@llvm\.memset/ && w[2] == 0) {
@@ -262,14 +362,7 @@ op == "call" {
 op == "br" && w[2] == "label" { body = body "  goto " label(w[3]) ";\n"; next }
 op == "br" {
     sub(/,$/, "", w[3])
-    first = label(w[5])
-    second = label(w[7])
-    if (stores(first) != "" && stores(first) == stores(second)) {
-        store("i64", stored[at, first], helper("either") "(" value("i1", w[3]) ", " value("i64", word[at, first]) ", " value("i64", word[at, second]) ")")
-        body = body "  goto " next_of[at, first] ";\n"
-        taken[at, first] = taken[at, second] = 1
-    } else
-        body = body "  if (" value("i1", w[3]) ")\n    goto " first ";\n  goto " second ";\n"
+    body = body "  if (" value("i1", w[3]) ")\n    goto " label(w[5]) ";\n  goto " label(w[7]) ";\n"
     next
 }
 op == "switch" { sub(/,$/, "", w[3]); body = body "  switch (" value(w[2], w[3]) ") {\n  default: goto " label(w[5]) ";\n"; next }
@@ -285,20 +378,28 @@ function print_access(size, type) {
     if (("store_" size) in needed)
         printf "static inline void store_%s(unsigned char *at, %s word) {\n  q_copy(at, &word, sizeof word);\n}\n", size, type
 }
+function print_bytes(size, type, i, text) {
+    if (!(("read_" size) in needed)) return
+    for (i = 0; i < size / 8; i++) text = text (i ? " | " : "") "(" type ")at[" i "]" (i ? " << " 8 * i : "")
+    printf "static inline %s read_%s(const unsigned char *at) {\n  return (%s)(%s);\n}\n", type, size, type, text
+}
 END {
     if (bad) exit 1
     print "typedef unsigned char *bytes;"
-    print "typedef struct {\n  uint64_t first, second;\n} pair;\ntypedef struct {\n  bytes first;\n  uint64_t second;\n} list;\n"
+    print "typedef struct {\n  uint64_t first, second;\n} pair;\ntypedef struct {\n  bytes first;\n  uint64_t second;\n} list;\ntypedef struct {\n  uint64_t first;\n  bytes second;\n} found;\n"
     for (size in rooms) sizes[++n_sizes] = size + 0
     for (i = 1; i <= n_sizes; i++)
         for (j = i; j > 1 && sizes[j - 1] > sizes[j]; j--) { size = sizes[j]; sizes[j] = sizes[j - 1]; sizes[j - 1] = size }
-    for (i = 1; i <= n_sizes; i++) print "typedef union {\n  uint64_t words[" int((sizes[i] + 7) / 8) "];\n  unsigned char bytes[" sizes[i] "];\n} room_" sizes[i] ";"
+    # what has no bytes gets one, which nothing reads
+    for (i = 1; i <= n_sizes; i++) print "typedef union {\n  uint64_t words[" int((sizes[i] + 7) / 8) + !sizes[i] "];\n  unsigned char bytes[" sizes[i] + !sizes[i] "];\n} room_" sizes[i] ";"
     for (size = 8; size <= 64; size *= 2) print_access(size, "uint" size "_t")
     print_access("ptr", "bytes")
+    for (size = 16; size <= 64; size *= 2) print_bytes(size, "uint" size "_t")
     if ("leading_zeros" in needed)
         print "static inline uint64_t leading_zeros(uint64_t word) {\n  unsigned count = 64, half;\n  for (half = 32; half > 0; half /= 2)\n    if (word >> half != 0) {\n      count -= half;\n      word >>= half;\n    }\n  return count - word;\n}"
     if ("either" in needed)
-        print "static inline uint64_t either(bool first, uint64_t x, uint64_t y) {\n  return y ^ ((x ^ y) & (0 - (uint64_t)first));\n}"
+        print "static inline uint64_t either(uint8_t first, uint64_t x, uint64_t y) {\n  return y ^ ((x ^ y) & (0 - (uint64_t)first));\n}"
+    printf "%s", constants
     for (i = 1; i <= functions; i++) {
         name = heads[i]
         sub(/\(.*/, "", name)

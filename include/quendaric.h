@@ -149,7 +149,7 @@ extern "C" {
 
 /* A call uses at most so many bytes of stack. That is promised and not proved. In brackets stands the most that was
    measured, over drawn operands, with tables that pass and with tables that are refused. */
-#define QUENDARIC_STACK 1024 /* (872 measured) */
+#define QUENDARIC_STACK 1024 /* (616 measured) */
 
 /* Refusals, in the words of docs/SPECIFICATION.md, section 18. D is the divisor, from 2^60 to 2^61 - 1, N the dividend,
    below 2^61, P the partial remainder. A bad cell holds a digit that can drive the remainder out of range. The maker of the

@@ -1,5 +1,6 @@
 // A C program's side of the interface: each export called as C calls it, and what comes back, in numbers (Calls of the crate demands, in the order of the specification). Where an export and its contract
 // are changed together, a contract here refuses it.
+// Directions and numbers of bits are the numbers that C hands in.
 #![tactic(auto)]
 
 ghost use Rattle.demands.specs.Calls.{ChecksTable, ChecksCell, TellsLimits, MakesTable, Runs, RunsKept, StepsOnce, DividesWhole, DividesWholeKept, DividesBinary64, DividesBinary64Kept, DividesSamples, AveragesWindows, RootsWhole, RootsBinary64, DividesPacked, RepairsTable, CountsVisits, ComparesRatios, ChecksTableFor, ChecksCellFor, TellsLimitsFor, MakesTableFor, RepairsTableFor, AffectsSamplesFor, AffectsWholeFor, AffectsRunFor, NamesVersion};

@@ -1,7 +1,8 @@
 -- The arguments of a call, case by case: the first rule that refuses them, or none. A call has one answer if it has one in each case.
 use Rattle.laws.proofs.{Basics.{◌≡◌, refl, ap, ◌∙◌, ⊎_elim, List, [], ◌∷◌, ◌++◌, ℕ, ◌<◌, arith, List·getD-eq-default}, Comparisons.{not_below}, Division.{le_or_lt}}
 use Rattle.selection.proofs.{RefusalNames.{refusal, first_of, Rule, WellFormed, first_refusal, table_rules, clear_admits, refused_at}, OneRule.{Tells, Past, decided, past_not}, Rules.{rules_append}}
-use Rattle.selection.specs.{computed.Refusals.{Wrong}, declared.Admission.{Admission}, declared.Admission.TheVariants.{Admitted, Refused}, Table.{Table, Passes}}
+use Rattle.std.specs.Prelude.{⊤, Result, Ok, Err}
+use Rattle.selection.specs.{computed.Refusals.{Wrong}, Table.{Table, Passes}, declared.Refusal.{Refusal}}
 use Rattle.selection.{proofs.Reports.{table_rules_law, admission_rules, admitted_passes}, specs.declared.Estimate.{Estimate}}
 use Rattle.demands.specs.{Calls.{OfTable}, Determined.{Determined}}
 
@@ -34,11 +35,11 @@ module _ (E : Estimate) where
       (λ e digits good. g (admitted_passes E (admission_rules E t ∙ clear_admits (table_rules_law E t) (e, (digits, (good, tt))))))
 
   -- what a call says of a table that it is lent, once for every call
-  pub of_table : (t : List ℕ) (rs : List Rule) {R : ℕ → ℕ → Type 0} → first_refusal rs ≡ Admitted
-      → ((n p : ℕ) → 0 < n → first_refusal (rs ++ table_rules E t) ≡ Refused (refusal n p) → R n p) → OfTable E t R
+  pub of_table : (t : List ℕ) (rs : List Rule) {R : ℕ → ℕ → Type 0} → first_refusal rs ≡ Ok tt
+      → ((n p : ℕ) → 0 < n → first_refusal (rs ++ table_rules E t) ≡ Err (refusal n p) → R n p) → OfTable E t R
   unfolding table_rules
   of_table t rs a f =
-      let last : first_refusal (rs ++ table_rules E t) ≡ first_refusal (table_rules E t) = rules_append rs (table_rules E t) ∙ ap (λ (v : Admission). first_of v (first_refusal (table_rules E t))) a in
+      let last : first_refusal (rs ++ table_rules E t) ≡ first_refusal (table_rules E t) = rules_append rs (table_rules E t) ∙ ap (λ (v : Result ⊤ Refusal). first_of v (first_refusal (table_rules E t))) a in
       record {
         size = λ h. f 8 0 (omega arith) (last ∙ refused_at (table_rules_law E t) 0 0 (refl, h));
         byte = λ p e l h b. f 9 p (omega arith) (last ∙ refused_at (table_rules_law E t) 1 p (e, (l, record { here = h; before = λ j k g. omega (arith, b j k) })));

@@ -1,9 +1,10 @@
 -- Demand 1: the answers of all calls are those of their lists of rules.
 use Rattle.laws.proofs.{Basics.{◌≡◌, refl, sym, ap, subst, ◌∙◌, List, ◌++◌, ⊎_elim, ℕ, ◌+◌, ◌*◌, arith, ltb, ltb→lt, length}, Tests.{upto_at}}
-use Rattle.selection.specs.{Answer.{refusal, report_zeros}, computed.Answer.{answer_by, admission_of, outcome_numbers, cell_zeros, report_numbers}, computed.Bits.{bits_rules, estimate_of, check_table_for}}
+use Rattle.selection.specs.{Answer.{refusal, report_zeros}, computed.Answer.{answer_by, admission, admission_of, outcome_numbers, cell_zeros, report_numbers}, computed.Bits.{bits_rules, estimate_of, check_table_for}}
 use Rattle.selection.specs.computed.{Maker.{limits_zeros, make_refused}, Repair.{repair_refused}}
-use Rattle.selection.{proofs.RefusalNames.{refusal_of, rank, table_rules, first_is, refused_by, refuses, passed_last}, specs.declared.Admission.{Admission}}
-use Rattle.selection.specs.{declared.Admission.TheVariants.{Refused}, computed.Table.{ReportMeaning}, computed.Outcomes.{report_of}, declared.table.Outcome.{Outcome}}
+use Rattle.std.specs.Prelude.{⊤, Result, Ok, Err}
+use Rattle.selection.{proofs.RefusalNames.{refusal_of, rank, table_rules, first_is, refused_by, refuses, passed_last}, specs.declared.Refusal.{Refusal}}
+use Rattle.selection.specs.{computed.Table.{ReportMeaning, AnswerMeaning}, computed.Outcomes.{report_of}, declared.table.Outcome.{Outcome}, declared.table.TableVerdict.{TableVerdict}}
 use Rattle.selection.proofs.{Verdicts.{cell_refuses}, Rules.{by_number}, ForBits.{bits_first, bits_besides, bits_refused_by, bits_refuses, bits_number}, MadeTables.{kept_passes, limits_told}}
 use Rattle.selection.proofs.{BiasedPoints.{cell_rules_law}, UniqueMade.{limits_rules_law, make_rules_law}, RepairAnswers.{repair_rules_law}, Reports.{report_checked, table_rules_law, admission_rules}}
 use Rattle.selection.specs.declared.{Estimate.{Estimate}, Estimate.TheVariants.{EightBits}}
@@ -18,25 +19,32 @@ use Rattle.exposure.proofs.Averages.{averages_right}
 
 -- the check, from its report
 module _ (E : Estimate) (t : List ℕ) where
-  besides : (m n p : ℕ) (o : Outcome) → admission_of o ≡ Refused (refusal n p) → (n ≡ 10 → ⊥) → outcome_numbers m o ≡ report_zeros (refusal n p)
+  besides : (m n p : ℕ) (o : Outcome) → admission_of o ≡ Err (refusal n p) → (n ≡ 10 → ⊥) → outcome_numbers m o ≡ report_zeros (refusal n p)
   besides m n p O.Passed e l = cc
-  besides m n p (O.Bad b) e l = absurd (l (sym (ap (λ (v : Admission). (refusal_of v).number) e)))
-  besides m n p (O.Refused f) e l = cc
+  besides m n p (O.Bad b) e l = absurd (l (sym (ap (λ (v : Result ⊤ Refusal). (refusal_of v).number) e)))
 
-  carries : (m p : ℕ) (o : Outcome) → ReportMeaning E t m o → admission_of o ≡ Refused (refusal 10 p) → Carries E t p (outcome_numbers m o)
+  carries : (m p : ℕ) (o : Outcome) → ReportMeaning E t m o → admission_of o ≡ Err (refusal 10 p) → Carries E t p (outcome_numbers m o)
   carries m p O.Passed w e = let z : ◌≡◌ {A = ℕ} 0 1 = cc in absurd (omega arith)
-  carries m p (O.Bad b) w e = let z : 128 * b.row + b.column ≡ p = ap (λ (v : Admission). (refusal_of v).place) e in record { count = w.1; cell = z; witness = rw z at w.2.witness }
-  carries m p (O.Refused f) w e = let z : f.number ≡ 10 = cc in absurd (⊎_elim (λ u. omega (arith, u.0)) (⊎_elim (λ u. omega (arith, u.0)) (λ u. u)) w.0.holds)
+  carries m p (O.Bad b) w e = let z : 128 * b.row + b.column ≡ p = ap (λ (v : Result ⊤ Refusal). (refusal_of v).place) e in record { count = w.1; cell = z; witness = rw z at w.2.witness }
+
+  told : (a : Result TableVerdict Refusal) → (report_numbers a).refusal ≡ refusal_of (admission a)
+  told (Ok a) = elim a.outcome as (λ o. (outcome_numbers a.count o).refusal ≡ refusal_of (admission_of o)) [ O.Passed ↦ refl | O.Bad b ↦ refl ]
+  told (Err f) = refl
+
+  zeros_besides : (n p : ℕ) (a : Result TableVerdict Refusal) → admission a ≡ Err (refusal n p) → (n ≡ 10 → ⊥) → report_numbers a ≡ report_zeros (refusal n p)
+  zeros_besides n p (Ok a) e l = besides a.count n p a.outcome e l
+  zeros_besides n p (Err f) e l = cc
+
+  carried : (p : ℕ) (a : Result TableVerdict Refusal) → AnswerMeaning E t a → admission a ≡ Err (refusal 10 p) → Carries E t p (report_numbers a)
+  carried p (Ok a) w e = carries a.count p a.outcome w e
+  carried p (Err f) w e = let z : f.number ≡ 10 = cc in absurd (⊎_elim (λ u. omega (arith, u.0)) (⊎_elim (λ u. omega (arith, u.0)) (λ u. u)) w.holds)
 
   checked : CheckRefuses (table_rules E t) E t (report_numbers (report_of E t))
-  checked =
-      let a = report_of E t in
-      let same = elim a.outcome as (λ o. (outcome_numbers a.count o).refusal ≡ refusal_of (admission_of o)) [ O.Passed ↦ refl | O.Bad b ↦ refl | O.Refused f ↦ refl ] in
-      record {
-        by = rw (same ∙ ap refusal_of (admission_rules E t)) (refused_by (table_rules_law E t));
-        besides = λ n p l x. besides a.count n p a.outcome (admission_rules E t ∙ first_is (table_rules_law E t) n p x) l;
-        carries = λ p x. carries a.count p a.outcome (report_checked E t).means (admission_rules E t ∙ first_is (table_rules_law E t) 10 p x);
-      }
+  checked = record {
+    by = rw (told (report_of E t) ∙ ap refusal_of (admission_rules E t)) (refused_by (table_rules_law E t));
+    besides = λ n p l x. zeros_besides n p (report_of E t) (admission_rules E t ∙ first_is (table_rules_law E t) n p x) l;
+    carries = λ p x. carried p (report_of E t) (report_checked E t).means (admission_rules E t ∙ first_is (table_rules_law E t) 10 p x);
+  }
 
 -- and for a number of bits
 checked_for : (bits : ℕ) (t : List ℕ) → CheckRefuses (bits_rules bits ++ table_rules (estimate_of bits) t) (estimate_of bits) t (check_table_for bits t)
@@ -50,7 +58,7 @@ checked_for bits t =
       besides = λ n p l. bits_besides bits c tt report_zeros (report_numbers (report_of E t)) n p (x.besides n p l);
       carries = λ p y. ⊎_elim
           (λ e. absurd (omega (arith, bits_number bits e)))
-          (λ z. subst (λ (v : Admission). Carries E t p (answer_by report_zeros (report_numbers (report_of E t)) v)) (sym z.0) (x.carries p z.1))
+          (λ z. subst (λ (v : Result ⊤ Refusal). Carries E t p (answer_by report_zeros (report_numbers (report_of E t)) v)) (sym z.0) (x.carries p z.1))
           (bits_first bits c tt y);
     }
 

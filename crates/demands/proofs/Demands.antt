@@ -1,5 +1,6 @@
 -- What the unit promises, whole.
 use Rattle.laws.proofs.Basics.{◌≡◌, refl, ⊎_elim, ℕ, ◌+◌, ◌-◌, ◌≤◌}
+use Rattle.std.specs.Prelude.{Ok}
 use native.Mathlib.Nat.{le_refl, le_of_lt}
 use Rattle.selection.specs.{Cell.{Allows, digit}, Maker.{Made}, computed.CellTest.{multiples_of, test_of, cell_verdict_of}, computed.Outcomes.{cell_of}, declared.Estimate.{Estimate}}
 use Rattle.selection.proofs.{CellTests.{row_tested as tested-in}, RepairDemand.{repair_demand}, Burned.{burned_tables}, MadeTables.{made_table_is}}
@@ -15,7 +16,7 @@ use Rattle.demands.proofs.WordsInNumbers.{words_in_numbers}
 made_nearest : (E : Estimate) (r c a b : ℕ) → Made E r c b → a ≤ 4 → Allows E r c (digit a) → (b - 2) + (2 - b) ≤ (a - 2) + (2 - a)
 made_nearest E r c a b m h w = ⊎_elim (λ e. rw e (le_refl _)) (λ l. le_of_lt l) (m.nearest a h w)
 
-row_tested : (E : Estimate) (r c b : ℕ) → r ≤ 15 → c ≤ 127 → b ≤ 4 → cell_verdict_of (test_of (multiples_of E r) c b) ≡ cell_of E r c b
+row_tested : (E : Estimate) (r c b : ℕ) → r ≤ 15 → c ≤ 127 → b ≤ 4 → Ok (cell_verdict_of (test_of (multiples_of E r) c b)) ≡ cell_of E r c b
 row_tested E r c b hr hc hb = tested-in {m = multiples_of E r} (record { small = hr; is = refl }) hc hb
 
 ruleset calls = (point_demand, row_tested, words_in_numbers, determined, demand_1, demand_2, demand_3, root_demand, flag_demand, packed_demand, ratio_demand, averages_demand, reversal_demand, recheck_demand)

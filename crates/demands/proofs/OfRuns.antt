@@ -5,7 +5,7 @@ use Rattle.selection.{proofs.RefusalNames.{answer_by, clear_admits, refused_at},
 use Rattle.selection.specs.declared.Estimate.TheVariants.{EightBits}
 use Rattle.recurrence.specs.{Recurrence.{cell_at, next_of, after, digits}, computed.Run.{run_rules, RunOutcome, run_of}, computed.Step.{step_rules, step_of}}
 use Rattle.recurrence.specs.{computed.Visits.{is_at, run_visits, all_visits, visits_rules, VisitsOutcome, visits_of, operand}, declared.step.Stepped.{Stepped}}
-use Rattle.recurrence.proofs.{Digits.{divisor_after, digit_at}, Refusals.{run_lent, no_refusal}, RunDemand.{run_claim}, StepRange.{step_lent, by_neither}, StepDemand.{step_demand}}
+use Rattle.recurrence.proofs.{Digits.{divisor_after, digit_at}, Refusals.{run_lent, no_refusal}, RunDemand.{run_claim}, StepRange.{step_rules_law, step_lent}, StepDemand.{step_demand}}
 use Rattle.recurrence.proofs.VisitCounts.{visits_rules_law, visits_lent, visits_demand}
 use Rattle.demands.specs.Calls.{Steps, Runs, RunsKept, StepsOnce, CountsVisits}
 use Rattle.demands.proofs.ByCases.{of_table}
@@ -88,7 +88,7 @@ unfolding step_rules
 steps_once {s} {k} {D} {t} e = rw e (record {
   divisor = λ h. ap (answer_by _ _) (refused_at (step_lent s k D t) 0 0 (refl, ⊎_elim inl (λ x. inr (omega arith)) h));
   outside = λ least most h. ap (answer_by _ _) (refused_at (step_lent s k D t) 1 0 (omega arith, (refl, h)));
-  table = λ least most w. of_table EightBits t (step_rules s k D) (by_neither s k D least most (⊎_elim (λ x. clash_ℤ x w.low) (λ x. clash_ℤ x w.high))) (λ n p _ f. ap (answer_by _ _) f);
+  table = λ least most w. of_table EightBits t (step_rules s k D) (clear_admits (step_rules_law s k D) ((least, omega arith), (((λ x. clash_ℤ x w.low), λ x. clash_ℤ x w.high), tt))) (λ n p _ f. ap (answer_by _ _) f);
   step = λ least most w ok. step_demand.step s k D t ok least most w;
 })
 

@@ -14,12 +14,9 @@ pub use Rattle.division.specs.declared.rounding.Mode.{Mode}
 pub use Rattle.division.specs.declared.rounding.Mode.TheVariants.{Away, Nearest, Toward}
 pub use Rattle.division.specs.declared.format.Binary64Result.{Binary64Result}
 pub use Rattle.division.specs.declared.format.Scaled.{Scaled}
-pub use Rattle.division.specs.declared.format.ByClass.{ByClass}
-pub use Rattle.division.specs.declared.format.ByClass.TheVariants.{Decided, Undecided}
-pub use Rattle.division.specs.declared.binary64.Case.{Case}
-pub use Rattle.division.specs.declared.binary64.Case.TheVariants.{ByZero, Finite, Invalid, NotANumber, ToInfinity, ToZero}
+pub use Rattle.division.specs.computed.Rounding.{Case, ByZero, Finite, Invalid, NotANumber, ToInfinity, ToZero}
 pub use Rattle.division.specs.computed.Binary64Steps.{aligned_of, binary64_through, scaled_through, sticky}
 unfoldable pub use Rattle.division.specs.computed.Binary64Steps.{ratio_through, rounded_quotient}
 pub use Rattle.division.specs.computed.RootSteps.{DigitsTaken, finite_root, root_by_class, root_of, root_of_class}
 unfoldable pub use Rattle.division.specs.computed.RootSteps.{whole_root}
-pub use Rattle.division.specs.declared.binary64.Aligned.{Aligned}
+pub use Rattle.division.specs.declared.rounding.Aligned.{Aligned}

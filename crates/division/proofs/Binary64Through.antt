@@ -1,10 +1,10 @@
 -- Binary64 through a table that passes: the run's digits give the definition's quotient.
 use Rattle.laws.proofs.{Basics.{◌≡◌, refl, sym, ⊎_elim, List, ℕ, ◌+◌, ◌-◌, ◌*◌, ◌/◌, ◌^◌, ◌≤◌, ◌<◌, arith, min, lit<, ne_eqb, le-leb, lt-leb}, Division.{le_or_lt}, Powers.{lifted}}
 use Rattle.laws.specs.Shifts.{shift_to}
-use Rattle.std.proofs.Common.{mul_assoc, div-lt_iff_lt-mul, eq-zero-or-pos, le-div_iff_mul-le, pow-add}
+use Rattle.std.proofs.Common.{Option, Some, None, mul_assoc, div-lt_iff_lt-mul, eq-zero-or-pos, le-div_iff_mul-le, pow-add}
 use Rattle.selection.specs.{Table.{Passes}, declared.Estimate.{Estimate}}
 use Rattle.recurrence.{specs.Recurrence.{result_of}, proofs.RunDemand.{result_divides}}
-use Rattle.division.proofs.Binary64Names.{magnitude, field, fraction, sign_of, by_class, or_rounded, quotient_of, significand_of, FiniteNonzero, Binary64Result, ByClass, Decided, Undecided, sticky}
+use Rattle.division.proofs.Binary64Names.{magnitude, field, fraction, sign_of, by_class, or_rounded, quotient_of, significand_of, FiniteNonzero, Binary64Result, sticky}
 use Rattle.division.proofs.Binary64Names.{ratio_through, aligned_of, rounded_quotient, binary64_through}
 use Rattle.division.proofs.{Sticky.{cut_high, cut_low}, Quotient.{ScaledTo, AlignedTo, aligned_is}, Classes.{nonzero_operand, quotient_nonzero}}
 
@@ -35,9 +35,9 @@ aligned_right w up down lw hw hu hd =
     at e c q l low small = let z : e + down - up ≡ c = omega arith in record { reach = omega arith; value = rw z refl; low = low; high = cut_high w c hw l; small = small }
 
 -- answers that are the same where the classes decide nothing
-pub rounded_same : (k : ByClass) {x y : Binary64Result} → (k ≡ Undecided → x ≡ y) → or_rounded x k ≡ or_rounded y k
-rounded_same (Decided z) f = refl
-rounded_same Undecided f = f refl
+pub rounded_same : (k : Option Binary64Result) {x y : Binary64Result} → (k ≡ None → x ≡ y) → or_rounded x k ≡ or_rounded y k
+rounded_same (Some z) f = refl
+rounded_same None f = f refl
 
 -- in a divider with the estimate E
 module _ (E : Estimate) where

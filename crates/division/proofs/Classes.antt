@@ -1,8 +1,8 @@
 -- The classes of operands: which make the finite case, and what patterns of them have.
 use Rattle.laws.proofs.{Basics.{◌≡◌, refl, sym, ap, ap₂, ◌∙◌, ⊎_elim, ℕ, ◌+◌, ◌-◌, ◌^◌, ◌≤◌, ◌<◌, arith, le-ltb, ne_eqb, ◌⊎◌, inl, inr}, Division.{le_or_lt}}
 use mathlib.Core.Bool.{or-true}
-use Rattle.std.proofs.Common.{eq-zero-or-pos, mul-pos, pow_pos}
-use Rattle.division.proofs.Binary64Names.{class_of, field, fraction, sign_of, FiniteNonzero, IsFinite, case_of, nan_flags, decided, by_class, magnitude, Class, Zero, Subnormal, Normal, Infinite, Nan, Binary64Result, Decided, Undecided, Case, NotANumber, Invalid, ToInfinity, ByZero, ToZero, Finite}
+use Rattle.std.proofs.Common.{Some, None, eq-zero-or-pos, mul-pos, pow_pos}
+use Rattle.division.proofs.Binary64Names.{class_of, field, fraction, sign_of, FiniteNonzero, IsFinite, case_of, nan_flags, decided, by_class, magnitude, Class, Zero, Subnormal, Normal, Infinite, Nan, Binary64Result, Case, NotANumber, Invalid, ToInfinity, ByZero, ToZero, Finite}
 use Rattle.division.specs.computed.Rounding.{is_nan}
 
 -- a finite number other than zero is in no other class
@@ -68,11 +68,11 @@ module _ (a b : ℕ) where
   quotient_case h k = ⊎_elim (λ e. ⊎_elim (λ f. ap₂ case_of e f) (λ f. ap₂ case_of e f) k) (λ e. ⊎_elim (λ f. ap₂ case_of e f) (λ f. ap₂ case_of e f) k) h
 
   -- where the classes decide nothing, the operands are finite numbers other than zero, and only there
-  pub nonzero_quotient : FiniteNonzero a → FiniteNonzero b → by_class a b ≡ Undecided
+  pub nonzero_quotient : FiniteNonzero a → FiniteNonzero b → by_class a b ≡ None
   nonzero_quotient h k = ap (decided (sign_of a b) (nan_flags a b)) (quotient_case h k)
 
-  pub quotient_nonzero : by_class a b ≡ Undecided → FiniteNonzero a × FiniteNonzero b
+  pub quotient_nonzero : by_class a b ≡ None → FiniteNonzero a × FiniteNonzero b
   quotient_nonzero u = by_cases (λ h. no (nan_case h) refl) (λ h. no (invalid_case h) refl) (λ h e. no (by_zero_case h e) refl) (λ e h. no (infinite_case e h) refl) (λ h. no (zero_case h) refl) (λ h k. (h, k))
     where
-      no : {k : Case} {x : Binary64Result} → case_of (class_of a) (class_of b) ≡ k → decided (sign_of a b) (nan_flags a b) k ≡ Decided x → FiniteNonzero a × FiniteNonzero b
+      no : {k : Case} {x : Binary64Result} → case_of (class_of a) (class_of b) ≡ k → decided (sign_of a b) (nan_flags a b) k ≡ Some x → FiniteNonzero a × FiniteNonzero b
       no e f = let g = sym (ap (decided (sign_of a b) (nan_flags a b)) e ∙ f) ∙ u in let z : ◌≡◌ {A = ℕ} 0 1 = cc in absurd (omega arith)

@@ -12,6 +12,7 @@ pub mod Classes
 pub mod WholeThrough
 pub mod WholeDigits
 pub mod Binary64Through
+pub mod FourRatios
 pub mod SideBySide
 pub mod DivisionCalls
 pub mod JoinedFlags

@@ -1,28 +1,28 @@
 -- How two ratios compare, found through the remainders.
-use Rattle.laws.proofs.{Basics.{◌≡◌, refl, sym, ap, subst, ◌∙◌, ◌⊎◌, inl, inr, ⊎_elim, ℕ, zero, suc, ◌+◌, ◌*◌, ◌/◌, ◌%◌, ◌^◌, ◌≤◌, ◌<◌, arith, ltb, lt-ltb, le-ltb, lit<}, Division.{le_or_lt}}
+use Rattle.laws.proofs.{Basics.{◌≡◌, refl, sym, ap, subst, ◌∙◌, ◌⊎◌, inl, inr, ⊎_elim, true, false, ℕ, zero, suc, ◌+◌, ◌*◌, ◌/◌, ◌%◌, ◌^◌, ◌≤◌, ◌<◌, arith, lit<}, Division.{le_or_lt}}
+use Rattle.std.proofs.lemmas.Cmp.{ranked, by_ranked}
+use Rattle.std.specs.Ordering.{nat_cmp, is_ne}
+use Rattle.std.proofs.lemmas.Bool.Decides.{nat_tests}
 use Rattle.std.proofs.Common.{lt_trans, mul-le-mul_right, mod-lt, mul-lt-mul_of_pos_right, mul-pos, div-add-mod', le-div_iff_mul-le}
 use Rattle.selection.{specs.computed.Outcomes.{made_table}, proofs.MadeTables.{kept_passes}, specs.declared.Estimate.TheVariants.{EightBits}}
 use Rattle.division.specs.{computed.WholeSteps.{whole_through}, computed.Ratios.{Ratios, Round, FoundIn, comparison_of}, declared.whole.WholeResult.{WholeResult}}
-use Rattle.division.specs.declared.ratio.RatioOrder.TheVariants.{Less, Equal, Greater}
+use Rattle.std.specs.declared.cmp.Ordering.TheVariants.{Less, Equal, Greater}
 use Rattle.division.proofs.WholeThrough.{whole_divides}
 
 -- ---- how two numbers compare
 
 pub comparison_less : (m n : ℕ) → m < n → comparison_of m n ≡ Less
-comparison_less m n h = rw (lt-ltb m n h) refl
+comparison_less m n h = grind (arith, nat_tests)
 
 pub comparison_equal : (m n : ℕ) → m ≡ n → comparison_of m n ≡ Equal
-comparison_equal m n h = rw (le-ltb m n (omega arith), le-ltb n m (omega arith)) refl
+comparison_equal m n h = grind (arith, nat_tests)
 
 pub comparison_greater : (m n : ℕ) → n < m → comparison_of m n ≡ Greater
-comparison_greater m n h = rw (le-ltb m n (omega arith), lt-ltb n m h) refl
+comparison_greater m n h = grind (arith, nat_tests)
 
 -- a number that both have more
-less_same : (m n k : ℕ) → ltb (k + m) (k + n) ≡ ltb m n
-less_same m n k = ⊎_elim
-    (λ (h : n ≤ m). le-ltb (k + m) (k + n) (omega arith) ∙ sym (le-ltb m n h))
-    (λ (h : m < n). lt-ltb (k + m) (k + n) (omega arith) ∙ sym (lt-ltb m n h))
-    (le_or_lt n m)
+compared_same : (m n k : ℕ) → comparison_of (k + m) (k + n) ≡ comparison_of m n
+compared_same m n k = grind (arith, nat_tests)
 
 -- ---- a round
 
@@ -39,7 +39,7 @@ module _ (a b c d : ℕ) (hb : 0 < b) (hd : 0 < d) where
   by_rest e =
       let x : a * d ≡ a / b * (b * d) + d * (a % b) = omega (arith, ap (λ (z : ℕ). z * d) (div-add-mod' a b)) in
       let y : c * b ≡ a / b * (b * d) + b * (c % d) = rw e (omega (arith, ap (λ (z : ℕ). z * b) (div-add-mod' c d))) in
-      rw (x, y, less_same (d * (a % b)) (b * (c % d)) (a / b * (b * d)), less_same (b * (c % d)) (d * (a % b)) (a / b * (b * d)))
+      rw (x, y, compared_same (d * (a % b)) (b * (c % d)) (a / b * (b * d)))
 
   round_to : {N : Type 0} → (a / b ≡ c / d → 0 < a % b → 0 < c % d → N) → Round (a / b) (a % b) (c / d) (c % d) (comparison_of (a * d) (c * b)) N
   round_to next = record {
@@ -105,6 +105,20 @@ module _ (n m p q : ℕ) (x y : WholeResult) (r : Ratios n m p q) (ex : x ≡ wh
 
   below : (x.remainder < m) × (y.remainder < q)
   below = rw (first, second) (mod-lt n r.b_some, mod-lt p r.d_some)
+
+  -- quotients that differ tell
+  pub quotients_tell : is_ne (nat_cmp x.quotient y.quotient) ≡ true → nat_cmp x.quotient y.quotient ≡ comparison_of (n * q) (p * m)
+  quotients_tell h = by_ranked _ _ _ _ (ranked x.quotient y.quotient _ refl) (λ e l. e ∙ sym (code_round.less l)) (λ e l. cc) (λ e l. e ∙ sym (code_round.greater l))
+
+  pub quotients_same : is_ne (nat_cmp x.quotient y.quotient) ≡ false → x.quotient ≡ y.quotient
+  quotients_same h = grind (arith, nat_tests)
+
+  -- then a remainder of 0 tells
+  pub remainders_tell : x.quotient ≡ y.quotient → (x.remainder ≡ 0) ⊎ (y.remainder ≡ 0) → nat_cmp x.remainder y.remainder ≡ comparison_of (n * q) (p * m)
+  remainders_tell e z = by_ranked _ _ _ _ (ranked x.remainder y.remainder _ refl)
+      (λ o l. o ∙ sym (code_round.first_ends e (⊎_elim (λ h. h) (λ h. omega arith) z) (omega arith)))
+      (λ o l. o ∙ sym (code_round.both_end e (⊎_elim (λ h. h) (λ h. omega arith) z) (⊎_elim (λ h. omega arith) (λ h. h) z)))
+      (λ o l. o ∙ sym (code_round.second_ends e (omega arith) (⊎_elim (λ h. omega arith) (λ h. h) z)))
 
   -- the next round has smaller divisors
   pub round_next : (x.remainder ≡ 0 → ⊥) → (y.remainder ≡ 0 → ⊥) → Ratios q y.remainder m x.remainder × (y.remainder + x.remainder < m + q)

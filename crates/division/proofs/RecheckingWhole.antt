@@ -1,7 +1,8 @@
 -- Whether a wrong table affected a division of whole numbers: its mark, what it claims, the refusals of the call, and that no other answer fits.
 use Rattle.laws.{proofs.Basics.{◌≡◌, refl, ap, ◌∙◌, List, inl, inr, ⊎_elim, ℕ, ◌+◌, ◌-◌, ◌*◌, ◌/◌, ◌%◌, ◌^◌, ◌≤◌, ◌<◌, arith, length}, proofs.Tests.{Decides}, specs.Shifts.{shift_to}}
 use Rattle.std.proofs.Common.{mod-lt, pos_of_ne-zero, lt_of_mul-lt-mul_right, div-add-mod', le-div_iff_mul-le, mul-div_cancel, pow_pos}
-use Rattle.selection.{proofs.RefusalNames.{first_refusal, rank, WellFormed, refuses_one, refuses, cleared, clear_admits}, specs.declared.Admission.TheVariants.{Admitted}}
+use Rattle.std.specs.Prelude.{Ok}
+use Rattle.selection.proofs.RefusalNames.{first_refusal, rank, WellFormed, refuses_one, refuses, cleared, clear_admits}
 use Rattle.selection.specs.declared.Estimate.{Estimate}
 use Rattle.recurrence.specs.{computed.Recheck.{exact_result, ShowsWrong, Marks, mark_zeros, mark_values, runs_wrong, run_mark}, Recurrence.{result_of}}
 use Rattle.recurrence.{proofs.RightRuns.{wrong_decides, run_mark_right, run_mark_claim, mark_is, mark_one}, specs.declared.recheck.AffectedMark.{AffectedMark}}
@@ -18,10 +19,10 @@ module _ (len a b : ℕ) where
   recheck_whole_rules_law = record { sound = (tt, λ _. (tt, λ _. (tt, λ _. tt))); in_order = tt }
 
   -- nothing is refused exactly if all is accepted
-  pub recheck_whole_accepts : first_refusal (recheck_whole_rules len a b) ≡ Admitted → RecheckWholeAccepts len a b
+  pub recheck_whole_accepts : first_refusal (recheck_whole_rules len a b) ≡ Ok tt → RecheckWholeAccepts len a b
   recheck_whole_accepts e = let c = cleared recheck_whole_rules_law e in record { dividend = c.0.0; divisor = c.0.1; some = pos_of_ne-zero c.1.0; size = c.1.1.0 }
 
-  pub recheck_whole_admits : RecheckWholeAccepts len a b → first_refusal (recheck_whole_rules len a b) ≡ Admitted
+  pub recheck_whole_admits : RecheckWholeAccepts len a b → first_refusal (recheck_whole_rules len a b) ≡ Ok tt
   recheck_whole_admits x = clear_admits recheck_whole_rules_law ((x.dividend, x.divisor), ((λ e. omega (arith, x.some)), (x.size, tt)))
 
 -- in a divider with the estimate E

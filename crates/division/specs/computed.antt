@@ -1,5 +1,6 @@
 pub mod Binary64
 pub mod Binary64Steps
+pub mod Directions
 pub mod Format
 pub mod Packed
 pub mod Ratios

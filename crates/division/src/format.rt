@@ -1,7 +1,7 @@
 // The binary64 format: fields, classes, significands, flags, a result, and an answer.
 ghost use Rattle.std.specs.Prelude.{◌≡◌};
 ghost use Rattle.division.specs.Format.{class_of, FiniteNonzero, signalling, sign_of, sign_bit};
-ghost use Rattle.division.specs.computed.Format.{binary64_zeros, binary64_values};
+ghost use Rattle.division.specs.computed.Format.{binary64_numbers};
 ghost use Rattle.division.specs.computed.Significands.{significand_of, Normalized};
 
 use crate::whole::shift_of;
@@ -21,7 +21,7 @@ const QUIET_BIT: u64 = 0x8_0000_0000_0000;
 
 pub(crate) const QUIET_NAN: u64 = 0x7FF8_0000_0000_0000;
 
-// The flags.
+// The flags: C reads their sum.
 pub(crate) const INEXACT: u8 = 1;
 
 pub(crate) const UNDERFLOW: u8 = 2;
@@ -48,21 +48,40 @@ pub struct Binary64 {
     pub flags: u64,
 }
 
-// The class of a pattern.
+impl From<Result<Binary64Result, Refusal>> for Binary64 {
+    ghost from_gives = { λ answer x. x ≡ binary64_numbers answer };
+
+    fn from(answer: Result<Binary64Result, Refusal>) -> Binary64 {
+        match answer {
+            Ok(x) => Binary64 {
+                refusal: NO_REFUSAL,
+                pattern: x.pattern,
+                flags: u64::from(x.flags),
+            },
+            Err(refusal) => Binary64 {
+                refusal,
+                pattern: 0,
+                flags: 0,
+            },
+        }
+    }
+}
+
+// The patterns of a dividend and a divisor.
 #[derive(Clone, Copy)]
+pub(crate) struct Patterns {
+    pub(crate) dividend: u64,
+    pub(crate) divisor: u64,
+}
+
+// The class of a pattern.
+#[derive(Clone, Copy, PartialEq, Eq)]
 pub enum Class {
     Zero,
     Subnormal,
     Normal,
     Infinite,
     Nan,
-}
-
-// What the operands' classes lead to: an answer, or that a number is to be rounded.
-#[derive(Clone, Copy)]
-pub(crate) enum ByClass {
-    Decided(Binary64Result),
-    Undecided,
 }
 
 // A finite magnitude other than 0, its significand moved up until the leading one is bit 60: sig * 2^exp units of 2^-1134.
@@ -92,21 +111,11 @@ pub(crate) fn class_of(p: u64) -> Class
     let exponent = p / HIDDEN_BIT % 2048;
     let fraction = p % HIDDEN_BIT;
     match exponent {
-        0 => {
-            if fraction == 0 {
-                Class::Zero
-            } else {
-                Class::Subnormal
-            }
-        }
+        0 if fraction == 0 => Class::Zero,
+        0 => Class::Subnormal,
         1..=2046 => Class::Normal,
-        _ => {
-            if fraction == 0 {
-                Class::Infinite
-            } else {
-                Class::Nan
-            }
-        }
+        _ if fraction == 0 => Class::Infinite,
+        _ => Class::Nan,
     }
 }
 
@@ -114,17 +123,11 @@ pub(crate) fn class_of(p: u64) -> Class
 pub(crate) fn signalling(p: u64) -> bool
     ensures { result ≡ signalling p }
 {
-    if p / HIDDEN_BIT % 2048 != 2047 {
-        return false;
-    }
-    let fraction = p % HIDDEN_BIT;
-    if fraction == 0 {
-        return false;
-    }
-    fraction < QUIET_BIT
+    class_of(p) == Class::Nan && p % HIDDEN_BIT < QUIET_BIT
 }
 
-// The significand and the exponent of a finite pattern that is not a zero.
+// The significand and the exponent of a finite pattern that is not a zero. Three functions ask for such a pattern; a type for it would take a test more where the
+// classes have decided.
 pub(crate) fn significand(p: u64) -> Scaled
     requires { FiniteNonzero p }
     ensures { (result ≡ significand_of p) × (Normalized result) }
@@ -132,36 +135,15 @@ pub(crate) fn significand(p: u64) -> Scaled
     let exponent = p / HIDDEN_BIT % 2048;
     let fraction = p % HIDDEN_BIT;
     if exponent == 0 {
-        let s = shift_of(fraction);
-        return Scaled {
-            sig: fraction << s,
-            exp: (60 - s) as u64,
-        };
-    }
-    Scaled {
-        sig: (HIDDEN_BIT + fraction) * 256,
-        exp: exponent + 51,
-    }
-}
-
-// A refused answer.
-pub(crate) fn zeros(f: Refusal) -> Binary64
-    ensures { result ≡ binary64_zeros f }
-{
-    Binary64 {
-        refusal: f,
-        pattern: 0,
-        flags: 0,
-    }
-}
-
-// An answer that is not refused.
-pub(crate) fn values(x: Binary64Result) -> Binary64
-    ensures { result ≡ binary64_values x }
-{
-    Binary64 {
-        refusal: NO_REFUSAL,
-        pattern: x.pattern,
-        flags: x.flags as u64,
+        let shift = shift_of(fraction);
+        Scaled {
+            sig: fraction << shift,
+            exp: u64::from(60 - shift),
+        }
+    } else {
+        Scaled {
+            sig: (HIDDEN_BIT + fraction) * 256,
+            exp: exponent + 51,
+        }
     }
 }

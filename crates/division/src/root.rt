@@ -1,18 +1,18 @@
 // Square roots, a binary digit a step: of whole numbers, and of binary64 patterns with one rounding. No table is used.
-ghost use Rattle.std.specs.Prelude.{◌≡◌, ℕ, suc, ◌+◌, ◌-◌, ◌*◌, ◌^◌, ◌<◌, ◌≤◌, if◌then◌else◌};
-ghost use Rattle.selection.specs.computed.Refusals.{first_refusal};
+ghost use Rattle.std.specs.Prelude.{◌≡◌, ℕ, suc, ◌+◌, ◌-◌, ◌*◌, ◌^◌, ◌<◌, ◌≤◌};
 ghost use Rattle.division.specs.Format.{magnitude, FiniteNonzero};
-ghost use Rattle.division.specs.computed.RootSteps.{DigitsTaken, whole_root, finite_root, unless_negative, root_by_class, root_of};
-ghost use Rattle.division.specs.computed.RootCalls.{root_rules, root_values, root_whole_of, root_binary64_of};
+ghost use Rattle.division.specs.computed.Directions.{direction_number};
+ghost use Rattle.division.specs.computed.RootSteps.{DigitsTaken, finite_root, root_by_class, root_of};
+ghost use Rattle.division.specs.computed.RootCalls.{root_whole_of, root_binary64_of};
 
 use crate::format::{
-    Binary64, Binary64Result, ByClass, Class, INVALID, QUIET_NAN, SIGN_BIT, class_of, signalling,
+    Binary64, Binary64Result, Class, INVALID, QUIET_NAN, SIGN_BIT, class_of, signalling,
     significand,
 };
-use crate::rounding::{mode_of, rounded_result, with_sticky};
+use crate::rounding::{Aligned, Direction, with_sticky};
 use crate::whole::OPERAND_END;
-use selection::{Admission, NO_REFUSAL, REFUSED_TOO_LARGE, Refusal, refused};
-use std::num::wrapping_sub_u64;
+use selection::{NO_REFUSAL, Reason, Refusal};
+use std::hint::select_unpredictable;
 
 // The answer, as C sees it: the refusal (0: none) and its place, the root and the remainder, zeros where the call refuses.
 #[repr(C)]
@@ -31,15 +31,9 @@ struct RootState {
     unit: u64,
 }
 
-// One of two words; compiled, it is no branch.
-fn chosen(first: bool, x: u64, y: u64) -> u64
-    ensures { result ≡ (if first then x else y) }
-{
-    if first { x } else { y }
-}
-
 impl RootState {
-    // One digit more, of half the weight: 1 exactly if the trial fits, which the top bit of a wrapping difference tells.
+    // One digit more, of half the weight: 1 exactly if the trial fits, which the top bit of a wrapping difference tells. With `trial <= rest` in its place the
+    // compiler makes a branch on the digit.
     fn next(self) -> RootState
         requires { (self.rest < self.twice + self.unit) × (self.twice + 2 * self.unit ≤ 2 ^ 63) }
         ensures { (m k : ℕ) → DigitsTaken m (suc k) self → DigitsTaken m k result }
@@ -47,11 +41,11 @@ impl RootState {
         let half = self.unit / 2;
         let trial = self.twice + half;
         let rest = 2 * self.rest;
-        let less = wrapping_sub_u64(rest, trial);
-        let fits = less < 0x8000_0000_0000_0000;
+        let less = rest.wrapping_sub(trial);
+        let fits = less < SIGN_BIT;
         RootState {
-            twice: self.twice + chosen(fits, self.unit, 0),
-            rest: chosen(fits, less, rest),
+            twice: self.twice + select_unpredictable(fits, self.unit, 0),
+            rest: select_unpredictable(fits, less, rest),
             unit: half,
         }
     }
@@ -67,28 +61,23 @@ fn root_digits(radicand: u64, first: u64, count: u64) -> RootState
         rest: radicand,
         unit: 1 << first,
     };
-    let mut left = count;
-    while 0 < left {
+    for _ in 0..count {
         state = state.next();
-        left -= 1;
     }
     state
 }
 
-fn refusal_of(a: u64) -> Admission
-    ensures { result ≡ first_refusal (root_rules a) }
+// The whole root of a, and what is left of a: 30 digits of the root of a * 2^60. The answer is made here alone, so it has no `From`.
+pub fn root_whole(a: u64) -> Root
+    ensures { result ≡ root_whole_of a }
 {
     if OPERAND_END <= a {
-        return refused(REFUSED_TOO_LARGE);
+        return Root {
+            refusal: Reason::TooLarge.into(),
+            root: 0,
+            remainder: 0,
+        };
     }
-    Admission::Admitted
-}
-
-// An answer that is not refused: 30 digits of the root of a * 2^60.
-fn values(a: u64) -> Root
-    requires { a < 2 ^ 60 }
-    ensures { result ≡ root_values a (whole_root a) }
-{
     let state = root_digits(a, 60, 30);
     Root {
         refusal: NO_REFUSAL,
@@ -97,88 +86,56 @@ fn values(a: u64) -> Root
     }
 }
 
-// The whole root of a, and what is left of a.
-pub fn root_whole(a: u64) -> Root
-    ensures { result ≡ root_whole_of a }
-{
-    let admission = refusal_of(a);
-    match admission {
-        Admission::Refused(f) => Root {
-            refusal: f,
-            root: 0,
-            remainder: 0,
-        },
-        Admission::Admitted => values(a),
-    }
-}
-
 // The root of a finite number above 0. Its half units of 2^(e - 1074), e = (exp + 970) / 2, are the root of m = sig * 2^(exp % 2) * 2^46, which has 54 bits:
 // the first 54 digits of the root of m * 2^16.
-fn finite_root(p: u64, direction: u64) -> Binary64Result
-    requires { (FiniteNonzero p) × (direction ≤ 3) }
-    ensures { result ≡ finite_root direction (magnitude p) }
+fn finite_root(p: u64, direction: Direction) -> Binary64Result
+    requires { FiniteNonzero p }
+    ensures { result ≡ finite_root (direction_number direction) (magnitude p) }
 {
     let x = significand(p);
     let state = root_digits(x.sig << (x.exp % 2), 62, 54);
-    let quarters = with_sticky(state.twice / 512, state.rest);
-    let mode = mode_of(direction, false);
-    rounded_result(mode, false, (x.exp + 970) / 2, quarters / 4, quarters % 4)
-}
-
-// Invalid with a negative sign, else x.
-fn unless_negative(p: u64, x: ByClass) -> ByClass
-    ensures { result ≡ unless_negative p x }
-{
-    if SIGN_BIT <= p {
-        ByClass::Decided(Binary64Result {
-            pattern: QUIET_NAN,
-            flags: INVALID,
-        })
-    } else {
-        x
-    }
+    let root = Aligned {
+        exponent: (x.exp + 970) / 2,
+        quarters: with_sticky(state.twice / 512, state.rest),
+    };
+    root.rounded(direction, false)
 }
 
 // What the operand's class and its sign alone decide.
-fn by_class(p: u64) -> ByClass
+fn by_class(p: u64) -> Option<Binary64Result>
     ensures { result ≡ root_by_class p }
 {
-    let itself = ByClass::Decided(Binary64Result {
+    let itself = Binary64Result {
         pattern: p,
         flags: 0,
-    });
-    let class = class_of(p);
-    match class {
-        Class::Zero => itself,
-        Class::Subnormal => unless_negative(p, ByClass::Undecided),
-        Class::Normal => unless_negative(p, ByClass::Undecided),
-        Class::Infinite => unless_negative(p, itself),
-        Class::Nan => ByClass::Decided(Binary64Result {
+    };
+    match class_of(p) {
+        Class::Zero => Some(itself),
+        Class::Nan => Some(Binary64Result {
             pattern: QUIET_NAN,
             flags: if signalling(p) { INVALID } else { 0 },
         }),
+        _ if SIGN_BIT <= p => Some(Binary64Result {
+            pattern: QUIET_NAN,
+            flags: INVALID,
+        }),
+        Class::Infinite => Some(itself),
+        Class::Subnormal | Class::Normal => None,
     }
 }
 
 // The root of p in a direction.
-fn root_of(p: u64, direction: u64) -> Binary64Result
-    requires { direction ≤ 3 }
-    ensures { result ≡ root_of direction p }
+fn root_of(p: u64, direction: Direction) -> Binary64Result
+    ensures { result ≡ root_of (direction_number direction) p }
 {
-    let decided = by_class(p);
-    match decided {
-        ByClass::Decided(x) => x,
-        ByClass::Undecided => finite_root(p, direction),
-    }
+    by_class(p).unwrap_or_else(|| finite_root(p, direction))
 }
 
-// The pattern and the flags of the root of a in a direction.
+// The pattern and the flags of the root of a in a direction, whose number C hands in.
 pub fn root_binary64(a: u64, direction: u64) -> Binary64
     ensures { result ≡ root_binary64_of direction a }
 {
-    let admission = crate::rounding::refusal_of(direction);
-    match admission {
-        Admission::Refused(f) => crate::format::zeros(f),
-        Admission::Admitted => crate::format::values(root_of(a, direction)),
-    }
+    Direction::try_from(direction)
+        .map(|direction| root_of(a, direction))
+        .into()
 }

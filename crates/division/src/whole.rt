@@ -1,20 +1,35 @@
 // Whole-number division over the run.
-ghost use Rattle.std.specs.Prelude.{◌≡◌, ℕ, ◌^◌, ◌<◌, ◌≤◌, List};
-ghost use Rattle.selection.specs.Cell as Cell;
+ghost use Rattle.std.specs.Prelude.{◌≡◌, ◌^◌, ◌<◌, ◌≤◌, IfOk};
+ghost use Rattle.selection.specs.computed.Answer.{admission_in};
 ghost use Rattle.selection.specs.computed.Outcomes.{made_table};
-ghost use Rattle.selection.specs.Table.{Passes};
-ghost use Rattle.selection.specs.computed.Table.{row_bytes};
 ghost use Rattle.selection.specs.computed.Refusals.{first_refusal};
-ghost use Rattle.recurrence.specs.computed.Row.{Row};
-ghost use Rattle.division.specs.computed.WholeSteps.{DivisorShift, DigitCount, shifted_run, shifted_through, whole_through};
-ghost use Rattle.division.specs.computed.Whole.{whole_rules, whole_zeros, whole_values, whole_of};
+ghost use Rattle.division.specs.computed.WholeSteps.{WholeSpans, DivisorShift, DigitCount, WholeRunOf, whole_through};
+ghost use Rattle.division.specs.computed.Whole.{whole_rules, whole_numbers, whole_of};
 ghost use Rattle.selection.specs.declared.Estimate.TheVariants.{EightBits};
 
-use recurrence::RunResult;
-use selection::{Admission, NO_REFUSAL, REFUSED_BY_ZERO, REFUSED_TOO_LARGE, Refusal, refused};
+use recurrence::one_word::result_through;
+use recurrence::{Division, RunLength};
+use selection::passing::{KeptTable, Rows, passing};
+use selection::{NO_REFUSAL, Reason, Refusal};
 
 // Operands are below 2^60.
 pub(crate) const OPERAND_END: u64 = 0x1000_0000_0000_0000;
+
+// A dividend and a divisor in their spans.
+#[derive(Clone, Copy)]
+pub(crate) struct WholeOperands {
+    pub(crate) dividend: u64,
+    pub(crate) divisor: u64,
+    pub(crate) ghost in_span: { WholeSpans dividend divisor },
+}
+
+// The run of a division: its operands moved up, the divisor by `shift` bits, and its number of digits.
+#[derive(Clone, Copy)]
+pub(crate) struct WholeRun {
+    pub(crate) division: Division,
+    pub(crate) digits: RunLength,
+    pub(crate) shift: u32,
+}
 
 #[derive(Clone, Copy)]
 pub struct WholeResult {
@@ -31,126 +46,115 @@ pub struct Whole {
     pub remainder: u64,
 }
 
+impl From<Result<WholeResult, Refusal>> for Whole {
+    ghost from_gives = { λ answer whole. whole ≡ whole_numbers answer };
+
+    fn from(answer: Result<WholeResult, Refusal>) -> Whole {
+        match answer {
+            Ok(x) => Whole {
+                refusal: NO_REFUSAL,
+                quotient: x.quotient,
+                remainder: x.remainder,
+            },
+            Err(refusal) => Whole {
+                refusal,
+                quotient: 0,
+                remainder: 0,
+            },
+        }
+    }
+}
+
 // How far b is moved up, for its leading one to stand at bit 60.
 pub(crate) fn shift_of(b: u64) -> u32
     requires { (0 < b) × (b < 2 ^ 60) }
     ensures { DivisorShift b result }
 {
-    u64::leading_zeros(b) - 3
+    b.leading_zeros() - 3
 }
 
 // How many digits follow the first, where the divisor is moved up by s bits: as few as bring a, moved up the rest of the way, into the dividend's span.
-pub(crate) fn digits_after(a: u64, s: u32) -> u32
+fn digits_after(a: u64, s: u32) -> u32
     requires { (a < 2 ^ 60) × (s ≤ 60) }
     ensures { DigitCount a s result }
 {
-    let room = u64::leading_zeros(a) - 3;
-    if s <= room {
-        return 0;
+    let room = a.leading_zeros() - 3;
+    s.saturating_sub(room).div_ceil(2)
+}
+
+impl WholeOperands {
+    // The operands, or their refusal.
+    pub(crate) fn new(dividend: u64, divisor: u64) -> Result<WholeOperands, Refusal>
+        ensures refused { admission_in result ≡ first_refusal (whole_rules dividend divisor) }
+        ensures taken { IfOk result (λ x. (x.dividend ≡ dividend) × (x.divisor ≡ divisor)) }
+    {
+        if OPERAND_END <= dividend || OPERAND_END <= divisor {
+            return Err(Reason::TooLarge.into());
+        }
+        if divisor == 0 {
+            return Err(Reason::ByZero.into());
+        }
+        Ok(WholeOperands { dividend, divisor })
     }
-    (s - room + 1) / 2
-}
 
-// The run of a by a divisor moved up by s bits to d, through its row in a table that passes.
-fn shifted_run(row: &[u8], a: u64, d: u64, s: u32) -> RunResult
-    requires { (Row d row.now) × (a < 2 ^ 60) × (2 ^ 60 ≤ d) × (d < 2 ^ 61) × (s ≤ 60) }
-    ensures { (t : List ℕ) → Passes EightBits t → row.now ≡ row_bytes t (Cell.row d) → result ≡ shifted_run EightBits t a d s }
-{
-    let after = digits_after(a, s);
-    let n = a << (s - 2 * after);
-    let count = (after + 1) as usize;
-    recurrence::one_word::result_row(row, n, d, count)
-}
-
-// Its quotient, and its remainder moved down again.
-fn shifted(row: &[u8], a: u64, d: u64, s: u32) -> WholeResult
-    requires { (Row d row.now) × (a < 2 ^ 60) × (2 ^ 60 ≤ d) × (d < 2 ^ 61) × (s ≤ 60) }
-    ensures { (t : List ℕ) → Passes EightBits t → row.now ≡ row_bytes t (Cell.row d) → result ≡ shifted_through EightBits t a d s }
-{
-    let ran = shifted_run(row, a, d, s);
-    WholeResult {
-        quotient: ran.quotient,
-        remainder: ran.remainder >> s,
+    // Their run.
+    pub(crate) fn run(self) -> WholeRun
+        ensures { WholeRunOf self.dividend self.divisor result }
+    {
+        let shift = shift_of(self.divisor);
+        let after = digits_after(self.dividend, shift);
+        WholeRun {
+            division: Division {
+                dividend: self.dividend << (shift - 2 * after),
+                divisor: self.divisor << shift,
+            },
+            digits: RunLength {
+                count: after as usize + 1,
+            },
+            shift,
+        }
     }
-}
 
-// a / b through a table that passes.
-fn divide(table: &[u8], a: u64, b: u64) -> WholeResult
-    requires { (Passes EightBits table.now) × (a < 2 ^ 60) × (0 < b) × (b < 2 ^ 60) }
-    ensures { result ≡ whole_through EightBits table.now a b }
-{
-    let s = shift_of(b);
-    let d = b << s;
-    shifted(selection::table::row_of(table, d), a, d, s)
-}
-
-// The same through the kept table.
-pub(crate) fn divide_kept(a: u64, b: u64) -> WholeResult
-    requires { (a < 2 ^ 60) × (0 < b) × (b < 2 ^ 60) }
-    ensures { result ≡ whole_through EightBits (made_table EightBits) a b }
-{
-    let s = shift_of(b);
-    let d = b << s;
-    let row = selection::kept::kept_row(d);
-    shifted(&row, a, d, s)
-}
-
-// The first refusal of the arguments alone.
-fn refusal_of(a: u64, b: u64) -> Admission
-    ensures { result ≡ first_refusal (whole_rules a b) }
-{
-    if OPERAND_END <= a {
-        return refused(REFUSED_TOO_LARGE);
-    }
-    if OPERAND_END <= b {
-        return refused(REFUSED_TOO_LARGE);
-    }
-    if b == 0 {
-        return refused(REFUSED_BY_ZERO);
-    }
-    Admission::Admitted
-}
-
-// A refused answer.
-fn zeros(f: Refusal) -> Whole
-    ensures { result ≡ whole_zeros f }
-{
-    Whole {
-        refusal: f,
-        quotient: 0,
-        remainder: 0,
+    // Quotient and remainder, through a table that passes.
+    pub(crate) fn divide<T: Rows>(self, table: &T) -> WholeResult
+        ensures { result ≡ whole_through EightBits (T.table table.now) self.dividend self.divisor }
+    {
+        let run = self.run();
+        let ran = result_through(table, run.division, run.digits);
+        WholeResult {
+            quotient: ran.quotient,
+            remainder: ran.remainder >> run.shift,
+        }
     }
 }
 
-// An answer that is not refused.
-fn values(x: WholeResult) -> Whole
-    ensures { result ≡ whole_values x }
+// Quotient and remainder of a by b through a lent table, or the refusal.
+fn divided(table: &[u8], a: u64, b: u64) -> Result<WholeResult, Refusal>
+    ensures { whole_numbers result ≡ whole_of table.now a b }
 {
-    Whole {
-        refusal: NO_REFUSAL,
-        quotient: x.quotient,
-        remainder: x.remainder,
-    }
+    let operands = WholeOperands::new(a, b)?;
+    let table = passing(table)?;
+    Ok(operands.divide(&table))
 }
 
-// Quotient and remainder of a by b through a table.
+// The same through the kept table, for C's own call of it.
+fn divided_kept(a: u64, b: u64) -> Result<WholeResult, Refusal>
+    ensures { whole_numbers result ≡ whole_of (made_table EightBits) a b }
+{
+    let operands = WholeOperands::new(a, b)?;
+    Ok(operands.divide(&KeptTable))
+}
+
+// The answer through a lent table.
 pub fn divide_whole(table: &[u8], a: u64, b: u64) -> Whole
     ensures { result ≡ whole_of table.now a b }
 {
-    let admission = selection::table::admit_after(refusal_of(a, b), table);
-    match admission {
-        Admission::Refused(f) => zeros(f),
-        Admission::Admitted => values(divide(table, a, b)),
-    }
+    divided(table, a, b).into()
 }
 
-// The same through the kept table, which is known to pass: it is neither checked nor copied.
+// The answer through the kept table, for which C has a call: it is known to pass, and is neither checked nor copied.
 pub fn divide_whole_kept(a: u64, b: u64) -> Whole
     ensures { result ≡ whole_of (made_table EightBits) a b }
 {
-    let admission = refusal_of(a, b);
-    match admission {
-        Admission::Refused(f) => zeros(f),
-        Admission::Admitted => values(divide_kept(a, b)),
-    }
+    divided_kept(a, b).into()
 }

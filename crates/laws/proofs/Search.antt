@@ -1,7 +1,10 @@
 -- The first number that passes a test: the turns of a loop that looks for it, and what it is of a property that the test decides.
-use Rattle.laws.proofs.Basics.{◌≡◌, refl, sym, subst, Bool, true, false, cond, ◌⊎◌, inl, inr, ⊎_elim, ℕ, zero, suc, ◌+◌, ◌-◌, ◌≤◌, ◌<◌, min, arith, ltb, lt-ltb, le-ltb}
+use Rattle.laws.proofs.Basics.{◌≡◌, refl, sym, subst, ◌∙◌, Bool, true, false, cond, ◌⊎◌, inl, inr, ⊎_elim, ℕ, zero, suc, ◌+◌, ◌-◌, ◌≤◌, ◌<◌, min, arith, ltb, lt-ltb, le-ltb}
 use Rattle.laws.proofs.Tests.{by_cond, either, Decides}
 use native.Mathlib.Nat.{zero-add, add-zero, suc-add, eq-or-lt_of_le}
+use Rattle.std.specs.Prelude.{List, [], ◌∷◌, Some, None, length, get_or, position}
+use Rattle.std.specs.List.{position_or_len}
+use Rattle.std.proofs.lemmas.Bool.Decides.{nat_tests}
 use Rattle.laws.specs.Search.{First, first_from}
 
 module _ (f : ℕ → Bool) (i m : ℕ) where
@@ -65,3 +68,23 @@ pub first_below : {P : ℕ → Type 0} (f : ℕ → Bool) (m : ℕ) → ((k : �
 first_below f m d =
     let x = first_of f 0 m m (zero-add m) d in
     ⊎_elim (λ e. inl (e, λ k h. x.0 k (omega arith) (omega arith))) (λ y. inr (y.0, record { here = y.1; before = λ k h. x.0 k (omega arith) h })) x.1
+
+-- the library's search of a list, where f tests the places from i on as p does the entries
+module _ {X : Type 0} (p : X → Bool) (d : X) where
+  first_position : (f : ℕ → Bool) (i : ℕ) (xs : List X) → ((k : ℕ) → k < length xs → f (i + k) ≡ p (get_or xs k d)) → first_from f i (length xs) ≡ i + position_or_len p xs
+  unfolding first_from
+  first_position f i [] e = omega arith
+  first_position f i (x ∷ xs) e =
+      let here : f i ≡ p x = rw (← add-zero i) (e 0 (omega arith)) in
+      let rest = first_position f (i + 1) xs (λ k h. let s : i + 1 + k ≡ i + suc k = omega arith in rw s (e (suc k) (omega arith))) in
+      ⊎_elim (λ (t : p x ≡ true). rw (here, t) (omega arith)) (λ (t : p x ≡ false). rw (here, t, rest) (omega arith)) (either (p x))
+
+  module _ (f : ℕ → Bool) (xs : List X) (e : (k : ℕ) → k < length xs → f k ≡ p (get_or xs k d)) where
+    first_of_position : first_from f 0 (length xs) ≡ position_or_len p xs
+    first_of_position = first_position f 0 xs (λ k h. rw zero-add (e k h)) ∙ zero-add _
+
+    pub position_some : {k : ℕ} → position p xs ≡ Some k → (k ≡ first_from f 0 (length xs)) × (k < length xs)
+    position_some s = let e = first_of_position in grind (arith, nat_tests)
+
+    pub position_none : position p xs ≡ None → length xs ≤ first_from f 0 (length xs)
+    position_none s = let e = first_of_position in grind (arith, nat_tests)

@@ -4,32 +4,29 @@
 ghost use Rattle.std.specs.Prelude.{◌≡◌};
 ghost use Rattle.selection.specs.computed.Outcomes.{made_table};
 
-use printing::argument::{Asked, estimate_asked, word, word_count};
+use printing::argument::argument;
 use printing::output::write_output;
+use selection::maker::make_table;
 use selection::{Estimate, TABLE_LENGTH};
-use std::env::Env;
 
 fn made(estimate: Estimate) -> [u8; TABLE_LENGTH]
     ensures { result ≡ made_table estimate }
 {
     let mut table = [0u8; TABLE_LENGTH];
-    selection::maker::make_table(estimate, &mut table);
+    make_table(estimate, &mut table);
     table
 }
 
-// What the first argument asks for. A longer one does not fit, and is none.
-fn argument<E: Env>(environment: &E) -> Asked {
-    let mut first = [0u8; 1];
-    let length = word(environment, 1, &mut first);
-    estimate_asked(word_count(environment), &first[..length])
+fn run(rt: &HostRuntime) -> Result<(), &'static str> {
+    let estimate = argument(rt).ok_or("usage: maker [7|8] > TABLE\n")?;
+    if write_output(&mut rt.stdout(), &made(estimate)) < TABLE_LENGTH {
+        return Err("maker: not all was written\n");
+    }
+    Ok(())
 }
 
 fn main(rt: HostRuntime) {
-    let Asked::Of(estimate) = argument(&rt) else {
-        write_output(&mut rt.stderr(), b"usage: maker [7|8] > TABLE\n");
-        return;
-    };
-    if write_output(&mut rt.stdout(), &made(estimate)) != TABLE_LENGTH {
-        write_output(&mut rt.stderr(), b"maker: not all was written\n");
+    if let Err(message) = run(&rt) {
+        write_output(&mut rt.stderr(), message.as_bytes());
     }
 }

@@ -1,3 +1,3 @@
 pub mod Points
 pub mod BadCells
-pub mod MetCells
+pub mod Verdicts

@@ -18,7 +18,7 @@ pub record ShadeIs (n s : ℕ) : Type 0 where
 -- what the picture shows of cell k, where v is the list of visits
 -- § 19.5 `plot` shows visits by number and shade.
 pub record VisitsAt (v : List ℕ) (k : ℕ) (x : Visited) : Type 0 where
-  pub row : x.row ≡ k / 128
-  pub column : x.column ≡ k % 128
+  pub row : x.place.row ≡ k / 128
+  pub column : x.place.column ≡ k % 128
   pub point : PointIs EightBits (k / 128) (k % 128) x.in_range
   pub visits : x.visits ≡ get_or v k 0

@@ -8,113 +8,103 @@ mod print;
 mod visits;
 
 ghost use Rattle.std.specs.Prelude.{◌≤◌, ◌<◌};
-ghost use Rattle.selection.specs.Table.{Table};
 
-use printing::argument::{Asked, estimate_asked, word, word_count};
-use printing::input::read_input;
+use cells::{DrawnTable, Place};
+use picture::Edge;
+use print::Output;
+use printing::argument::{argument, word, word_count};
+use printing::input::{INPUT, read_input};
 use printing::output::write_output;
-use selection::table::Outcome;
+use selection::table::{DigitTable, Outcome};
 use selection::{Estimate, TABLE_LENGTH};
-use std::io::Stdout;
+use std::io;
+
+// What is drawn: each cell's digit for a divider with this estimate, or how often each cell is met.
+#[derive(Clone, Copy)]
+enum Plot {
+    Digits(Estimate),
+    Visits,
+}
 
 // Up to so many bad cells, each stretch of them in a row gets a ring.
 const FEW: u64 = 16;
 
-fn draw_cell(out: Stdout, estimate: Estimate, table: &[u8], k: usize) -> bool
-    requires { Table table.now × (k < 2048) }
-{
-    let cell = cells::cell_at(estimate, table, k);
-    if cells::is_drawn(cell.column) {
-        picture::print_cell(out, cell)
-    } else {
-        true
+// The mark of some bad cells that follow each other.
+fn mark(out: &mut Output, edge: Edge, ring: bool) -> io::Result<()> {
+    picture::print_mark(out, edge)?;
+    if ring {
+        picture::print_ring(out, edge)?;
     }
+    Ok(())
 }
 
-// The marks of a row's bad cells. The cell at the end of a stretch of them is none, so the next one starts past it.
-fn mark_row(out: Stdout, estimate: Estimate, table: &[u8], row: usize, rings: bool) -> bool
-    requires { Table table.now × (row ≤ 15) }
-{
-    let mut from: usize = 0;
-    while from < 128 {
-        let end = cells::bad_end(estimate, table, row, from);
-        if from < end && !mark(out, row as u64, from as u64, end as u64, rings) {
-            return false;
-        }
-        from = end + 1;
+// The marks of a row's bad cells from a place on. The next ones begin where the last ones end, which no range tells.
+fn mark_row(out: &mut Output, drawn: &DrawnTable, start: Place, rings: bool) -> io::Result<()> {
+    let mut column = start.column;
+    while let Some(edge) = drawn.next_bad(start.in_column(column)) {
+        mark(out, edge, rings)?;
+        column = edge.end;
     }
-    true
+    Ok(())
 }
 
-fn mark(out: Stdout, row: u64, from: u64, end: u64, ring: bool) -> bool
-    requires { (row ≤ 15) × (from < end) × (end ≤ 112) }
-{
-    picture::print_mark(out, row, from, end) && (!ring || picture::print_ring(out, row, from, end))
-}
-
-fn draw_cells(out: Stdout, estimate: Estimate, table: &[u8]) -> bool
-    requires { Table table.now }
-{
+fn draw_cells(out: &mut Output, drawn: &DrawnTable) -> io::Result<()> {
     for k in 0..TABLE_LENGTH {
-        if !draw_cell(out, estimate, table, k) {
-            return false;
+        let cell = drawn.cell(Place::of(k));
+        if let Some(edge) = cell.place.edge() {
+            picture::print_cell(out, &cell, edge)?;
         }
     }
-    true
+    Ok(())
 }
 
 // The marks come last, above all cells and lines.
-fn draw_marks(out: Stdout, estimate: Estimate, table: &[u8], rings: bool) -> bool
-    requires { Table table.now }
-{
+fn draw_marks(out: &mut Output, drawn: &DrawnTable, rings: bool) -> io::Result<()> {
     for row in 0..16 {
-        if !mark_row(out, estimate, table, row, rings) {
-            return false;
-        }
+        mark_row(out, drawn, Place { row, column: 0 }, rings)?;
     }
-    true
+    Ok(())
 }
 
-// All of the picture after its head.
-fn draw_table(out: Stdout, estimate: Estimate, table: &[u8], count: u64) -> bool
-    requires { Table table.now }
-{
-    draw_cells(out, estimate, table)
-        && picture::print_frame(out)
-        && draw_marks(out, estimate, table, count <= FEW)
-        && picture::print_axes(out)
-        && picture::print_legend(out)
+fn print_digits_start(out: &mut Output, estimate: Estimate) -> io::Result<()> {
+    let bits = match estimate {
+        Estimate::SevenBits => "seven",
+        Estimate::EightBits => "eight",
+    };
+    picture::print_start(
+        out,
+        format_args!("P-D plot of a table of quotient digits, by {bits} bits"),
+        format_args!("P-D plot by {bits} bits: the quotient digit in each cell of the table"),
+    )
 }
 
-fn print_digits_start(out: Stdout, estimate: Estimate) -> bool {
-    match estimate {
-        Estimate::SevenBits => picture::print_start(
-            out,
-            b"P-D plot of a table of quotient digits, by seven bits",
-            b"P-D plot by seven bits: the quotient digit in each cell of the table",
-        ),
-        Estimate::EightBits => picture::print_start(
-            out,
-            b"P-D plot of a table of quotient digits, by eight bits",
-            b"P-D plot by eight bits: the quotient digit in each cell of the table",
-        ),
+// A table, by what the check says of it.
+fn draw_table(out: &mut Output, drawn: &DrawnTable) -> io::Result<()> {
+    print_digits_start(out, drawn.estimate)?;
+    let report = drawn.table.check(drawn.estimate);
+    match report.outcome {
+        Outcome::Passed => picture::print_passed(out)?,
+        Outcome::Bad(cell) => picture::print_bad(out, report.count, cell)?,
+    }
+    draw_cells(out, drawn)?;
+    picture::print_frame(out)?;
+    draw_marks(out, drawn, report.count <= FEW)?;
+    picture::print_axes(out)?;
+    picture::print_legend(out)
+}
+
+// What is no table gets the two lines of a refusal.
+fn draw_digits(out: &mut Output, estimate: Estimate, bytes: &[u8]) -> io::Result<()> {
+    match DigitTable::new(bytes) {
+        Ok(table) => draw_table(out, &DrawnTable { estimate, table }),
+        Err(refusal) => picture::print_refusal(out, refusal),
     }
 }
 
-// The check tells a table, passed or bad, from what gets the two lines of a refusal.
-fn draw(out: Stdout, estimate: Estimate, bytes: &[u8]) -> bool {
-    let report = selection::table::check_table(estimate, bytes);
-    let outcome = report.outcome;
-    match outcome {
-        Outcome::Passed => print_digits_start(out, estimate)
-            && picture::print_passed(out)
-            && draw_table(out, estimate, bytes, 0),
-        Outcome::Bad(cell) => {
-            print_digits_start(out, estimate)
-                && picture::print_bad(out, report.count, cell.row, cell.column)
-                && draw_table(out, estimate, bytes, report.count)
-        }
-        Outcome::Refused(refusal) => picture::print_refusal(out, refusal),
+fn draw(out: &mut Output, plot: Plot, bytes: &[u8]) -> io::Result<()> {
+    match plot {
+        Plot::Digits(estimate) => draw_digits(out, estimate, bytes),
+        Plot::Visits => visits::draw_visits(out, bytes),
     }
 }
 
@@ -125,40 +115,24 @@ fn asks_visits(rt: &HostRuntime) -> bool {
     &first[..length] == b"visits".as_slice()
 }
 
-fn draw_asked(out: Stdout, estimate: Estimate, bytes: &[u8], of_visits: bool) -> bool {
-    if of_visits {
-        return visits::draw_visits(out, bytes);
+fn asked(rt: &HostRuntime) -> Option<Plot> {
+    if word_count(rt) == 2 && asks_visits(rt) {
+        Some(Plot::Visits)
+    } else {
+        argument(rt).map(Plot::Digits)
     }
-    draw(out, estimate, bytes)
 }
 
-// What the first argument asks for. A longer one does not fit, and is none.
-fn argument(rt: &HostRuntime) -> Asked {
-    let mut first = [0u8; 1];
-    let length = word(rt, 1, &mut first);
-    estimate_asked(word_count(rt), &first[..length])
+// A read that fails is told, since a table read in part would look too short, and so is a write: a picture cut short lacks its marks.
+fn run(rt: &HostRuntime) -> Result<(), &'static str> {
+    let plot = asked(rt).ok_or("usage: plot [7|8|visits] < TABLE\n")?;
+    let mut bytes = [0u8; INPUT];
+    let count = read_input(&mut rt.stdin(), &mut bytes).map_err(|_| "plot: not all was read\n")?;
+    draw(&mut Output(rt.stdout()), plot, &bytes[..count]).map_err(|_| "plot: not all was written\n")
 }
 
-// One byte more than a table has, so that a longer input is seen. A read that fails is told, since a table read in part would look too short, and so is
-// a write: a picture cut short lacks its marks.
 fn main(rt: HostRuntime) {
-    let of_visits = word_count(&rt) == 2 && asks_visits(&rt);
-    let mut estimate = Estimate::EightBits;
-    if !of_visits {
-        let Asked::Of(e) = argument(&rt) else {
-            write_output(&mut rt.stderr(), b"usage: plot [7|8|visits] < TABLE\n");
-            return;
-        };
-        estimate = e;
-    }
-    let mut bytes = [0u8; 2049];
-    let input = read_input(&mut rt.stdin(), &mut bytes);
-    if input.failed {
-        write_output(&mut rt.stderr(), b"plot: not all was read\n");
-        return;
-    }
-    let count = input.count;
-    if !draw_asked(rt.stdout(), estimate, &bytes[..count], of_visits) {
-        write_output(&mut rt.stderr(), b"plot: not all was written\n");
+    if let Err(message) = run(&rt) {
+        write_output(&mut rt.stderr(), message.as_bytes());
     }
 }

@@ -1,17 +1,25 @@
-// How the picture is printed, piece by piece. Here and where it is drawn, the answer is whether all was written, and the first write
-// that fails is the last. No contract can say which bytes reach the system.
+// Standard output. No contract can say which bytes reach the system.
 use printing::output::write_output;
-use printing::text::append_number;
-use std::io::Stdout;
+use std::io::{Error, ErrorKind, Result, Stdout, Write};
 
-pub(crate) fn print_text(out: Stdout, text: &[u8]) -> bool {
-    let mut writer = out;
-    write_output(&mut writer, text) == text.len()
-}
+#[derive(Drop)]
+pub(crate) struct Output(pub(crate) Stdout);
 
-// A number in decimal, and what follows it.
-pub(crate) fn print_number(out: Stdout, number: u64, end: &[u8]) -> bool {
-    let mut digits = [0u8; 20];
-    let count = append_number(&mut digits, 0, number, b"");
-    print_text(out, &digits[..count]) && print_text(out, end)
+impl Write for Output {
+    fn write(&mut self, bytes: &[u8]) -> Result<usize> {
+        self.0.write(bytes)
+    }
+
+    fn flush(&mut self) -> Result<()> {
+        self.0.flush()
+    }
+
+    // A write that a signal interrupts is made again as often as `write_output` does it: `Write::write_all` would do it up to 2^64 times.
+    fn write_all(&mut self, bytes: &[u8]) -> Result<()> {
+        if write_output(&mut self.0, bytes) == bytes.len() {
+            Ok(())
+        } else {
+            Err(Error::from(ErrorKind::WriteZero))
+        }
+    }
 }

@@ -1,13 +1,14 @@
 // The picture of how often each cell is met: the visits of runs of 28 digits, of all pairs of operands of 6 significant bits.
-ghost use Rattle.std.specs.Prelude.{◌≤◌, ◌<◌, length, get_or};
-ghost use Rattle.laws.specs.Counting.{Tally};
+ghost use Rattle.std.specs.Prelude.{◌≡◌, ◌+◌, ◌*◌, nat_lt, count_by};
 ghost use Rattle.plot.specs.Visits.{ShadeIs, VisitsAt};
 
-use crate::cells::{has_point, is_drawn};
+use crate::cells::Place;
 use crate::picture;
-use crate::print::{print_number, print_text};
-use selection::{Estimate, TABLE_LENGTH};
-use std::io::Stdout;
+use crate::picture::Edge;
+use crate::print::Output;
+use selection::{Estimate, NO_REFUSAL, TABLE_LENGTH};
+use std::io;
+use std::io::Write;
 
 const BITS: u64 = 6;
 
@@ -16,120 +17,78 @@ const DIGITS: usize = 28;
 // What the picture shows of a cell: its place, whether it has a point, and its visits.
 #[derive(Clone, Copy)]
 struct Visited {
-    row: u64,
-    column: u64,
+    place: Place,
     in_range: bool,
     visits: u32,
 }
 
-fn visited_at(visits: &[u32], k: usize) -> Visited
-    requires { (2048 ≤ length visits.now) × (k < 2048) }
-    ensures { VisitsAt visits.now k result }
+fn visited_at(visits: &[u32; TABLE_LENGTH], place: Place) -> Visited
+    ensures { VisitsAt visits.now (128 * place.row + place.column) result }
 {
-    let row = (k / 128) as u64;
-    let column = (k % 128) as u64;
     Visited {
-        row,
-        column,
-        in_range: has_point(Estimate::EightBits, row, column),
-        visits: visits[k],
+        place,
+        in_range: place.has_point(Estimate::EightBits),
+        visits: visits[place.index()],
     }
 }
 
-// The shade of a number of visits: 1 from 1 on, 2 from 8 on, and so on from 16, 32, 64 and 128 on; 0 for none.
-fn shade_of(visits: u32) -> u64
+// The shade of a number of visits; 0 for none. A number, since the style's class of a shade is its number.
+fn shade_of(visits: u32) -> u8
     ensures { ShadeIs visits result }
 {
-    if visits < 1 {
-        return 0;
+    match visits {
+        0 => 0,
+        1..=7 => 1,
+        8..=15 => 2,
+        16..=31 => 3,
+        32..=63 => 4,
+        64..=127 => 5,
+        _ => 6,
     }
-    if visits < 8 {
-        return 1;
-    }
-    if visits < 16 {
-        return 2;
-    }
-    if visits < 32 {
-        return 3;
-    }
-    if visits < 64 {
-        return 4;
-    }
-    if visits < 128 {
-        return 5;
-    }
-    6
 }
 
-fn print_class(out: Stdout, cell: Visited) -> bool {
+// The class of a cell, by its visits or by why it has none.
+fn print_class(out: &mut Output, cell: Visited) -> io::Result<()> {
     if 0 < cell.visits {
-        return print_text(out, b"v") && print_number(out, shade_of(cell.visits), b"' ");
-    }
-    if cell.in_range {
-        return print_text(out, b"never' ");
-    }
-    print_text(out, b"none' ")
-}
-
-// What a browser shows of a cell under the pointer.
-fn print_title(out: Stdout, cell: Visited) -> bool {
-    print_text(out, b"><title>row ")
-        && print_number(out, cell.row, b", column ")
-        && print_number(out, cell.column, b", visits: ")
-        && print_number(out, cell.visits as u64, b"")
-        && (cell.in_range || print_text(out, b", out of range"))
-        && print_text(out, b"</title></path>\n")
-}
-
-fn print_visited(out: Stdout, cell: Visited) -> bool
-    requires { (cell.row ≤ 15) × (cell.column < 112) }
-{
-    print_text(out, b"<path class='")
-        && print_class(out, cell)
-        && picture::print_edge(out, cell.row, cell.column, cell.column + 1)
-        && print_title(out, cell)
-}
-
-fn draw_visited(out: Stdout, visits: &[u32], k: usize) -> bool
-    requires { (2048 ≤ length visits.now) × (k < 2048) }
-{
-    let cell = visited_at(visits, k);
-    if is_drawn(cell.column) {
-        print_visited(out, cell)
+        write!(out, "v{}", shade_of(cell.visits))
+    } else if cell.in_range {
+        out.write_all(b"never")
     } else {
-        true
+        out.write_all(b"none")
     }
 }
 
-fn draw_all(out: Stdout, visits: &[u32]) -> bool
-    requires { 2048 ≤ length visits.now }
-{
+// A cell, and what a browser shows of it under the pointer.
+fn print_visited(out: &mut Output, cell: Visited, edge: Edge) -> io::Result<()> {
+    out.write_all(b"<path class='")?;
+    print_class(out, cell)?;
+    write!(out, "' {edge}>")?;
+    let place = cell.place;
+    write!(out, "<title>row {}, column {}, ", place.row, place.column)?;
+    let range = if cell.in_range { "" } else { ", out of range" };
+    writeln!(out, "visits: {}{range}</title></path>", cell.visits)
+}
+
+fn draw_cells(out: &mut Output, visits: &[u32; TABLE_LENGTH]) -> io::Result<()> {
     for k in 0..TABLE_LENGTH {
-        if !draw_visited(out, visits, k) {
-            return false;
+        let cell = visited_at(visits, Place::of(k));
+        if let Some(edge) = cell.place.edge() {
+            print_visited(out, cell, edge)?;
         }
     }
-    true
+    Ok(())
 }
 
 // How many cells are met.
-fn count_met(visits: &[u32]) -> u64
-    requires { 2048 ≤ length visits.now }
-    ensures { Tally (λ k. 0 < get_or visits.now k 0) 2048 result }
+fn count_met(visits: &[u32; TABLE_LENGTH]) -> usize
+    ensures { result ≡ count_by (λ n. nat_lt 0 n) visits.now }
 {
-    let mut met: u64 = 0;
-    for k in 0..TABLE_LENGTH {
-        if 0 < visits[k] {
-            met += 1;
-        }
-    }
-    met
+    visits.iter().filter(|count| 0 < **count).count()
 }
 
 // The shades, from light to dark, and stripes for a cell that is never met; the line below the heading.
-fn print_shades(out: Stdout, met: u64) -> bool {
-    print_text(
-        out,
+fn print_shades(out: &mut Output, met: usize) -> io::Result<()> {
+    out.write_all(
         b"<style>\n\
         .v1{fill:#fdf3b8}.v2{fill:#fbd97c}.v3{fill:#f5a54f}.v4{fill:#dd5f3c}.v5{fill:#a92a50}.v6{fill:#4d1259}\n\
         .never{fill:url(#stripes)}.none{fill:#efefef}\n\
@@ -139,12 +98,12 @@ fn print_shades(out: Stdout, met: u64) -> bool {
         </pattern></defs>\n\
         <text x='100' y='60' font-size='16'>28 digits of each of the 1,024 pairs of operands of 6 significant bits: \
         28,672 digits, taken at ",
-    ) && print_number(out, met, b" cells.</text>\n<g class='cells'>\n")
+    )?;
+    writeln!(out, "{met} cells.</text>\n<g class='cells'>")
 }
 
-fn print_legend(out: Stdout) -> bool {
-    print_text(
-        out,
+fn print_legend(out: &mut Output) -> io::Result<()> {
+    out.write_all(
         b"<text x='836' y='96' font-weight='bold'>visits of a cell</text>\n\
         <path class='v6' d='M836 106h34v20h-34z'/><text x='880' y='121'>128 or more</text>\n\
         <path class='v5' d='M836 133h34v20h-34z'/><text x='880' y='148'>64 to 127</text>\n\
@@ -154,28 +113,28 @@ fn print_legend(out: Stdout) -> bool {
         <path class='v1' d='M836 241h34v20h-34z'/><text x='880' y='256'>1 to 7</text>\n\
         <path class='never' d='M836 268h34v20h-34z'/><text x='880' y='283'>never met</text>\n\
         <path class='none' d='M836 295h34v20h-34z'/><text x='880' y='310'>out of range</text>\n",
-    ) && picture::print_line_keys(out)
+    )?;
+    picture::print_line_keys(out)
 }
 
-fn draw_picture(out: Stdout, visits: &[u32]) -> bool
-    requires { 2048 ≤ length visits.now }
-{
+fn draw_picture(out: &mut Output, visits: &[u32; TABLE_LENGTH]) -> io::Result<()> {
     picture::print_start(
         out,
-        b"P-D plot of the visits of a table's cells",
-        b"P-D plot: how often each cell of the table is met",
-    ) && print_shades(out, count_met(visits))
-        && draw_all(out, visits)
-        && picture::print_frame(out)
-        && picture::print_axes(out)
-        && print_legend(out)
+        "P-D plot of the visits of a table's cells",
+        "P-D plot: how often each cell of the table is met",
+    )?;
+    print_shades(out, count_met(visits))?;
+    draw_cells(out, visits)?;
+    picture::print_frame(out)?;
+    picture::print_axes(out)?;
+    print_legend(out)
 }
 
 // What the call refuses gets the two lines of a refusal.
-pub(crate) fn draw_visits(out: Stdout, bytes: &[u8]) -> bool {
+pub(crate) fn draw_visits(out: &mut Output, bytes: &[u8]) -> io::Result<()> {
     let mut visits = [0u32; TABLE_LENGTH];
     let refusal = recurrence::visits::count_visits(bytes, BITS, DIGITS, &mut visits);
-    if 0 < refusal.number {
+    if refusal != NO_REFUSAL {
         return picture::print_refusal(out, refusal);
     }
     draw_picture(out, &visits)

@@ -2,7 +2,7 @@
 use Rattle.laws.proofs.Basics.{◌≡◌, refl, ap, ◌∙◌, List, [], ◌∷◌, ◌++◌, ⊎_elim, ℕ, zero, suc, ◌+◌, ◌*◌, ◌-◌, ◌/◌, ◌%◌, ◌^◌, ◌≤◌, ◌<◌, arith, ltb, ltb→lt, nltb→le, lt-ltb, le-ltb, length, get_or, negsuc}
 use Rattle.laws.proofs.Tests.{by_cond}
 use Prim.Native.Char.{code}
-use native.Mathlib.{Decide.{dec_lt}, Nat.{eq-zero-or-pos, pow-suc, one-le-pow, pow-le-pow_right, lt_of_not-le}}
+use native.Mathlib.{Nat.{eq-zero-or-pos, pow-suc, one-le-pow}}
 use Rattle.io.specs.Digits.{last_digits, IsDigitCount, hex_digit_ascii}
 use Rattle.printing.specs.Text.{decimal_upto, decimal_of, spelled_after, DecimalText, signed_of}
 
@@ -20,10 +20,6 @@ decimal_digits (suc (suc k)) (suc most) n f h =
     let q : 10 ≤ n = omega (arith, pow-suc 10 k, one-le-pow k 10 (omega arith)) in
     let rest : IsDigitCount 10 1 (n / 10) (suc k) = (omega arith, omega (arith, f.1, pow-suc 10 (suc k)), λ j. rw (less_one k) (omega (arith, pow-suc 10 k))) in
     ap (λ (l : List ℕ). l ++ (hex_digit_ascii (n % 10) ∷ [])) (decimal_digits (suc k) most (n / 10) rest (omega arith)) ∙ rw (le-ltb n 10 q, lt-ltb (n % 10) 10 (omega arith))
-
-pub decimal_count : (k n : ℕ) → IsDigitCount 10 1 n k → n < 2 ^ 64 → k ≤ 20
-decimal_count k n f h =
-    elim (dec_lt k 21) [ yes l ↦ omega arith | no m ↦ absurd (omega (arith, f.2 (omega (arith, lt_of_not-le m)), pow-le-pow_right {n = 10} (omega arith) {i = 20} {j = k - 1} (omega (arith, lt_of_not-le m)))) ]
 
 -- what `io::decimal` makes of n is n in decimal
 -- § 19.1 Numbers are printed in decimal.

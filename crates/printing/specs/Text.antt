@@ -1,5 +1,5 @@
 -- Text as the list of its bytes: the specification, section 19.1: values in decimal, and the two lines of a refusal.
-use Rattle.std.specs.Prelude.{◌≡◌, cond, List, [], ◌∷◌, ◌++◌, ℕ, zero, suc, ◌+◌, ◌*◌, ◌-◌, ◌/◌, ◌%◌, ◌≤◌, ◌<◌, ltb, ℤ, pos, negsuc, length, get_or, take, drop}
+use Rattle.std.specs.Prelude.{◌≡◌, cond, List, [], ◌∷◌, ◌++◌, ℕ, zero, suc, ◌+◌, ◌*◌, ◌-◌, ◌/◌, ◌%◌, ◌≤◌, ◌<◌, ltb, ℤ, pos, negsuc, length, get_or, drop}
 use Prim.Native.Char.{code}
 use Prim.Native.String.{String, [] as []ˢ, ◌∷◌ as ◌∷ˢ◌}
 use Rattle.selection.specs.declared.Refusal.{Refusal}
@@ -9,10 +9,24 @@ abbrev pub ascii : String → List ℕ
 ascii []ˢ = []
 ascii (c ∷ˢ s) = code c ∷ ascii s
 
--- s' is the buffer s with the text x from the index `at` on and all its other bytes, and r is the index past the text
-pub record Appended (s : List ℕ) (at : ℕ) (x s' : List ℕ) (r : ℕ) : Type 0 where
-  pub past : r ≡ at + length x
-  pub bytes : s' ≡ take at s ++ x ++ drop (at + length x) s
+-- a buffer with a text at its start: the text, and the bytes behind it
+pub record Filled : Type 0 where
+  pub text : List ℕ
+  pub rest : List ℕ
+
+-- no text, and room for n bytes
+pub record Empty (s : Filled) (n : ℕ) : Type 0 where
+  pub none : s.text ≡ []
+  pub room : n ≤ length s.rest
+
+-- the buffer s with the bytes x behind its text, in the place of as many bytes. All other bytes stay as they were
+abbrev pub pushed : Filled → List ℕ → Filled
+pushed s x = record { text = s.text ++ x; rest = drop (length x) s.rest }
+
+-- s' is the buffer s with the text x, of at most `most` bytes, behind its text
+pub record Adds (s : Filled) (x : List ℕ) (most : ℕ) (s' : Filled) : Type 0 where
+  pub is : s' ≡ pushed s x
+  pub room : length s.rest ≤ length s'.rest + most
 
 -- the decimal digits of n, if there are at most `most`: of a number below 10 its one digit, and of another those of n / 10 and then n % 10
 unfoldable pub decimal_upto : ℕ → ℕ → List ℕ

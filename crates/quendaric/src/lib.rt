@@ -1,6 +1,7 @@
 // The C interface: thin exports of the three layers and of the averages. A slice is a pointer and a length; an answer comes back as the layer's own struct.
 // tools/prototypes makes answers and calls of include/quendaric.h from here: the comment of an export is that of its call, the comment of a `use` that of the answer.
 // An export whose answer is a mere refusal says behind `->` how C names it, and at its first call what it then tells.
+// C hands in directions and numbers of bits as numbers, and has names of their own for the calls through the kept table and for those by a number of bits.
 #![tactic(auto)]
 
 ghost use Rattle.std.specs.Prelude.{◌≡◌};

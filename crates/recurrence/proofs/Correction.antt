@@ -6,7 +6,7 @@ use Rattle.laws.proofs.{Diff.{diff, diffs, diff_sub}, Division.{quotient}, Tests
 use Rattle.std.proofs.Common.{add-zero}
 use Rattle.recurrence.specs.{Recurrence.{after, digits, value, corrected_quotient, corrected_remainder, end_remainder, result_of}, computed.Run.{longest}, computed.FastRun.{result_from_word}}
 use Rattle.recurrence.specs.{computed.Recheck.{exact_result}, computed.OnTheFly.{PairOf}, declared.RunResult.{RunResult}}
-use Rattle.recurrence.proofs.{Steps.{biased, below_word}, Digits.{divisor_after}, Invariant.{Meets, fits_word, Invariant, word_after, quarter}, Pair.{word_one}}
+use Rattle.recurrence.proofs.{Steps.{biased, below_word}, Invariant.{Meets, fits_word, Invariant, word_after, quarter}, Pair.{word_one}}
 use Rattle.selection.specs.declared.Estimate.{Estimate}
 
 -- S and M − S·D, corrected, are Q and R
@@ -114,8 +114,8 @@ module _ (E : Estimate) where
 
     -- the code's chooses one of the last pair
     pub result_from_pair : 1 ≤ n → n ≤ longest → PairOf (value (digits E t N D n)) (after E t N D n)
-        → result_from_word (after E t N D n).value (after E t N D n).decremented (after E t N D n).divisor last_word_value n ≡ result_of E t N D n
+        → result_from_word (after E t N D n).value (after E t N D n).decremented D last_word_value n ≡ result_of E t N D n
     result_from_pair h m c =
         let w = word_after E t N D k in
         let e : S ≡ (after E t N D n).value = word_one S _ (fits_word w m) (rw k.makes at c.value) in
-        rw (divisor_after E) (result_from_word_law w h last_word e c.one_apart c.decremented.word ∙ sym (exact_result_law h))
+        result_from_word_law w h last_word e c.one_apart c.decremented.word ∙ sym (exact_result_law h)

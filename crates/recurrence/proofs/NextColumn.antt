@@ -1,10 +1,10 @@
 -- The estimate ahead: the column of the next words, from the top bits of these words and of the multiple.
-use Rattle.laws.proofs.{Basics.{◌≡◌, refl, ap, ◌∙◌, List, ℕ, ◌+◌, ◌-◌, ◌*◌, ◌/◌, ◌%◌, ◌^◌, ◌≤◌, ◌<◌, arith, lit<, ltb, get_or}, Counting.{bit_most}, Words.{same_mod, mod_sum}}
+use Rattle.laws.proofs.{Basics.{◌≡◌, refl, ap, ◌∙◌, List, ℕ, zero, suc, add-one, ◌+◌, ◌-◌, ◌*◌, ◌/◌, ◌%◌, ◌^◌, ◌≤◌, ◌<◌, arith, lit<, ltb, get_or}, Counting.{bit_most}, Words.{same_mod, mod_sum}}
 use native.Mathlib.Nat.{mod-add-mod, add-mod-mod}
 use lib.Bits.{bit_and, bit_xor, and_high}
 use Rattle.selection.{proofs.DigitBytes.{up_to_four}, specs.Cell.{column}, specs.declared.Estimate.{Estimate}, specs.declared.Estimate.TheVariants.{SevenBits, EightBits}}
 use Rattle.recurrence.specs.{CarrySave.{sum3, maj3, multiple, lowest_carry}, Recurrence.{State, step_by}}
-use Rattle.recurrence.specs.computed.FastRun.{run_state_of, state_of, StepReady, top_bits_of, divisor_multiples, all_top_bits, mask_of, masked_multiples, masked_top_bits, column_ahead, renewed}
+use Rattle.recurrence.specs.computed.FastRun.{MultiplesOf, run_state_of, state_of, top_bits_of, divisor_multiples, all_top_bits, mask_of, masked_multiples, masked_top_bits, column_ahead, renewed}
 use Rattle.recurrence.specs.declared.state.RunState.{RunState}
 use Rattle.recurrence.proofs.{CarrySave.{tops, majority}, Pair.{by_digit}}
 
@@ -123,24 +123,39 @@ column_ahead_law EightBits p d h =
 carry_word : (m k : ℕ) → (m % 2 ^ 64 * 2 % 2 ^ 64 + k) * 4 % 2 ^ 64 ≡ (m * 2 + k) * 4 % 2 ^ 64
 carry_word m k = same_mod _ _ (2 ^ 64) (8 * (m / 2 ^ 64) + 4 * (m % 2 ^ 64 * 2 / 2 ^ 64)) 0 (omega arith)
 
--- one for the bytes 3 and 4
-pub lowest_at : (d : ℕ) → d ≤ 4 → (d + 5) / 8 ≡ lowest_carry d
-lowest_at = up_to_four (λ d. (d + 5) / 8 ≡ lowest_carry d) refl refl refl refl refl
+-- what the code reads for the next column gives it
+column_code : {E : Estimate} {D : ℕ} {ms : List ℕ} {mask tops : ℕ} → MultiplesOf E D ms mask tops → (p : RunState) (d : ℕ) → d ≤ 4
+    → column_ahead mask tops d p.sum p.carry ≡ column E (step_by d (state_of D p)).sum (step_by d (state_of D p)).carry
+column_code {E} {D} m p d h = rw (m.tops_is, m.mask_is, m.multiples) (column_ahead_law E (state_of D p) d h)
 
 -- the words, the column and the pair that the code forms are those of the step
-pub step_code : {ms : List ℕ} (p : RunState) (d : ℕ) → d ≤ 4 → StepReady ms p
+pub step_code : {E : Estimate} {D : ℕ} {ms : List ℕ} {mask tops : ℕ} → MultiplesOf E D ms mask tops → (p : RunState) (d : ℕ) → d ≤ 4
     → ◌≡◌ {A = RunState} (record {
       sum = bit_xor (bit_xor p.sum p.carry) (get_or ms d 0) * 4 % 2 ^ 64;
       carry = ((bit_and p.sum p.carry + bit_and (bit_xor p.sum p.carry) (get_or ms d 0)) % 2 ^ 64 * 2 % 2 ^ 64 + lowest_carry d) * 4 % 2 ^ 64;
-      divisor = p.divisor;
-      tops = p.tops;
-      column = column_ahead (2 ^ 64 - 2 ^ 53) p.tops d p.sum p.carry;
+      column = column_ahead mask tops d p.sum p.carry;
       digit = d;
       value = renewed (d + 2) p.value p.decremented;
       decremented = renewed (d + 1) p.value p.decremented;
-    }) (run_state_of (step_by d (state_of p)))
-step_code {ms} p d b r =
-    let x : get_or ms d 0 ≡ multiple d p.divisor = rw r.multiples (multiple_at p.divisor d b) in
-    let l : p.tops * 2 ^ (9 * d) % 2 ^ 64 / 2 ^ 55 ≡ top_bits_of (get_or ms d 0) = rw r.tops (top_bits_at ms d b) in
-    let c = by_digit p.value p.decremented d b in
-    rw (majority, carry_word, ahead p.sum p.carry (get_or ms d 0) (lowest_carry d) _ (carry_small d) l, x, c.value, c.decremented, r.tops, r.multiples)
+    }) (run_state_of E (step_by d (state_of D p)))
+step_code {D = D} m p d h =
+    let c = by_digit p.value p.decremented d h in
+    rw (column_code m p d h, m.multiples, multiple_at D d h, majority, carry_word, c.value, c.decremented)
+
+-- the top bits of the first n multiples, as the code puts them together
+pub tops_upto : List ℕ → ℕ → ℕ
+tops_upto ms zero = 0
+tops_upto ms (suc n) = tops_upto ms n * 512 % 2 ^ 64 + top_bits_of (get_or ms n 0)
+
+pub tops_none : (ms : List ℕ) → 0 ≡ tops_upto ms 0
+unfolding tops_upto
+tops_none ms = refl
+
+pub tops_more : (ms : List ℕ) (n : ℕ) {t b : ℕ} → t ≡ tops_upto ms n → b ≡ top_bits_of (get_or ms n 0) → t * 512 % 2 ^ 64 + b ≡ tops_upto ms (n + 1)
+unfolding tops_upto
+tops_more ms n e f = rw (e, f, add-one) refl
+
+-- no bit is lost
+pub tops_all : (ms : List ℕ) → tops_upto ms 5 * 2 ^ 19 % 2 ^ 64 ≡ all_top_bits ms
+unfolding tops_upto
+tops_all ms = omega arith

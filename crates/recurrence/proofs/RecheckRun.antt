@@ -1,6 +1,7 @@
 -- Whether a wrong table affected a run: the refusals of the call, its answer, and that no other answer fits.
+use Rattle.std.specs.Prelude.{Ok}
 use Rattle.laws.proofs.Basics.{◌≡◌, refl, List, ℕ, arith, length}
-use Rattle.selection.{proofs.RefusalNames.{first_refusal, rank, WellFormed, refuses_one, refuses, cleared, clear_admits}, specs.declared.Admission.TheVariants.{Admitted}}
+use Rattle.selection.{proofs.RefusalNames.{first_refusal, rank, WellFormed, refuses_one, refuses, cleared, clear_admits}}
 use Rattle.selection.specs.declared.Estimate.{Estimate}
 use Rattle.recurrence.specs.{computed.Recheck.{affected_run_rules, mark_zeros, mark_values, AffectedRunAccepts, RunRechecks, run_mark, affected_run_of}, declared.recheck.AffectedMark.{AffectedMark}}
 use Rattle.recurrence.proofs.RightRuns.{wrong_decides, run_mark_right, mark_one}
@@ -13,11 +14,11 @@ module _ (len N D n : ℕ) where
   affected_run_rules_law = record { sound = (tt, λ _. (tt, λ _. (tt, λ _. tt))); in_order = tt }
 
   -- nothing is refused exactly if all is accepted
-  pub affected_run_accepts : first_refusal (affected_run_rules len N D n) ≡ Admitted → AffectedRunAccepts len N D n
+  pub affected_run_accepts : first_refusal (affected_run_rules len N D n) ≡ Ok tt → AffectedRunAccepts len N D n
   unfolding affected_run_rules
   affected_run_accepts e = let c = cleared affected_run_rules_law e in omega arith
 
-  pub affected_run_admits : AffectedRunAccepts len N D n → first_refusal (affected_run_rules len N D n) ≡ Admitted
+  pub affected_run_admits : AffectedRunAccepts len N D n → first_refusal (affected_run_rules len N D n) ≡ Ok tt
   unfolding affected_run_rules
   affected_run_admits x = clear_admits affected_run_rules_law (omega arith)
 

@@ -105,4 +105,4 @@ pair_demand = record {
 pub run_same : (t u : List ℕ) → Passes EightBits t → Passes EightBits u → (N D n : ℕ) (b : List ℕ) (place : ℕ) → (run_of t N D n b place).answer ≡ (run_of u N D n b place).answer
 run_same t u p q N D n b place =
     same_through EightBits (λ (x : RunOutcome). x.answer) (run_refused b) p q (run_rules N D n (length b) place)
-    (λ e. let s = spans N D n (length b) place e in ap run_values (results_same EightBits EightBits t u N D n p q s.operands s.some))
+    (λ e. let s = spans N D n (length b) place e in ap run_values (results_same EightBits EightBits t u N D n p q s.0 s.1))

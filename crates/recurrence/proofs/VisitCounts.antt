@@ -1,15 +1,15 @@
 -- The visits of all runs: the answer of the call, and what is claimed of it.
 use Rattle.laws.{proofs.Basics.{◌≡◌, refl, sym, ap, ◌∙◌, ◌↔◌, List, ◌++◌, ℕ, ◌+◌, ◌-◌, ◌*◌, ◌/◌, ◌^◌, ◌≤◌, ◌<◌, arith, length}, specs.Lists.{list_from}, proofs.Lists.{fill_right, filled_one}}
 use Rattle.laws.{specs.Sums.{sum_below}, proofs.Sums.{sum_as}}
+use Rattle.std.specs.Prelude.{Ok}
 use Rattle.std.proofs.Common.{div-lt_iff_lt-mul, div-add-mod', le-div_iff_mul-le}
 use native.Mathlib.Nat.{eq_of_mul-eq-mul_right, mul-mod_left}
-use Rattle.selection.proofs.RefusalNames.{Wrongs, first_refusal, rank, table_rules, WellFormed, clear, admits, refuses_one, refuses, none_clear, cleared, clear_admits, lent, passed_last}
-use Rattle.selection.specs.{declared.Admission.TheVariants.{Admitted}, computed.Allowed.{allows_of}, computed.Outcomes.{made_table, made_of}, Table.{Passes}, declared.Estimate.TheVariants.{EightBits}}
+use Rattle.selection.proofs.RefusalNames.{Wrongs, first_refusal, rank, table_rules, WellFormed, clear, admits, refuses_one, refuses, none_clear, clear_admits, lent, passed_last}
+use Rattle.selection.specs.{computed.Allowed.{allows_of}, computed.Outcomes.{made_table, made_of}, Table.{Passes}, declared.Estimate.TheVariants.{EightBits}}
 use Rattle.recurrence.specs.Recurrence.{next_of, after}
 use Rattle.recurrence.specs.computed.Visits.{is_at, run_visits, all_visits, visits_rules, VisitsOutcome, visits_refused, visits_of, Visits, Significant, OperandOnce, VisitsShown, VisitsDemand, VisitsExample}
 use Rattle.recurrence.proofs.VisitSums.{visits_claim}
-use Rattle.recurrence.specs.computed.VisitSteps.{VisitsSpans}
-use Rattle.recurrence.proofs.Visiting.{unit_some, placed_span, placed_bits}
+use Rattle.recurrence.proofs.Visiting.{unit_some, units, operand_span}
 
 -- ---- the call
 
@@ -22,13 +22,8 @@ module _ (k n len : ℕ) where
   unfolding visits_rules table_rules rank
   visits_lent t = lent EightBits (visits_rules k n len) t visits_rules_law tt
 
-  -- arguments without a refusal of their own are in their spans
-  pub visits_spans : first_refusal (visits_rules k n len) ≡ Admitted → VisitsSpans k n len
-  unfolding visits_rules
-  visits_spans e = let c = cleared visits_rules_law e in omega arith
-
-  -- and the other way round
-  visits_clear : 1 ≤ n → n ≤ 28 → 1 ≤ k → k ≤ 6 → 2048 ≤ len → first_refusal (visits_rules k n len) ≡ Admitted
+  -- arguments in their spans have no refusal of their own
+  visits_clear : 1 ≤ n → n ≤ 28 → 1 ≤ k → k ≤ 6 → 2048 ≤ len → first_refusal (visits_rules k n len) ≡ Ok tt
   unfolding visits_rules
   visits_clear some most h l r = clear_admits visits_rules_law (omega arith)
 
@@ -65,7 +60,7 @@ operands_once k N h l = (
       let m = 2 ^ (k - 1) in
       let unit = 2 ^ (61 - k) in
       let q = N / unit in
-      let r = (placed_bits k h l).reach in
+      let r = units k h l in
       let some = unit_some m unit r in
       let e : q * unit ≡ N = omega (arith, div-add-mod' N unit, s.zeros) in
       let low : m ≤ q = (le-div_iff_mul-le some).1 (omega (arith, r, s.least)) in
@@ -78,7 +73,7 @@ operands_once k N h l = (
         only = λ y g. let z : m + y ≡ q = eq_of_mul-eq-mul_right unit some (m + y) q (g ∙ sym e) in omega arith;
       },
   λ o.
-      let p = placed_span o.x (placed_bits k h l) o.bits in
+      let p = operand_span k h l o.x o.bits in
       rw (← o.is) (record { least = p.0; most = p.1; zeros = mul-mod_left (2 ^ (k - 1) + o.x) (2 ^ (61 - k)) }),
 )
 

@@ -5,8 +5,8 @@ use Rattle.laws.proofs.Counting.{bit_most, count_none, count_more}
 use Rattle.std.proofs.Common.{mul-le-mul_right, suc-mul, mul-lt-mul_of_pos_right}
 use lib.{Pow.{pow-add, pow_mono}, Seq.{get_or-set_same, get_or-set_other}}
 use Rattle.selection.{specs.Cell.{row}, proofs.Columns.{column_small}, specs.declared.Estimate.{Estimate}, specs.declared.Estimate.TheVariants.{EightBits}}
-use Rattle.recurrence.specs.{Recurrence.{State, cell_at, start_of, next_of, after}, computed.FastRun.{run_state_of, state_of}, computed.Visits.{is_at, run_visits, all_visits}}
-use Rattle.recurrence.specs.{computed.VisitSteps.{Added, Room, VisitsSpans, Placed, visits_by_divisors, visits_by_pairs}, declared.state.RunState.{RunState}}
+use Rattle.recurrence.specs.{Recurrence.{State, cell_at, start_of, next_of, after}, computed.FastRun.{Divider, run_state_of, state_of}, computed.Visits.{is_at, operand, run_visits, all_visits}}
+use Rattle.recurrence.specs.{computed.VisitSteps.{Added, Room, VisitsSpans}, declared.state.RunState.{RunState}}
 use Rattle.recurrence.proofs.{Digits.{divisor_after}, Loop.{stands_next}}
 
 -- ---- one cell
@@ -31,35 +31,32 @@ sum_at a m h =
 
 -- ---- what is added
 
--- the first j of m turns, each of which adds its F j
-pub record Turned (F : ℕ → ℕ → ℕ) (m : ℕ) (a b : List ℕ) (j : ℕ) : Type 0 where
-  pub within : j ≤ m
+-- after j turns, each of which adds its F j
+pub record Turned (F : ℕ → ℕ → ℕ) (a b : List ℕ) (j : ℕ) : Type 0 where
   pub added : Added (λ c. sum_below (λ j. F j c) j) a b
 
-module _ {F : ℕ → ℕ → ℕ} {m : ℕ} where
-  pub turned_none : (a : List ℕ) → Turned F m a a 0
-  unfolding sum_below
-  turned_none a = record { within = omega arith; added = record { size = refl; each = λ c h. omega arith; rest = λ c h. refl } }
+pub turned_none : {F : ℕ → ℕ → ℕ} (a : List ℕ) → Turned F a a 0
+unfolding sum_below
+turned_none a = record { added = record { size = refl; each = λ c h. omega arith; rest = λ c h. refl } }
 
-  module _ {a b : List ℕ} {j : ℕ} (x : Turned F m a b j) where
-    pub turned_more : {d : List ℕ} → j < m → Added (F j) b d → Turned F m a d (j + 1)
-    turned_more l y = record {
-      within = omega arith;
-      added = record {
-        size = y.size ∙ x.added.size;
-        each = λ c h. omega (arith, y.each c h, x.added.each c h, sum_more (λ j. F j c) j);
-        rest = λ c h. y.rest c h ∙ x.added.rest c h;
-      };
-    }
+module _ {F : ℕ → ℕ → ℕ} {a b : List ℕ} {j : ℕ} (x : Turned F a b j) where
+  pub turned_more : {d : List ℕ} → Added (F j) b d → Turned F a d (j + 1)
+  turned_more y =
+      let z = x.added in
+      record {
+        added = record {
+          size = y.size ∙ z.size;
+          each = λ c h. omega (arith, y.each c h, z.each c h, sum_more (λ j. F j c) j);
+          rest = λ c h. y.rest c h ∙ z.rest c h;
+        };
+      }
 
-    pub turned_all : m ≤ j → Added (λ c. sum_below (λ j. F j c) m) a b
-    turned_all h = let e : j ≡ m = omega (arith, x.within) in rw e at x.added
-
-    -- there is room for one more, if each adds at most s to a place
-    pub turned_room : {s : ℕ} → ((j c : ℕ) → F j c ≤ s) → j < m → Room (m * s) a → Room s b
-    turned_room {s} most h r =
-        let l : suc j * s ≤ m * s = mul-le-mul_right s h in
-        record { size = omega (arith, r.size, x.added.size); fits = λ c g. omega (arith, r.fits c g, x.added.each c g, sum_most (λ j. F j c) s j (λ i l. most i c), l, suc-mul j s) }
+  -- there is room for one more of m, if each adds at most s to a place
+  pub turned_room : {s m : ℕ} → ((j c : ℕ) → F j c ≤ s) → j < m → Room (m * s) a → Room s b
+  turned_room {s} {m} most h r =
+      let z = x.added in
+      let l : suc j * s ≤ m * s = mul-le-mul_right s h in
+      record { size = omega (arith, r.size, z.size); fits = λ c g. omega (arith, r.fits c g, z.each c g, sum_most (λ j. F j c) s j (λ i l. most i c), l, suc-mul j s) }
 
 -- one at one place
 pub added_one : (l : List ℕ) (a : ℕ) → a < 2048 → 2048 ≤ length l → Added (is_at a) l (set l a (get_or l a 0 + 1))
@@ -86,71 +83,55 @@ module _ (v : List ℕ) (h : 2048 ≤ length v) where
       })
       (fill_right f 2048 v h)
 
--- ---- all runs
+-- ---- the operands of k bits
 
 pub unit_some : (m u : ℕ) → m * u ≡ 2 ^ 60 → 0 < u
 unit_some m zero e = absurd (omega arith)
 unit_some m (suc u) e = omega arith
 
--- m units and fewer than m more are an operand
-pub placed_span : {m u : ℕ} (x : ℕ) → Placed m u → x < m → (2 ^ 60 ≤ (m + x) * u) × ((m + x) * u < 2 ^ 61)
-placed_span {m} {u} x p h =
-    let l : x * u < m * u = mul-lt-mul_of_pos_right h (unit_some m u p.reach) in
-    let e = p.reach in
-    (omega arith, omega arith)
+pub few_operands : (k : ℕ) → k ≤ 6 → 2 ^ (k - 1) ≤ 32
+few_operands k h = let l : k - 1 ≤ 5 = omega arith in omega (arith, pow_mono l)
 
--- ---- for k bits
+-- as the code forms it
+pub few_word : (k : ℕ) → k ≤ 6 → 1 * 2 ^ (k - 1) % 2 ^ 64 ≡ 2 ^ (k - 1)
+few_word k h = omega (arith, few_operands k h)
 
-pub product_most : (m n : ℕ) → m ≤ 32 → n ≤ 28 → m * (m * n) ≤ 28672
-product_most m n h l =
-    let a : m * (m * n) ≤ 32 * (m * n) = mul-le-mul_right (m * n) h in
-    let b : m * n ≤ 32 * n = mul-le-mul_right n h in
-    omega arith
+module _ (k : ℕ) (some : 1 ≤ k) (few : k ≤ 6) where
+  -- the units of an operand: as many as its leading one stands for reach bit 60
+  pub units : 2 ^ (k - 1) * 2 ^ (61 - k) ≡ 2 ^ 60
+  units = let e : k - 1 + (61 - k) ≡ 60 = omega arith in sym (pow-add 2 (k - 1) (61 - k)) ∙ ap (λ (j : ℕ). 2 ^ j) e
 
-pub few_bits : (k : ℕ) → k ≤ 6 → 2 ^ (k - 1) ≤ 32
-few_bits k h = let l : k - 1 ≤ 5 = omega arith in omega (arith, pow_mono l)
+  module _ (x : ℕ) (h : x < 2 ^ (k - 1)) where
+    pub operand_span : (2 ^ 60 ≤ operand k x) × (operand k x < 2 ^ 61)
+    operand_span =
+        let u : 2 ^ (k - 1) * 2 ^ (61 - k) ≡ 2 ^ 60 = units in
+        let l : x * 2 ^ (61 - k) < 2 ^ (k - 1) * 2 ^ (61 - k) = mul-lt-mul_of_pos_right h (unit_some (2 ^ (k - 1)) (2 ^ (61 - k)) u) in
+        (omega arith, omega arith)
 
-pub placed_bits : (k : ℕ) → 1 ≤ k → k ≤ 6 → Placed (2 ^ (k - 1)) (2 ^ (61 - k))
-placed_bits k h l = let e : k - 1 + (61 - k) ≡ 60 = omega arith in record { few = few_bits k l; reach = sym (pow-add 2 (k - 1) (61 - k)) ∙ ap (λ (j : ℕ). 2 ^ j) e }
-
--- a one that is moved up
-one_up : (j : ℕ) → j ≤ 60 → 1 * 2 ^ j % 2 ^ 64 ≡ 2 ^ j
-one_up j h = let l : 2 ^ j ≤ 2 ^ 60 = pow_mono h in omega arith
-
--- what the code of `visit_all` asks: for k bits, of the list v and its zeros l
-module _ {k n : ℕ} (v : List ℕ) {l : List ℕ} (r : VisitsSpans k n (length v)) (e : l ≡ filled (λ (c : ℕ). 0) 2048 v) where
-  first : 1 * 2 ^ (k - 1) % 2 ^ 64 ≡ 2 ^ (k - 1)
-  first = one_up (k - 1) (omega arith)
-
-  second : 1 * 2 ^ (61 - k) % 2 ^ 64 ≡ 2 ^ (61 - k)
-  second = one_up (61 - k) (omega arith)
-
-  pub bits_ready : let m = 1 * 2 ^ (k - 1) % 2 ^ 64 in Placed m (1 * 2 ^ (61 - k) % 2 ^ 64) × Room (m * (m * n)) l
-  bits_ready = rw (first, second, e) (placed_bits k r.some r.bits, room_cleared v r.room (omega (arith, product_most (2 ^ (k - 1)) n (few_bits k r.bits) r.digits)))
-
-  pub bits_done : (t : List ℕ) {w : List ℕ} → Added (visits_by_pairs t (1 * 2 ^ (k - 1) % 2 ^ 64) (1 * 2 ^ (61 - k) % 2 ^ 64) n) l w → w ≡ filled (all_visits t k n) 2048 v
-  unfolding visits_by_pairs visits_by_divisors all_visits
-  bits_done t x = added_cleared v r.room (rw (first, second, e) at x)
+    -- as the code forms it
+    pub operand_law : (1 * 2 ^ (k - 1) % 2 ^ 64 + x) * 2 ^ (61 - k) % 2 ^ 64 ≡ operand k x
+    operand_law =
+        rw (few_word k few) (omega (arith, operand_span.1))
 
 -- ---- a run
 
 pub cell_below : (E : Estimate) (p : State) → cell_at E p < 2048
 cell_below E p = omega (arith, column_small E p.sum p.carry)
 
-pub record Visited (t : List ℕ) (N D n : ℕ) (v₀ v : List ℕ) (state : RunState) (i : ℕ) : Type 0 where
-  pub stands : state ≡ run_state_of (after EightBits t N D i)
-  pub turned : Turned (λ j. is_at (cell_at EightBits (after EightBits t N D j))) n v₀ v i
+pub record Visited (t : List ℕ) (N D : ℕ) (v₀ v : List ℕ) (state : RunState) (i : ℕ) : Type 0 where
+  pub stands : state ≡ run_state_of EightBits (after EightBits t N D i)
+  pub turned : Turned (λ j. is_at (cell_at EightBits (after EightBits t N D j))) v₀ v i
 
-module _ (t : List ℕ) (N D n : ℕ) where
-  pub visited_none : (v : List ℕ) (p : RunState) → p ≡ run_state_of (start_of N D) → Visited t N D n v v p 0
+module _ (t : List ℕ) (N D : ℕ) where
+  pub visited_none : (v : List ℕ) (p : RunState) → p ≡ run_state_of EightBits (start_of N D) → Visited t N D v v p 0
   unfolding after
   visited_none v p e = record { stands = e; turned = turned_none v }
 
-  pub run_most : (c : ℕ) → run_visits t N D n c ≤ n
+  pub run_most : (n c : ℕ) → run_visits t N D n c ≤ n
   unfolding run_visits
-  run_most c = omega (arith, sum_most (λ i. is_at (cell_at EightBits (after EightBits t N D i)) c) 1 n (λ i h. at_most (cell_at EightBits (after EightBits t N D i)) c))
+  run_most n c = omega (arith, sum_most (λ i. is_at (cell_at EightBits (after EightBits t N D i)) c) 1 n (λ i h. at_most (cell_at EightBits (after EightBits t N D i)) c))
 
-  module _ {v₀ v : List ℕ} {p : RunState} {i start : ℕ} (x : Visited t N D n v₀ v p i) (s : start ≡ 128 * row D) where
+  module _ {v₀ v : List ℕ} {p : RunState} {i start : ℕ} (x : Visited t N D v₀ v p i) (s : start ≡ 128 * row D) where
     -- the index of the state's cell
     cell_is : start + p.column ≡ cell_at EightBits (after EightBits t N D i)
     cell_is = rw (x.stands, s, divisor_after EightBits t N D i) refl
@@ -158,21 +139,36 @@ module _ (t : List ℕ) (N D n : ℕ) where
     pub cell_small : start + p.column < 2048
     cell_small = rw cell_is (cell_below EightBits (after EightBits t N D i))
 
-    pub visited_more : {q : RunState} → i < n → 2048 ≤ length v₀ → q ≡ run_state_of (next_of EightBits t (state_of p))
-        → Visited t N D n v₀ (set v (start + p.column) (get_or v (start + p.column) 0 + 1)) q (i + 1)
-    visited_more l h e = record {
-      stands = stands_next EightBits t N D i x.stands e;
-      turned = rw cell_is (turned_more x.turned l (added_one v (cell_at EightBits (after EightBits t N D i)) (cell_below EightBits (after EightBits t N D i)) (omega (arith, x.turned.added.size))));
+    pub visited_more : {m : Divider} {q : RunState} → 2048 ≤ length v₀ → m ≡ record { estimate = EightBits; divisor = D } → q ≡ run_state_of m.estimate (next_of m.estimate t (state_of m.divisor p))
+        → Visited t N D v₀ (set v (start + p.column) (get_or v (start + p.column) 0 + 1)) q (i + 1)
+    visited_more h m e = record {
+      stands = stands_next EightBits t N D i x.stands m e;
+      turned = rw cell_is (turned_more x.turned (added_one v (cell_at EightBits (after EightBits t N D i)) (cell_below EightBits (after EightBits t N D i)) (omega (arith, x.turned.added.size))));
     }
 
-    pub visited_room : i < n → Room n v₀ → Room 1 v
-    visited_room h r = let e : n * 1 ≡ n = omega arith in turned_room x.turned (λ j. at_most (cell_at EightBits (after EightBits t N D j))) h (rw e r)
+    pub visited_room : {n : ℕ} → i < n → Room n v₀ → Room 1 v
+    visited_room {n} h r = let e : n * 1 ≡ n = omega arith in turned_room x.turned (λ j. at_most (cell_at EightBits (after EightBits t N D j))) h (rw e r)
 
-module _ (t : List ℕ) (m u n : ℕ) where
-  pub divisors_most : (N c : ℕ) → visits_by_divisors t m u n N c ≤ m * n
-  unfolding visits_by_divisors
-  divisors_most N c = sum_most (λ y. run_visits t N ((m + y) * u) n c) n m (λ y h. run_most t N ((m + y) * u) n c)
+-- ---- all runs of k bits
 
-  pub pairs_most : (c : ℕ) → visits_by_pairs t m u n c ≤ m * (m * n)
-  unfolding visits_by_pairs
-  pairs_most c = sum_most (λ x. visits_by_divisors t m u n ((m + x) * u) c) (m * n) m (λ x h. divisors_most ((m + x) * u) c)
+module _ (t : List ℕ) (k n : ℕ) where
+  -- those of one dividend
+  abbrev pub dividend_visits : ℕ → ℕ → ℕ
+  dividend_visits x c = sum_below (λ y. run_visits t (operand k x) (operand k y) n c) (2 ^ (k - 1))
+
+  pub dividend_most : (x c : ℕ) → dividend_visits x c ≤ 2 ^ (k - 1) * n
+  dividend_most x c = sum_most (λ y. run_visits t (operand k x) (operand k y) n c) n (2 ^ (k - 1)) (λ y h. run_most t (operand k x) (operand k y) n c)
+
+  pub all_most : k ≤ 6 → n ≤ 28 → (c : ℕ) → all_visits t k n c ≤ 28672
+  unfolding all_visits
+  all_most few l c =
+      let a : 2 ^ (k - 1) * (2 ^ (k - 1) * n) ≤ 32 * (2 ^ (k - 1) * n) = mul-le-mul_right (2 ^ (k - 1) * n) (few_operands k few) in
+      let b : 2 ^ (k - 1) * n ≤ 32 * n = mul-le-mul_right n (few_operands k few) in
+      omega (arith, sum_most (λ x. dividend_visits x c) (2 ^ (k - 1) * n) (2 ^ (k - 1)) (λ x h. dividend_most x c))
+
+-- room for all of them in zeros
+pub all_room : (k n : ℕ) (v : List ℕ) {l : List ℕ} → VisitsSpans k n (length v) → l ≡ filled (λ (c : ℕ). 0) 2048 v → Room (2 ^ (k - 1) * (2 ^ (k - 1) * n)) l
+all_room k n v r e =
+    let a : 2 ^ (k - 1) * (2 ^ (k - 1) * n) ≤ 32 * (2 ^ (k - 1) * n) = mul-le-mul_right (2 ^ (k - 1) * n) (few_operands k r.bits) in
+    let b : 2 ^ (k - 1) * n ≤ 32 * n = mul-le-mul_right n (few_operands k r.bits) in
+    rw e (room_cleared v r.room (omega (arith, r.digits)))

@@ -7,21 +7,17 @@ mod state;
 pub mod step;
 pub mod visits;
 
-ghost use Rattle.std.specs.Prelude.{◌≡◌, ℕ, ◌≤◌, List, length};
-ghost use Rattle.selection.specs.computed.Refusals.{first_refusal};
-ghost use Rattle.selection.specs.Cell as Cell;
-ghost use Rattle.selection.specs.Table.{Passes};
-ghost use Rattle.selection.specs.computed.Table.{row_bytes};
+ghost use Rattle.std.specs.Prelude.{◌≡◌, ◌+◌, ◌≤◌, length, Ok, IfOk};
+ghost use Rattle.selection.specs.computed.Answer.{admission_in};
+ghost use Rattle.selection.specs.computed.Refusals.{given, first_refusal};
 ghost use Rattle.selection.specs.computed.Outcomes.{made_table};
 ghost use Rattle.recurrence.specs.Recurrence.{Operands, digits, result_of};
-ghost use Rattle.recurrence.specs.computed.Row.{Row};
-ghost use Rattle.recurrence.specs.computed.Run.{longest, run_rules, RunSpans, run_zeros, run_values, run_done, run_of};
+ghost use Rattle.recurrence.specs.computed.Run.{longest, most_digits, span_rule, run_rules, run_numbers, run_done, run_of};
 ghost use Rattle.selection.specs.declared.Estimate.TheVariants.{EightBits};
 
-use crate::state::{RunState, divisor_multiples};
-use selection::{
-    Admission, NO_REFUSAL, REFUSED_DIGITS, REFUSED_ROOM, REFUSED_SPAN, Refusal, refused,
-};
+use crate::state::{DigitRow, Multiples, RunState};
+use selection::passing::{KeptTable, Rows, passing};
+use selection::{Estimate, NO_REFUSAL, Reason, Refusal};
 
 // The spans: a divisor is from 2^60 to 2^61 - 1, a dividend from 0 to 2^61 - 1.
 const DIVISOR_LEAST: u64 = 0x1000_0000_0000_0000;
@@ -34,14 +30,32 @@ const LONGEST: usize = 31;
 // The most digits that a caller may ask for.
 const MOST_DIGITS: usize = 28;
 
-// The answer, as C sees it: the refusal (0: none) and its place, quotient, remainder and number of digits, zeros where the run is refused.
-#[repr(C)]
+// A dividend and a divisor in their spans.
 #[derive(Clone, Copy)]
-pub struct Ran {
-    pub refusal: Refusal,
-    pub quotient: u64,
-    pub remainder: u64,
-    pub digits: u64,
+pub struct Division {
+    pub dividend: u64,
+    pub divisor: u64,
+    pub ghost in_span: { Operands dividend divisor },
+}
+
+impl Division {
+    // The division, where both are in their spans.
+    fn new(dividend: u64, divisor: u64) -> Result<Division, Refusal>
+        ensures refused { admission_in result ≡ given (span_rule dividend divisor) }
+        ensures taken { IfOk result (λ x. (x.dividend ≡ dividend) × (x.divisor ≡ divisor)) }
+    {
+        if divisor < DIVISOR_LEAST || OPERAND_MOST < divisor || OPERAND_MOST < dividend {
+            return Err(Reason::Span.into());
+        }
+        Ok(Division { dividend, divisor })
+    }
+}
+
+// The number of digits of a run: from 1 to 31.
+#[derive(Clone, Copy)]
+pub struct RunLength {
+    pub count: usize,
+    pub ghost in_span: { (1 ≤ count) × (count ≤ longest) },
 }
 
 // The order of the fields avoids a store-forwarding stall: a copy does not load quotient and remainder, which are stored one by one, as one piece.
@@ -52,75 +66,120 @@ pub struct RunResult {
     pub remainder: u64,
 }
 
-// One digit byte a step, in each byte of out, through the 128 bytes of the divisor's row in a table that passes.
-fn run_row(row: &[u8], dividend: u64, divisor: u64, out: &mut [u8]) -> RunResult
-    requires { (Row divisor row.now) × (Operands dividend divisor) × (1 ≤ length out.old) × (length out.old ≤ longest) }
-    ensures { (t : List ℕ) → Passes EightBits t → row.now ≡ row_bytes t (Cell.row divisor) → (out.new ≡ digits EightBits t dividend divisor (length out.old)) × (result ≡ result_of EightBits t dividend divisor (length out.old)) }
-{
-    let multiples = divisor_multiples(divisor);
-    let mut state = RunState::new(dividend, 0, divisor, &multiples);
-    let mut i = 0;
-    while i < out.len() {
-        state = state.next(row, &multiples);
-        out[i] = state.digit;
-        i += 1;
-    }
-    state.result(i)
+// The answer, as C sees it: the refusal (0: none) and its place, quotient, remainder and number of digits, zeros where the run is refused.
+#[repr(C)]
+#[derive(Clone, Copy)]
+pub struct Ran {
+    pub refusal: Refusal,
+    pub quotient: u64,
+    pub remainder: u64,
+    pub digits: u64,
 }
 
-// The answer, with n digits in the buffer from a place on.
-fn run_part(
-    row: &[u8],
+impl From<Result<RunResult, Refusal>> for Ran {
+    ghost from_gives = { λ answer ran. ran ≡ run_numbers answer };
+
+    fn from(answer: Result<RunResult, Refusal>) -> Ran {
+        match answer {
+            Ok(x) => Ran {
+                refusal: NO_REFUSAL,
+                quotient: x.quotient,
+                remainder: x.remainder,
+                digits: x.count as u64,
+            },
+            Err(refusal) => Ran {
+                refusal,
+                quotient: 0,
+                remainder: 0,
+                digits: 0,
+            },
+        }
+    }
+}
+
+// One digit byte a step, in each byte of out, through a table.
+fn run_row<T: Rows>(table: &T, division: Division, out: &mut [u8]) -> RunResult
+    requires { (1 ≤ length out.old) × (length out.old ≤ longest) }
+    ensures digits { out.new ≡ digits EightBits (T.table table.now) division.dividend division.divisor (length out.old) }
+    ensures result { result ≡ result_of EightBits (T.table table.now) division.dividend division.divisor (length out.old) }
+{
+    let row = DigitRow::of(table, division.divisor);
+    let multiples = Multiples::new(Estimate::EightBits, division.divisor);
+    let mut state = RunState::new(division.dividend, 0, &multiples);
+    for digit in out.iter_mut() {
+        state = state.next(&row, &multiples);
+        *digit = state.digit;
+    }
+    state.result(division, out.len())
+}
+
+// The result, with so many digits in the buffer from a place on.
+fn run_part<T: Rows>(
+    table: &T,
+    division: Division,
+    digits: RunLength,
+    buffer: &mut [u8],
+    place: usize,
+) -> RunResult
+    requires { place + digits.count ≤ length buffer.old }
+    ensures { record { answer = run_numbers (Ok result); buffer = buffer.new } ≡ run_done (T.table table.now) division.dividend division.divisor digits.count buffer.old place }
+{
+    let n = digits.count;
+    run_row(table, division, &mut buffer[place..place + n])
+}
+
+// The division that the arguments ask for, or their first refusal.
+#[tactic(auto, unfolding(crate::specs::computed::Run::run_rules))]
+fn arguments(
     dividend: u64,
     divisor: u64,
     n: usize,
-    buffer: &mut [u8],
+    len: usize,
     place: usize,
-) -> Ran
-    requires { (Row divisor row.now) × (RunSpans dividend divisor n (length buffer.old) place) }
-    ensures { (t : List ℕ) → Passes EightBits t → row.now ≡ row_bytes t (Cell.row divisor) → record { answer = result; buffer = buffer.new } ≡ run_done t dividend divisor n buffer.old place }
-{
-    values(run_row(row, dividend, divisor, &mut buffer[place..place + n]))
-}
-
-// The first refusal of the arguments alone.
-fn argument_refusal(dividend: u64, divisor: u64, n: usize, len: usize, place: usize) -> Admission
-    ensures { result ≡ first_refusal (run_rules dividend divisor n len place) }
+) -> Result<Division, Refusal>
+    ensures refused { admission_in result ≡ first_refusal (run_rules dividend divisor n len place) }
+    ensures taken { IfOk result (λ x. (x.dividend ≡ dividend) × (x.divisor ≡ divisor) × (1 ≤ n) × (n ≤ most_digits) × (place + n ≤ len)) }
 {
     if n == 0 || MOST_DIGITS < n {
-        return refused(REFUSED_DIGITS);
+        return Err(Reason::Digits.into());
     }
-    if divisor < DIVISOR_LEAST || OPERAND_MOST < divisor || OPERAND_MOST < dividend {
-        return refused(REFUSED_SPAN);
+    let division = Division::new(dividend, divisor)?;
+    if len.saturating_sub(place) < n {
+        return Err(Reason::Room.into());
     }
-    if len < place || len - place < n {
-        return refused(REFUSED_ROOM);
-    }
-    Admission::Admitted
+    Ok(division)
 }
 
-// A refused answer.
-fn zeros(f: Refusal) -> Ran
-    ensures { result ≡ run_zeros f }
+// The run through a lent table, or the first refusal.
+fn run_lent(
+    table: &[u8],
+    dividend: u64,
+    divisor: u64,
+    digits: usize,
+    buffer: &mut [u8],
+    place: usize,
+) -> Result<RunResult, Refusal>
+    ensures { record { answer = run_numbers result; buffer = buffer.new } ≡ run_of table.now dividend divisor digits buffer.old place }
 {
-    Ran {
-        refusal: f,
-        quotient: 0,
-        remainder: 0,
-        digits: 0,
-    }
+    let division = arguments(dividend, divisor, digits, buffer.len(), place)?;
+    let table = passing(table)?;
+    let digits = RunLength { count: digits };
+    Ok(run_part(&table, division, digits, buffer, place))
 }
 
-// An answer that is not refused.
-fn values(x: RunResult) -> Ran
-    ensures { result ≡ run_values x }
+// The same through the kept table, for C's own call of it. It is known to pass: only the arguments can be refused.
+fn run_through_kept(
+    dividend: u64,
+    divisor: u64,
+    digits: usize,
+    buffer: &mut [u8],
+    place: usize,
+) -> Result<RunResult, Refusal>
+    ensures { record { answer = run_numbers result; buffer = buffer.new } ≡ run_of (made_table EightBits) dividend divisor digits buffer.old place }
 {
-    Ran {
-        refusal: NO_REFUSAL,
-        quotient: x.quotient,
-        remainder: x.remainder,
-        digits: x.count as u64,
-    }
+    let division = arguments(dividend, divisor, digits, buffer.len(), place)?;
+    let digits = RunLength { count: digits };
+    Ok(run_part(&KeptTable, division, digits, buffer, place))
 }
 
 // Digits of dividend / divisor through a table, into the buffer from a place on.
@@ -134,27 +193,12 @@ pub fn run(
 ) -> Ran
     ensures { record { answer = result; buffer = buffer.new } ≡ run_of table.now dividend divisor digits buffer.old place }
 {
-    let arguments = argument_refusal(dividend, divisor, digits, buffer.len(), place);
-    let admission = selection::table::admit_after(arguments, table);
-    match admission {
-        Admission::Refused(f) => zeros(f),
-        Admission::Admitted => {
-            let row = selection::table::row_of(table, divisor);
-            run_part(row, dividend, divisor, digits, buffer, place)
-        }
-    }
+    run_lent(table, dividend, divisor, digits, buffer, place).into()
 }
 
-// The same through the kept table, which is known to pass.
+// The same through the kept table: C has a call for each table.
 pub fn run_kept(dividend: u64, divisor: u64, digits: usize, buffer: &mut [u8], place: usize) -> Ran
     ensures { record { answer = result; buffer = buffer.new } ≡ run_of (made_table EightBits) dividend divisor digits buffer.old place }
 {
-    let admission = argument_refusal(dividend, divisor, digits, buffer.len(), place);
-    match admission {
-        Admission::Refused(f) => zeros(f),
-        Admission::Admitted => {
-            let row = selection::kept::kept_row(divisor);
-            run_part(&row, dividend, divisor, digits, buffer, place)
-        }
-    }
+    run_through_kept(dividend, divisor, digits, buffer, place).into()
 }

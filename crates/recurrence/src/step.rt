@@ -1,15 +1,13 @@
 // One step of the run by itself, for a test bench: any two words, divisor and table are tested, and the step is the run's own.
-ghost use Rattle.std.specs.Prelude.{◌≡◌, ◌^◌, ◌<◌};
+ghost use Rattle.std.specs.Prelude.{◌≡◌, ◌^◌, ◌<◌, OnOk};
 ghost use Rattle.selection.specs.computed.Refusals.{first_refusal};
-ghost use Rattle.selection.specs.Table.{Passes};
-ghost use Rattle.recurrence.specs.Recurrence.{next_of, state_from};
-ghost use Rattle.recurrence.specs.computed.Step.{step_rules, step_zeros, step_values, step_of};
-ghost use Rattle.recurrence.specs.computed.FastRun.{run_state_of, state_of, distance_of};
-ghost use Rattle.selection.specs.declared.Estimate.TheVariants.{EightBits};
+ghost use Rattle.recurrence.specs.computed.Step.{step_rules, step_of};
+ghost use Rattle.recurrence.specs.computed.FastRun.{step_numbers};
 
-use crate::state::RunState;
-use selection::{Admission, NO_REFUSAL, REFUSED_RANGE, REFUSED_SPAN, Refusal, refused};
-use std::num::wrapping_add_u64;
+use crate::state::{DigitRow, Multiples, RunState};
+use crate::{DIVISOR_LEAST, OPERAND_MOST};
+use selection::passing::passing;
+use selection::{Estimate, NO_REFUSAL, Reason, Refusal, digit_of};
 
 // The answer, as C sees it: the refusal (0: none) and its place, the digit, from -2 to 2, and the next two words, zeros where the step is refused.
 #[repr(C)]
@@ -21,71 +19,57 @@ pub struct Stepped {
     pub carry: u64,
 }
 
-// How far a word, read as signed, is from zero.
-fn distance(word: u64) -> u64
-    ensures { result ≡ distance_of word }
-{
-    if word < crate::state::SIGN {
-        return word;
+impl From<Result<RunState, Refusal>> for Stepped {
+    ghost from_gives = { λ answer x. x ≡ step_numbers answer };
+
+    fn from(answer: Result<RunState, Refusal>) -> Stepped {
+        match answer {
+            Ok(state) => Stepped {
+                refusal: NO_REFUSAL,
+                digit: digit_of(state.digit),
+                sum: state.sum,
+                carry: state.carry,
+            },
+            Err(refusal) => Stepped {
+                refusal,
+                digit: 0,
+                sum: 0,
+                carry: 0,
+            },
+        }
     }
-    !word + 1
 }
 
 // The first refusal of a step's words and divisor. Three times the remainder is never formed: it would leave 64 bits.
-fn refusal_of(sum: u64, carry: u64, divisor: u64) -> Admission
-    ensures { result ≡ first_refusal (step_rules sum carry divisor) }
+#[tactic(auto, unfolding(crate::specs::computed::Step::step_rules))]
+fn refusal_of(sum: u64, carry: u64, divisor: u64) -> Result<(), Refusal>
+    ensures refused { result ≡ first_refusal (step_rules sum carry divisor) }
+    ensures taken { OnOk result (divisor < 2 ^ 61) }
 {
-    if divisor < crate::DIVISOR_LEAST || crate::OPERAND_MOST < divisor {
-        return refused(REFUSED_SPAN);
+    if divisor < DIVISOR_LEAST || OPERAND_MOST < divisor {
+        return Err(Reason::Span.into());
     }
-    if 8 * divisor / 3 < distance(wrapping_add_u64(sum, carry)) {
-        return refused(REFUSED_RANGE);
+    let remainder = sum.wrapping_add(carry).cast_signed();
+    if 8 * divisor / 3 < remainder.unsigned_abs() {
+        return Err(Reason::Range.into());
     }
-    Admission::Admitted
+    Ok(())
 }
 
-// One step through a table that passes.
-fn admitted(sum: u64, carry: u64, divisor: u64, table: &[u8]) -> RunState
-    requires { (Passes EightBits table.now) × (divisor < 2 ^ 61) }
-    ensures { result ≡ run_state_of (next_of EightBits table.now (state_from sum carry divisor)) }
+// The state after the step, or the first refusal.
+fn checked_step(sum: u64, carry: u64, divisor: u64, table: &[u8]) -> Result<RunState, Refusal>
+    ensures { step_numbers result ≡ step_of sum carry divisor table.now }
 {
-    let multiples = crate::state::divisor_multiples(divisor);
-    let row = selection::table::row_of(table, divisor);
-    RunState::new(sum, carry, divisor, &multiples).next(row, &multiples)
-}
-
-// A refused step.
-fn zeros(f: Refusal) -> Stepped
-    ensures { result ≡ step_zeros f }
-{
-    Stepped {
-        refusal: f,
-        digit: 0,
-        sum: 0,
-        carry: 0,
-    }
-}
-
-// The answer of a step that led to a state.
-fn values(p: RunState) -> Stepped
-    ensures { result ≡ step_values (state_of p) }
-{
-    Stepped {
-        refusal: NO_REFUSAL,
-        digit: selection::digit_of(p.digit),
-        sum: p.sum,
-        carry: p.carry,
-    }
+    refusal_of(sum, carry, divisor)?;
+    let table = passing(table)?;
+    let row = DigitRow::of(&table, divisor);
+    let multiples = Multiples::new(Estimate::EightBits, divisor);
+    Ok(RunState::new(sum, carry, &multiples).next(&row, &multiples))
 }
 
 // One step of the run from any two words and divisor, through a table.
 pub fn step(sum: u64, carry: u64, divisor: u64, table: &[u8]) -> Stepped
     ensures { result ≡ step_of sum carry divisor table.now }
 {
-    let arguments = refusal_of(sum, carry, divisor);
-    let admission = selection::table::admit_after(arguments, table);
-    match admission {
-        Admission::Refused(f) => zeros(f),
-        Admission::Admitted => values(admitted(sum, carry, divisor, table)),
-    }
+    checked_step(sum, carry, divisor, table).into()
 }

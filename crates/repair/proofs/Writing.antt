@@ -1,17 +1,13 @@
 -- What is written is the call's repair and its text; of an input that is read in part, as of all of it.
-use Rattle.laws.proofs.Basics.{◌≡◌, refl, sym, ap, subst, ◌∙◌, List, [], ◌++◌, ⊎_elim, ◌≢◌, ℕ, ◌+◌, ◌<◌, add-one, arith, length, get_or, take, length-take, replicate, length-replicate}
-use Rattle.laws.{specs.Lists.{list_from}, proofs.Lists.{list_length, fill_all}, proofs.Division.{le_or_lt}, specs.Counting.{count_below}, proofs.Comparisons.{equal}}
+use Rattle.laws.proofs.Basics.{◌≡◌, refl, sym, ap, subst, ◌∙◌, List, [], ⊎_elim, ◌≢◌, ℕ, ◌<◌, arith, length, take, length-take, replicate, length-replicate}
+use Rattle.laws.{specs.Lists.{list_from}, proofs.Lists.{fill_all}, proofs.Division.{le_or_lt}, specs.Counting.{count_below}, proofs.Comparisons.{equal}}
 use lib.Seq.{take_all}
-use Rattle.selection.{proofs.RefusalNames.{refusal, first_refusal}, specs.declared.Refusal.{Refusal}, specs.declared.Admission.TheVariants.{Admitted}, specs.computed.Allowed.{is_faulty}}
+use Rattle.selection.{proofs.RefusalNames.{refusal, first_refusal}, specs.declared.Refusal.{Refusal}, specs.computed.Allowed.{is_faulty}}
+use Rattle.std.specs.Prelude.{Ok}
 use Rattle.selection.specs.{Table.{Passes}, computed.Outcomes.{repaired_byte, repair_of}, computed.Repair.{repair_rules, RepairOutcome}}
 use Rattle.selection.{proofs.RepairAnswers.{repair_admits, length_refused, repair_told}, proofs.RepairDemand.{repair_demand}, specs.declared.Estimate.{Estimate}}
 use Rattle.printing.specs.Text.{decimal_upto, decimal_of, refusal_text}
-use Rattle.repair.specs.Changes.{cell_text, cells_upto, changes_text, Writes, WritesRead, LineExample}
-
--- one cell more
-pub cells_more : (t u : List ℕ) (k : ℕ) → cells_upto t u k ++ cell_text k (get_or t k 0) (get_or u k 0) ≡ cells_upto t u (k + 1)
-unfolding cells_upto
-cells_more t u k = rw add-one
+use Rattle.repair.specs.Changes.{changes_text, Writes, WritesRead, LineExample}
 
 -- § 19.4 A repair is printed whole.
 pub line_example : LineExample
@@ -21,7 +17,7 @@ line_example = record { changed = refl; same = refl }
 module _ (E : Estimate) where
   -- the call, by the table alone
   module _ (t rs cs : List ℕ) (h : length t ≡ 2048) (r : length rs ≡ 2048) (c : length cs ≡ 2048) where
-    admitted : first_refusal (repair_rules (length t) (length rs) (length cs)) ≡ Admitted
+    admitted : first_refusal (repair_rules (length t) (length rs) (length cs)) ≡ Ok tt
     admitted = repair_admits (length t) (length rs) (length cs) (record { repaired_room = omega arith; changed_room = omega arith; size = h })
 
     table_is : (repair_of E t rs cs).repaired ≡ list_from (repaired_byte E t) 0 2048
@@ -46,10 +42,6 @@ module _ (E : Estimate) where
 
     written_is : length t ≡ 2048 → x.repaired ≡ list_from (repaired_byte E t) 0 2048
     written_is h = ap (λ (z : RepairOutcome). z.repaired) k.outcome ∙ table_is t rs cs h k.table_room k.marks_room
-
-    -- a table that was repaired has 2,048 bytes, and so has its repair
-    pub sizes : x.answer.refusal.number ≡ 0 → (length t ≡ 2048) × (length x.repaired ≡ 2048)
-    sizes n = let h = size_is n in (h, ap length (written_is h) ∙ list_length (repaired_byte E t) 0 2048)
 
     -- § 19.4 `repair` writes the changes and the repaired table.
     pub writes_table : {y : List ℕ} → x.answer.refusal.number ≡ 0 → y ≡ changes_text E t x.repaired x.answer.count → Writes E t x.repaired y

@@ -2,149 +2,119 @@
 // adds as many bits as the argument says, 7 or 8 (8 where there is none).
 #![tactic(auto)]
 
-ghost use Rattle.std.specs.Prelude.{◌+◌, ◌*◌, ◌≤◌, ◌≡◌, length, take};
+ghost use Rattle.std.specs.Prelude.{◌*◌, ◌≤◌, length};
 ghost use Rattle.io.specs.Counts.{IsPrefixLen};
-ghost use Rattle.printing.specs.Text.{Appended};
+ghost use Rattle.printing.specs.Text.{Adds, Empty};
 ghost use Rattle.repair.specs.Changes.{cell_text, cells_upto, changes_text, Writes, WritesRead};
 
-use printing::argument::{Asked, estimate_asked, word, word_count};
-use printing::input::read_input;
+use printing::argument::argument;
+use printing::input::{INPUT, read_input};
 use printing::output::write_output;
-use printing::text::{append, append_number, append_refusal};
-use selection::bits::bits_of;
+use printing::text::Text;
 use selection::repair::repair_table;
-use selection::{Estimate, TABLE_LENGTH};
-use std::env::Env;
-
-// How much is to be written: bytes of the table and bytes of the text.
-#[derive(Clone, Copy)]
-struct Written {
-    table: usize,
-    text: usize,
-}
-
-// One byte more than a table has, so that a longer input is seen.
-const INPUT: usize = 2049;
+use selection::{Estimate, NO_REFUSAL, TABLE_LENGTH};
 
 // Room for the longest text: 20 bytes of names, 2,048 lines of four numbers, each of 20 digits and a byte behind it, and 59 bytes of the last line.
 const ROOM: usize = 172111;
 
 // The line of cell k, where `byte` was read back and `new` is the repaired table's: none if they are one.
-fn append_cell(out: &mut [u8], at: usize, k: usize, byte: u8, new: u8) -> usize
-    requires { at + 84 ≤ length out.old }
-    ensures appended { Appended out.old at (cell_text k byte new) out.new result }
-    ensures upper_bound { result ≤ at + 84 }
+#[tactic(auto, using(printing::proofs::Texts::pushed_pushed))]
+fn push_cell(out: &mut Text<ROOM>, k: usize, byte: u8, new: u8)
+    requires { 84 ≤ length out.old.rest }
+    ensures { Adds out.old (cell_text k byte new) 84 out.new }
 {
     if byte == new {
-        return at;
+        return;
     }
-    let after_row = append_number(out, at, (k / 128) as u64, b" ");
-    let after_column = append_number(out, after_row, (k % 128) as u64, b" ");
-    let after_byte = append_number(out, after_column, byte as u64, b" ");
-    append_number(out, after_byte, new as u64, b"\n")
+    out.push_number((k / 128) as u64, b" ");
+    out.push_number((k % 128) as u64, b" ");
+    out.push_number(u64::from(byte), b" ");
+    out.push_number(u64::from(new), b"\n");
 }
 
 // The lines of all cells, in index order.
-fn append_cells(out: &mut [u8], at: usize, table: &[u8], repaired: &[u8]) -> usize
-    requires { (length table.now ≡ 2048) × (length repaired.now ≡ 2048) × (at + 84 * 2048 ≤ length out.old) }
-    ensures appended { Appended out.old at (cells_upto table.now repaired.now 2048) out.new result }
-    ensures upper_bound { result ≤ at + 84 * 2048 }
+#[tactic(auto, using(printing::proofs::Texts::pushed_pushed, printing::proofs::Texts::adds_none), unfolding(crate::specs::Changes::cells_upto))]
+fn push_cells(out: &mut Text<ROOM>, table: &[u8; TABLE_LENGTH], repaired: &[u8; TABLE_LENGTH])
+    requires { 84 * 2048 ≤ length out.old.rest }
+    ensures { Adds out.old (cells_upto table.now repaired.now 2048) (84 * 2048) out.new }
 {
-    let mut next = at;
     for k in 0..TABLE_LENGTH {
-        next = append_cell(out, next, k, table[k], repaired[k]);
+        push_cell(out, k, table[k], repaired[k]);
     }
-    next
 }
 
 // The whole text of a repair.
-fn append_changes(
-    out: &mut [u8],
+fn push_changes(
+    out: &mut Text<ROOM>,
     estimate: Estimate,
-    table: &[u8],
-    repaired: &[u8],
+    table: &[u8; TABLE_LENGTH],
+    repaired: &[u8; TABLE_LENGTH],
     count: u64,
-) -> usize
-    requires { (length table.now ≡ 2048) × (length repaired.now ≡ 2048) × (172111 ≤ length out.old) }
-    ensures appended { Appended out.old 0 (changes_text estimate table.now repaired.now count) out.new result }
-    ensures upper_bound { result ≤ 172111 }
+)
+    requires { ROOM ≤ length out.old.rest }
+    ensures { Adds out.old (changes_text estimate table.now repaired.now count) ROOM out.new }
 {
-    let names = append(out, 0, b"row column byte new\n");
-    let cells = append_cells(out, names, table, repaired);
-    let changes = append(out, cells, b"changes ");
-    let counted = append_number(out, changes, count, b" for ");
-    append_number(out, counted, bits_of(estimate), b" bits\n")
+    out.push(b"row column byte new\n");
+    push_cells(out, table, repaired);
+    out.push(b"changes ");
+    out.push_number(count, b" for ");
+    out.push_number(u64::from(estimate), b" bits\n");
 }
 
-// All that is written for the bytes of an input.
-fn repair(
-    estimate: Estimate,
-    bytes: &[u8],
-    table: &mut [u8; TABLE_LENGTH],
-    text: &mut [u8; ROOM],
-) -> Written
-    ensures fact { (Writes estimate) bytes.now (take result.table table.new) (take result.text text.new) }
-    ensures prefix_len { IsPrefixLen result.table table.new × IsPrefixLen result.text text.new }
+// All that is written for the bytes of an input: the bytes of the repaired table, none for a refusal, and the text.
+fn repair(estimate: Estimate, bytes: &[u8], table: &mut Text<TABLE_LENGTH>, text: &mut Text<ROOM>)
+    requires { Empty table.old TABLE_LENGTH × Empty text.old ROOM }
+    ensures { (Writes estimate) bytes.now table.new.text text.new.text }
 {
+    let mut repaired = [0u8; TABLE_LENGTH];
     let mut changed = [0u8; TABLE_LENGTH];
-    let answer = repair_table(estimate, bytes, table, &mut changed);
-    if answer.refusal.number != 0 {
-        return Written {
-            table: 0,
-            text: append_refusal(text, 0, answer.refusal),
-        };
+    let answer = repair_table(estimate, bytes, &mut repaired, &mut changed);
+    if answer.refusal != NO_REFUSAL {
+        text.push_refusal(answer.refusal);
+        return;
     }
-    Written {
-        table: TABLE_LENGTH,
-        text: append_changes(text, estimate, bytes, table, answer.count),
-    }
+    table.push(&repaired);
+    // What is not refused has the length of a table.
+    let read_back = bytes.as_array().unwrap();
+    push_changes(text, estimate, read_back, &repaired, answer.count);
 }
 
 // The same for what was read of standard input: `count` bytes, all of it or as much as there is room for.
+// Buffer and count are two arguments, as WritesRead has them: a full buffer means that there may be more input.
 fn repair_input(
     estimate: Estimate,
     bytes: &[u8; INPUT],
     count: usize,
-    table: &mut [u8; TABLE_LENGTH],
-    text: &mut [u8; ROOM],
-) -> Written
-    requires { IsPrefixLen count bytes.now }
-    ensures fact { (WritesRead estimate) bytes.now count (take result.table table.new) (take result.text text.new) }
-    ensures prefix_len { IsPrefixLen result.table table.new × IsPrefixLen result.text text.new }
+    table: &mut Text<TABLE_LENGTH>,
+    text: &mut Text<ROOM>,
+)
+    requires { IsPrefixLen count bytes.now × (Empty table.old TABLE_LENGTH × Empty text.old ROOM) }
+    ensures { (WritesRead estimate) bytes.now count table.new.text text.new.text }
 {
-    let all: &[u8] = bytes;
-    repair(estimate, &all[..count], table, text)
-}
-
-// What the first argument asks for. A longer one does not fit, and is none.
-fn argument<E: Env>(environment: &E) -> Asked {
-    let mut first = [0u8; 1];
-    let length = word(environment, 1, &mut first);
-    estimate_asked(word_count(environment), &first[..length])
+    repair(estimate, &bytes[..count], table, text);
 }
 
 // A read or a write that fails is told. Where the text cannot be told, the table is not written: a repair is not handed on in silence.
-fn main(rt: HostRuntime) {
-    let Asked::Of(estimate) = argument(&rt) else {
-        write_output(
-            &mut rt.stderr(),
-            b"usage: repair [7|8] < TABLE > REPAIRED\n",
-        );
-        return;
-    };
+fn run(rt: &HostRuntime) -> Result<(), &'static str> {
+    let estimate = argument(rt).ok_or("usage: repair [7|8] < TABLE > REPAIRED\n")?;
     let mut bytes = [0u8; INPUT];
-    let input = read_input(&mut rt.stdin(), &mut bytes);
-    if input.failed {
-        write_output(&mut rt.stderr(), b"repair: not all was read\n");
-        return;
+    let count = read_input(&mut rt.stdin(), &mut bytes).map_err(|_| "repair: not all was read\n")?;
+    let mut table = Text::new();
+    let mut text = Text::new();
+    repair_input(estimate, &bytes, count, &mut table, &mut text);
+    let text = text.as_bytes();
+    if write_output(&mut rt.stderr(), text) < text.len() {
+        return Ok(());
     }
-    let mut table = [0u8; TABLE_LENGTH];
-    let mut text = [0u8; ROOM];
-    let written = repair_input(estimate, &bytes, input.count, &mut table, &mut text);
-    if write_output(&mut rt.stderr(), &text[..written.text]) != written.text {
-        return;
+    let table = table.as_bytes();
+    if write_output(&mut rt.stdout(), table) < table.len() {
+        return Err("repair: not all was written\n");
     }
-    if write_output(&mut rt.stdout(), &table[..written.table]) != written.table {
-        write_output(&mut rt.stderr(), b"repair: not all was written\n");
+    Ok(())
+}
+
+fn main(rt: HostRuntime) {
+    if let Err(message) = run(&rt) {
+        write_output(&mut rt.stderr(), message.as_bytes());
     }
 }

@@ -1,8 +1,9 @@
 -- The test of a cell says which digits are allowed, and which cells of a table are bad.
-use Rattle.laws.proofs.{Basics.{◌≡◌, refl, ap, Bool, true, false, not, cond, List, ◌⊎◌, inl, inr, ⊎_elim, ℕ, ◌+◌, ◌*◌, ◌/◌, ◌%◌, ◌≤◌, ◌<◌, ltb, ℤ, get_or}, Tests.{Decides, decides_yes, decides_no}}
+use Rattle.laws.proofs.{Basics.{◌≡◌, refl, Bool, true, false, not, cond, List, ◌⊎◌, inl, inr, ⊎_elim, ℕ, ◌+◌, ◌*◌, ◌/◌, ◌%◌, ◌≤◌, ◌<◌, ltb, ℤ, get_or}, Tests.{Decides, decides_yes, decides_no}}
+use Rattle.std.specs.Prelude.{Ok}
 use Rattle.selection.specs.{Cell.{Allows, Against, digit}, computed.Cell.{IsCell, CellChecked}, Table.{Table, BadAt}}
-use Rattle.selection.specs.computed.{CellTest.{RowOf, multiples_of, greatest_byte, allows_by, found_at, cell_verdict_of}, CellTest.Finding.{NoWitness}, Allowed.{allows_of, is_bad, is_bad_in}}
-use Rattle.selection.specs.declared.{cell.RowMultiples.{RowMultiples}, Estimate.{Estimate}}
+use Rattle.selection.specs.computed.{CellTest.{multiples_of, greatest_byte, allows_by, found_at, cell_verdict_of}, CellTest.Finding.{NoWitness}, Allowed.{allows_of, is_bad, is_bad_in}}
+use Rattle.selection.specs.declared.Estimate.{Estimate}
 use Rattle.selection.proofs.{BiasedPoints.{test_checked, not_allowed}, Tables.{cell_at, cell_row, cell_column}}
 
 module _ (E : Estimate) where
@@ -14,7 +15,7 @@ module _ (E : Estimate) where
   unfolding allows_of
   tells {r} {c} {b} k = go (allows_by (multiples_of E r) c b) (ltb (greatest_byte (multiples_of E r) c) b) (test_checked E k)
     where
-      go : (x y : Bool) → CellChecked E r c b (cell_verdict_of (cond x NoWitness (found_at E (multiples_of E r).smallest c b y))) → Told x r c b
+      go : (x y : Bool) → CellChecked E r c b (Ok (cell_verdict_of (cond x NoWitness (found_at E (multiples_of E r).smallest c b y)))) → Told x r c b
       go true y j = inl (refl, j.means.1)
       go false true j = inr (refl, _, _, j.means.1.against)
       go false false j = inr (refl, _, _, j.means.1.against)
@@ -30,7 +31,6 @@ module _ (E : Estimate) where
   pub bad_decides : {t : List ℕ} → Table t → (k : ℕ) → k < 2048 → Decides (BadAt E t k) (is_bad E t k)
   bad_decides {t} a k h = cell_decides t k (cell_at a k h)
 
--- by the multiples of a row
-pub bad_in_row : (t : List ℕ) {m : RowMultiples} (c : ℕ) → RowOf m → c ≤ 127 → not (allows_by m c (get_or t (128 * m.row + c) 0)) ≡ is_bad_in m.estimate t m.row c
-unfolding allows_of
-bad_in_row t {m} c o hc = rw (cell_row m.row c hc, cell_column m.row c hc) (ap (λ (n : RowMultiples). not (allows_by n c (get_or t (128 * m.row + c) 0))) o.is)
+  -- in a row
+  pub bad_in_row : (t : List ℕ) (r c : ℕ) → c ≤ 127 → not (allows_of E r c (get_or t (128 * r + c) 0)) ≡ is_bad_in E t r c
+  bad_in_row t r c hc = rw (cell_row r c hc, cell_column r c hc) refl

@@ -1,10 +1,10 @@
 -- The specification's points over the integers, and those over natural numbers, are the same: P is W - 2^63.
-use Rattle.laws.proofs.{Basics.{◌≡◌, sym, ap, ◌∙◌, ◌⊎◌, inl, inr, ⊎_elim, ◌↔◌, ℕ, ◌+◌, ◌*◌, ◌-◌, ◌%◌, ◌^◌, ◌≤◌, ◌<◌, arith, ltb, ltb→lt, nltb→le, ℤ, pos, ◌-ℤ◌, ◌*ℤ◌}, Tests.{by_cond}}
+use Rattle.laws.proofs.{Basics.{◌≡◌, sym, ap, ◌∙◌, ◌⊎◌, inl, inr, ⊎_elim, ◌↔◌, ℕ, ◌+◌, ◌*◌, ◌-◌, ◌%◌, ◌^◌, ◌≤◌, arith, ltb, ltb→lt, nltb→le, ℤ, pos, ◌-ℤ◌, ◌*ℤ◌}, Tests.{by_cond}}
+use Rattle.std.specs.Prelude.{Ok, Err}
 use Rattle.laws.proofs.{Diff.{diff, diffs, diff_sub, diff_eq}, Division.{le_or_lt}, Words.{same_mod}}
-use mir.{Syntax.{w64}, Val.{SFits}}
 use Rattle.selection.specs.{Word.{signed, Within}, Cell.{Point, Keeps, Allows, Against, digit}, computed.Cell.{IsCell, cell_rules, CellChecked, CellMeaning}}
 use Rattle.selection.specs.computed.{CellTest.{Finding, multiples_of, test_of, cell_verdict_of}, CellTest.Finding.{NoWitness, LeastAt}, Answer.{answer_by}, Refusals.{Wrongs, rank, IsFirstRefusal}}
-use Rattle.selection.specs.{computed.Outcomes.{cell_of}, declared.CellVerdict.TheVariants.{Refused}, declared.Estimate.{Estimate}}
+use Rattle.selection.specs.{computed.Outcomes.{cell_of}, declared.Estimate.{Estimate}}
 use Rattle.selection.proofs.{Rules.{WellFormed, by_first}, RuleByRule.{none_clear, clear_none, clear_admits}, BreakingPoints.{BiasedPoint, Low, High, Breaks, IsLeast}}
 use Rattle.selection.proofs.{TestIsSearch.{test_right}, Search.{span_most}}
 
@@ -22,11 +22,6 @@ signed_same m n j k e = signed_diff m ∙ ap (λ (x : ℕ). diff x (2 ^ 63)) (sa
 pub digit_diff : (b : ℕ) → digit b ≡ diff b 2
 unfolding digit
 digit_diff b = diff_sub b 2
-
--- a byte's digit fits a signed word
-pub digit_fits : (b : ℕ) → b < 256 → SFits w64 (digit b)
-unfolding digit
-digit_fits b h = by_cond (SFits w64) (ltb b 2) _ _ (λ t. omega (arith, ltb→lt)) (λ t. omega (arith, nltb→le))
 
 -- -kD ≤ 3z ≤ kD, of z as a difference
 within : (k D a b : ℕ) → Within k D (pos 3 *ℤ diff a b) ↔ ((3 * b ≤ 3 * a + k * D) × (3 * a ≤ 3 * b + k * D))
@@ -90,7 +85,7 @@ module _ (E : Estimate) where
         let q = of_point E known.row known.column p in
         rw q.is (⊎_elim (λ k. k) (λ k. absurd (n D _ (against (record { point = q.point; side = k })))) (sides b D q.W))
 
-    result_means : (h : Finding) → IsLeast (Breaks E r c b) h → CellMeaning E r c b (cell_verdict_of h)
+    result_means : (h : Finding) → IsLeast (Breaks E r c b) h → CellMeaning E r c b (Ok (cell_verdict_of h))
     result_means NoWitness s = (known, allows_unless (λ D P a. let k = breaks a in s D k.0 k.2))
     result_means (LeastAt d w) s = (
       known,
@@ -102,19 +97,19 @@ module _ (E : Estimate) where
     )
 
     -- so the test's verdict is the specification's
-    pub test_checked : CellChecked E r c b (cell_verdict_of (test_of (multiples_of E r) c b))
+    pub test_checked : CellChecked E r c b (Ok (cell_verdict_of (test_of (multiples_of E r) c b)))
     test_checked = record { means = result_means (test_of (multiples_of E r) c b) (test_right E known) }
 
   -- the computed verdict is the specification's
   -- § 4.2 A single cell's digit is allowed, or the least witness is shown.
   pub cell_checked : (r c b : ℕ) → CellChecked E r c b (cell_of E r c b)
-  cell_checked r c b = by_first (cell_rules_law r c b) (λ v. CellChecked E r c b (answer_by Refused (cell_verdict_of (test_of (multiples_of E r) c b)) v))
+  cell_checked r c b = by_first (cell_rules_law r c b) (λ v. CellChecked E r c b (answer_by Err (Ok (cell_verdict_of (test_of (multiples_of E r) c b))) v))
       (λ m. let k = none_clear (cell_rules_law r c b) m in test_checked (record { row = k.0.0; column = k.0.1; byte = k.1.0 }))
       (λ f m. record { means = m })
 
   -- a cell and a byte that are taken: the test tells
-  pub cell_known : {r c b : ℕ} → IsCell r c b → cell_of E r c b ≡ cell_verdict_of (test_of (multiples_of E r) c b)
-  cell_known {r} {c} {b} k = ap (answer_by Refused _) (clear_admits (cell_rules_law r c b) ((k.row, k.column), (k.byte, tt)))
+  pub cell_known : {r c b : ℕ} → IsCell r c b → cell_of E r c b ≡ Ok (cell_verdict_of (test_of (multiples_of E r) c b))
+  cell_known {r} {c} {b} k = ap (answer_by Err _) (clear_admits (cell_rules_law r c b) ((k.row, k.column), (k.byte, tt)))
 
   pub not_allowed : {r c D : ℕ} {q : ℤ} {P : ℤ} → Against E r c q D P → Allows E r c q → ⊥
   not_allowed {D = D} {P = P} a h = a.broken (h D P a.point)

@@ -1,9 +1,10 @@
 -- What one rule gives: it refuses at its one place, or it is past.
+use Rattle.std.specs.Prelude.{Ok, Err}
 use Rattle.laws.proofs.{Basics.{◌≡◌, refl, sym, ap, ◌∙◌, Bool, true, false, ◌⊎◌, inl, inr, ⊎_elim, ℕ, ◌≤◌, ◌<◌, arith, lt-ltb, le-ltb}, Comparisons.{not_below}, Tests.{either, Decides}}
 use Rattle.laws.{proofs.Search.{first_below}, specs.Search.{First, first_from}}
 use Rattle.std.proofs.Common.{le_antisymm}
 use Rattle.selection.proofs.ConditionTests.{holds_decides, Fails, fails}
-use Rattle.selection.specs.{Answer.{refusal}, computed.Refusals.{holds, Rule, number_at, number_first, number_of, Wrong, given}, declared.Admission.TheVariants.{Admitted, Refused}}
+use Rattle.selection.specs.{Answer.{refusal}, computed.Refusals.{holds, Rule, number_at, number_first, number_of, Wrong, given}}
 
 pub first_one : {P : ℕ → Type 0} {i j : ℕ} → First P i → First P j → i ≡ j
 first_one x y = le_antisymm (not_below (λ l. x.before _ l y.here)) (not_below (λ l. y.before _ l x.here))
@@ -34,7 +35,7 @@ wrong_one : (r : Rule) (p q : ℕ) → Wrong r p → Wrong r q → p ≡ q
 wrong_one (number_at k p c) i j x y = x.0 ∙ sym y.0
 wrong_one (number_first k P f m) i j x y = first_one x.1 y.1
 
-pub decided : (r : Rule) → Tells r → ((p : ℕ) × Wrong r p × (given r ≡ Refused (refusal (number_of r) p))) ⊎ (Past r × (given r ≡ Admitted))
+pub decided : (r : Rule) → Tells r → ((p : ℕ) × Wrong r p × (given r ≡ Err (refusal (number_of r) p))) ⊎ (Past r × (given r ≡ Ok tt))
 decided (number_at k p c) t = ⊎_elim
     (λ (e : holds c ≡ true). inl (p, (refl, (holds_decides c).yes e), rw e refl))
     (λ (e : holds c ≡ false). inr ((fails c).0 ((holds_decides c).no e), rw e refl))
@@ -45,11 +46,11 @@ decided (number_first k P f m) t = ⊎_elim
     (first_below f m t)
 
 module _ (r : Rule) (t : Tells r) where
-  pub refuses_at : (p : ℕ) → Wrong r p → given r ≡ Refused (refusal (number_of r) p)
-  refuses_at p w = ⊎_elim (λ x. x.2 ∙ ap (λ (q : ℕ). Refused (refusal (number_of r) q)) (wrong_one r x.0 p x.1 w)) (λ x. absurd (past_not r x.0 p w)) (decided r t)
+  pub refuses_at : (p : ℕ) → Wrong r p → given r ≡ Err (refusal (number_of r) p)
+  refuses_at p w = ⊎_elim (λ x. x.2 ∙ ap (λ (q : ℕ). Err (refusal (number_of r) q)) (wrong_one r x.0 p x.1 w)) (λ x. absurd (past_not r x.0 p w)) (decided r t)
 
   pub past : ((p : ℕ) → Wrong r p → ⊥) → Past r
   past n = ⊎_elim (λ x. absurd (n x.0 x.1)) (λ x. x.0) (decided r t)
 
-  pub past_admits : Past r → given r ≡ Admitted
+  pub past_admits : Past r → given r ≡ Ok tt
   past_admits a = ⊎_elim (λ x. absurd (past_not r a x.0 x.1)) (λ x. x.1) (decided r t)

@@ -1,9 +1,9 @@
 -- Refused exactly when a point leaves the range, and a single cell's verdict: demand 3's words on the check.
 use Rattle.laws.proofs.{Basics.{refl, sym, ◌↔◌, List, ℕ, ◌+◌, ◌*◌, ◌/◌, ◌%◌, ◌<◌, arith, ℤ, pos, ◌-ℤ◌, ◌*ℤ◌, get_or}, Diff.{diffs, by_diff}, Counting.{tally_as, tally_nothing}}
+use Rattle.std.specs.Prelude.{Option, Some, None, Result, Ok, Err}
 use Rattle.selection.specs.{Word.{Within}, computed.Answer.{cell_numbers, outcome_numbers, report_numbers}, Cell.{Against, LeastWitness, digit}, computed.Cell.{IsCell, CellChecked}}
-use Rattle.selection.specs.{Table.{Table, BadAt, Passes}, computed.Table.{Checked, ReportMeaning}, Demand.{Leaves, SomeLeaves, RefusedExactly, CellTold}, declared.table.Outcome.{Outcome}}
-use Rattle.selection.specs.declared.{table.Outcome.TheVariants.{Passed, Bad, Refused}, table.TableVerdict.{TableVerdict}, CellVerdict.{CellVerdict}, Estimate.{Estimate}}
-use Rattle.selection.specs.declared.CellVerdict.TheVariants as C
+use Rattle.selection.specs.{Table.{Table, BadAt, Passes}, computed.Table.{Checked, ReportMeaning, AnswerMeaning}, Demand.{Leaves, SomeLeaves, RefusedExactly, CellTold}, declared.table.Outcome.{Outcome}}
+use Rattle.selection.specs.declared.{table.Outcome.TheVariants.{Passed, Bad}, table.TableVerdict.{TableVerdict}, Witness.{Witness}, Refusal.{Refusal}, Estimate.{Estimate}}
 use Rattle.selection.proofs.{BiasedPoints.{not_allowed, known_not_refused}, Tables.{no_table, cell_row, cell_column}}
 
 -- -2D ≤ 3z ≤ 2D exactly if -8D ≤ 3·4z ≤ 8D
@@ -30,8 +30,8 @@ module _ (E : Estimate) where
   kept p k h s = not_allowed E ((of_bad p.table).1 s).against (p.allowed k h)
 
   -- § 21.3 A table is refused exactly when a point leaves the range.
-  pub refused_exactly : {t : List ℕ} {a : TableVerdict} → Table t → Checked E t a → RefusedExactly E t (report_numbers a)
-  refused_exactly {t} {a} h x = go a.count a.outcome x.means
+  pub refused_exactly : {t : List ℕ} {a : Result TableVerdict Refusal} → Table t → Checked E t a → RefusedExactly E t (report_numbers a)
+  refused_exactly {t} {a} h x = answered a x.means
     where
       go : (n : ℕ) (o : Outcome) → ReportMeaning E t n o → RefusedExactly E t (outcome_numbers n o)
       go n Passed w = record {
@@ -57,15 +57,18 @@ module _ (E : Estimate) where
             };
             otherwise = λ e. absurd (e refl);
           }
-      go n (Refused f) w = no_table h w.0
+
+      answered : (a : Result TableVerdict Refusal) → AnswerMeaning E t a → RefusedExactly E t (report_numbers a)
+      answered (Ok a) w = go a.count a.outcome w
+      answered (Err f) w = no_table h w
 
   -- § 4.2 The answer on one cell is told in numbers.
-  pub cell_told : {r c b : ℕ} → IsCell r c b → (v : CellVerdict) → CellChecked E r c b v → CellTold E r c b (cell_numbers v)
-  cell_told k C.Allowed x = record { done = refl; allowed = ((λ e. x.means.1), λ a. refl); besides = λ e. refl; disallowed = λ e. absurd (e refl) }
-  cell_told k (C.Disallowed w) x = record {
+  pub cell_told : {r c b : ℕ} → IsCell r c b → (v : Result (Option Witness) Refusal) → CellChecked E r c b v → CellTold E r c b (cell_numbers v)
+  cell_told k (Ok None) x = record { done = refl; allowed = ((λ e. x.means.1), λ a. refl); besides = λ e. refl; disallowed = λ e. absurd (e refl) }
+  cell_told k (Ok (Some w)) x = record {
     done = refl;
     allowed = ((λ e. absurd (omega arith)), λ a. absurd (not_allowed E x.means.1.against a));
     besides = λ e. absurd (omega arith);
     disallowed = λ e. (refl, x.means.1);
   }
-  cell_told k (C.Refused f) x = known_not_refused k x.means
+  cell_told k (Err f) x = known_not_refused k x.means

@@ -1,8 +1,9 @@
 -- The outcome of the repair: its refusals, that the computed outcome is the specification's, and that there is no other.
+use Rattle.std.specs.Prelude.{Ok}
 use Rattle.laws.proofs.{Basics.{◌≡◌, refl, ap, List, ℕ, ◌≤◌, length}, Lists.{fill_at, fill_kept, kept_one}, Counting.{count_tally, tally_one}}
 use Rattle.selection.proofs.RefusalNames.{refusal, answer_by, first_refusal, rank, WellFormed, refuses_one, refuses, cleared, clear_admits, refused_at}
 use Rattle.selection.proofs.RepairCells.{cell_repaired, changed_decides, repaired_one}
-use Rattle.selection.specs.{declared.Admission.TheVariants.{Admitted}, computed.Allowed.{is_faulty}, computed.Outcomes.{repaired_byte, change_mark, repair_of}}
+use Rattle.selection.specs.{computed.Allowed.{is_faulty}, computed.Outcomes.{repaired_byte, change_mark, repair_of}}
 use Rattle.selection.specs.{computed.Repair.{RepairedTable, repair_rules, RepairOutcome, repair_refused, RepairAccepts, Repairs}, declared.Estimate.{Estimate}}
 
 -- ---- refusals
@@ -13,10 +14,10 @@ module _ (len r c : ℕ) where
   repair_rules_law = record { sound = (tt, λ _. (tt, λ _. tt)); in_order = tt }
 
   -- nothing is refused exactly if all is accepted
-  pub repair_accepts : first_refusal (repair_rules len r c) ≡ Admitted → RepairAccepts len r c
+  pub repair_accepts : first_refusal (repair_rules len r c) ≡ Ok tt → RepairAccepts len r c
   repair_accepts e = let c = cleared repair_rules_law e in record { repaired_room = c.0.0; changed_room = c.0.1; size = c.1.0 }
 
-  pub repair_admits : RepairAccepts len r c → first_refusal (repair_rules len r c) ≡ Admitted
+  pub repair_admits : RepairAccepts len r c → first_refusal (repair_rules len r c) ≡ Ok tt
   repair_admits a = clear_admits repair_rules_law ((a.repaired_room, a.changed_room), (a.size, tt))
 
 module _ (E : Estimate) where

@@ -1,65 +1,61 @@
--- The code's two loops over a row: where each stands before column c, and what one turn does.
-use Rattle.laws.proofs.Basics.{◌≡◌, refl, ap, ◌∙◌, Bool, true, false, not, cond, ◌||◌, ⊎_elim, List, ℕ, ◌+◌, ◌*◌, ◌≤◌, ◌<◌, arith, ltb, eqb, length, get_or, set, length-set, length-append, length-drop, sym}
-use Rattle.laws.{proofs.Tests.{either}, specs.Lists.{filled}, proofs.Lists.{list_length, fill_more, fill_length, fill_at}, specs.Counting.{count_below}, proofs.Sums.{sum_more}}
-use Rattle.selection.specs.{computed.Allowed.{is_faulty}, Maker.{AreLimits, step_at}, computed.CellTest.{RowOf, allows_by}, computed.Outcomes.{repaired_byte, change_mark}}
-use Rattle.selection.specs.{computed.RepairRows.{FillsRow}, declared.cell.RowMultiples.{RowMultiples}, declared.Estimate.{Estimate}}
-use Rattle.selection.proofs.{Allowed.{bad_in_row}, Tables.{cell_row, cell_column}, MadeTables.{made_at_law}}
+-- The repair, row by row: the marks and the bytes of a row's cells are those of the table's, and put back they fill the two lists by so much more.
+use Rattle.laws.proofs.Basics.{◌≡◌, refl, ap, ◌∙◌, Bool, true, false, cond, ◌||◌, ⊎_elim, List, ◌++◌, ℕ, ◌+◌, ◌*◌, ◌-◌, ◌≤◌, ◌<◌, arith, ltb, length, get_or, take, drop, length-append, length-drop}
+use Rattle.laws.{specs.Lists.{filled, list_from}, specs.Counting.{count_below}, specs.Sums.{sum_below}, proofs.Division.{le_or_lt}, proofs.Tests.{either}, proofs.Sums.{sum_as}}
+use Rattle.laws.proofs.Lists.{fill_right, filled_one, list_length, list_value, put_back}
+use Rattle.std.proofs.lemmas.{Grind.{elements}, List.{take_at, get_or-take, get_or-drop}, Slice.{drop-append-drop}}
+use Rattle.selection.specs.{computed.Allowed.{is_faulty}, Maker.{AreLimits}, computed.Outcomes.{repaired_byte, change_mark}}
+use Rattle.selection.specs.{computed.RepairRows.{marks_by, bytes_by, RepairedTo}, declared.Estimate.{Estimate}}
+use Rattle.selection.proofs.{Counts.{row_counted}, Allowed.{bad_in_row}, Tables.{cell_row, cell_column}, MadeTables.{made_at_law}}
 
--- ---- the loops
+module _ (f : ℕ → ℕ) (o : List ℕ) where
+  part_filled : (a n : ℕ) (ys : List ℕ) → a + n ≤ length o → length ys ≡ n → ((c : ℕ) → c < n → get_or ys c 0 ≡ f (a + c)) → list_from f 0 a ++ (ys ++ drop (a + n) o) ≡ filled f (a + n) o
+  part_filled a n ys h size is =
+      let s : length (list_from f 0 a) ≡ a = list_length f 0 a in
+      filled_one
+      (record {
+        each = λ j l. ⊎_elim (λ g. let e = is (j - a) (omega arith) in let i : a + (j - a) ≡ j = omega arith in grind (arith, elements)) (λ g. let e = list_value f 0 a j g in grind (arith, elements)) (le_or_lt a j);
+        kept = record { size = simp (length-append, length-drop) (omega (arith, s)); rest = λ j l. grind (arith, elements) };
+      })
+      (fill_right f (a + n) o h)
 
--- before column c of row r: the values of f before that row stand in a₀, and those up to the column in a
-pub record RowFilled (f : ℕ → ℕ) (r : ℕ) (a₀ a : List ℕ) (c : ℕ) : Type 0 where
-  pub within : c ≤ 128
-  pub size : length a ≡ length a₀
-  pub values : (o : List ℕ) → a₀ ≡ filled f (128 * r) o → a ≡ filled f (128 * r + c) o
+  -- a row more
+  pub row_filled : (r : ℕ) {b ys : List ℕ} {g : ℕ → ℕ} → 128 * r + 128 ≤ length o → b ≡ filled f (128 * r) o → ys ≡ list_from g 0 128 → ((c : ℕ) → c < 128 → g c ≡ f (128 * r + c))
+      → take (128 * r) b ++ (ys ++ drop (128 * r + 128 - 128 * r) (drop (128 * r) b)) ≡ filled f (128 * (r + 1)) o
+  row_filled r {b} {ys} {g} h e y is =
+      let a = 128 * r in
+      let s : length (list_from f 0 a) ≡ a = list_length f 0 a in
+      let n : 128 * (r + 1) ≡ a + 128 = omega arith in
+      rw (put_back b ys a 128, e, take_at (list_from f 0 a) (drop a o) a s, drop-append-drop a o (list_from f 0 a) (a + 128) (omega arith) s, n, y)
+      (part_filled a 128 _ h (list_length g 0 128) (λ c l. list_value g 0 128 c l ∙ is c l))
 
-module _ (f : ℕ → ℕ) (r : ℕ) (a₀ : List ℕ) where
-  pub row_begins : RowFilled f r a₀ a₀ 0
-  row_begins = let n : 128 * r + 0 ≡ 128 * r = omega arith in record { within = omega arith; size = refl; values = λ o e. rw n e }
+module _ (E : Estimate) (t : List ℕ) (r : ℕ) (row : r ≤ 15) where
+  abbrev cells : List ℕ
+  cells = take (128 * r + 128 - 128 * r) (drop (128 * r) t)
 
-  -- one value more of a list with room for it
-  pub row_more : {a : List ℕ} {c x : ℕ} → RowFilled f r a₀ a c → r ≤ 15 → c < 128 → 2048 ≤ length a₀ → x ≡ f (128 * r + c) → RowFilled f r a₀ (set a (128 * r + c) x) (c + 1)
-  row_more {a} {c} {x} s hr hc room v =
-      let n : 128 * r + (c + 1) ≡ 128 * r + c + 1 = omega arith in
-      record {
-        within = omega arith;
-        size = simp length-set s.size;
-        values = λ o e. rw (s.values o e, v, n) (fill_more f o (128 * r + c) (omega (arith, simp (length-append, length-drop, list_length f 0 (128 * r)) at (ap length e))));
-      }
+  cell : (c : ℕ) → c < 128 → get_or cells c 0 ≡ get_or t (128 * r + c) 0
+  cell c h = let s : c < 128 * r + 128 - 128 * r = omega arith in rw (get_or-take _ (drop (128 * r) t) c 0 s, get_or-drop)
 
-  pub row_ends : {a : List ℕ} {c : ℕ} → RowFilled f r a₀ a c → 128 ≤ c → FillsRow f r a₀ a
-  row_ends {a} {c} s h o x = let e : c ≡ 128 = omega (arith, s.within) in s.values o x ∙ ap (λ (i : ℕ). filled f (128 * r + i) o) e
+  marks_are : (c : ℕ) → c < 128 → marks_by E r cells c ≡ change_mark E t (128 * r + c)
+  unfolding change_mark
+  marks_are c h = rw (cell c h) (ap (λ (x : Bool). cond {A = ℕ} (ltb 4 (get_or t (128 * r + c) 0) || x) 1 0) (bad_in_row E t r c (omega arith)))
 
--- ---- from row to row
+  pub marks_counted : sum_below (marks_by E r cells) 128 ≡ count_below (λ c. is_faulty E t (128 * r + c)) 128
+  unfolding count_below change_mark
+  marks_counted = sum_as _ _ 128 marks_are
 
--- a row more, of an estimate and a row that are known by other names
-pub rows_more : (f : Estimate → ℕ → ℕ) (o : List ℕ) (r : ℕ) {a b : List ℕ} {E x : Estimate} {i : ℕ} → x ≡ E → i ≡ r → a ≡ filled (f E) (128 * r) o → FillsRow (f x) i a b → b ≡ filled (f E) (128 * (r + 1)) o
-rows_more f o r {E = E} same row e g = let n : 128 * r + 128 ≡ 128 * (r + 1) = omega arith in (rw (same, row) at g) o e ∙ ap (λ (j : ℕ). filled (f E) j o) n
-
-module _ (f : ℕ → ℕ) (o : List ℕ) (r : ℕ) {b : List ℕ} where
-  pub rows_size : 2048 ≤ length o → r ≤ 16 → b ≡ filled f (128 * r) o → length b ≡ length o
-  rows_size room h e = ap length e ∙ fill_length f o (128 * r) (omega arith)
-
-  -- the values of the last row
-  pub row_at : b ≡ filled f (128 * (r + 1)) o → (c : ℕ) → c < 128 → get_or b (128 * r + c) 0 ≡ f (128 * r + c)
-  row_at e c h = rw e (fill_at f o 0 (128 * (r + 1)) (128 * r + c) (omega arith))
-
-module _ (E : Estimate) where
-  pub byte_is : (t : List ℕ) {r : ℕ} {l : List ℕ} (c : ℕ) {n b : ℕ} → r ≤ 15 → c ≤ 127 → AreLimits E r l → n ≡ change_mark E t (128 * r + c) → b ≡ cond (eqb n 0) (get_or t (128 * r + c) 0) (step_at l c) → b ≡ repaired_byte E t (128 * r + c)
+  bytes_are : {l : List ℕ} (marks : List ℕ) → AreLimits E r l → marks ≡ list_from (marks_by E r cells) 0 128 → (c : ℕ) → c < 128 → bytes_by l cells marks c ≡ repaired_byte E t (128 * r + c)
   unfolding change_mark repaired_byte
-  byte_is t {r} c hr hc g e f = f ∙ ⊎_elim
-      (λ (x : is_faulty E t (128 * r + c) ≡ true). rw (e, x) (made_at_law E (omega arith) (rw (cell_row r c hc, cell_column r c hc) (g.steps c hc))))
-      (λ (x : is_faulty E t (128 * r + c) ≡ false). rw (e, x) refl)
-      (either (is_faulty E t (128 * r + c)))
+  bytes_are {l} marks g e c h = rw (cell c h, e, list_value (marks_by E r cells) 0 128 c h, marks_are c h) (⊎_elim
+      (λ (x : is_faulty E t (128 * r + c) ≡ true). rw x (made_at_law E (omega arith) (rw (cell_row r c (omega arith), cell_column r c (omega arith)) (g.steps c (omega arith)))))
+      (λ (x : is_faulty E t (128 * r + c) ≡ false). rw x refl)
+      (either (is_faulty E t (128 * r + c))))
 
-  -- the marks that are 1
-  pub count_mark : (t : List ℕ) (r i : ℕ) {count n : ℕ} → count ≡ count_below (λ c. is_faulty E t (128 * r + c)) i → n ≡ change_mark E t (128 * r + i) → count + n ≡ count_below (λ c. is_faulty E t (128 * r + c)) (i + 1)
-  unfolding change_mark count_below
-  count_mark t r i e g = rw (e, g) (sym (sum_more _ i))
-
--- ---- a cell
-
--- the mark, and the byte by the mark
-pub mark_is : (t : List ℕ) {m : RowMultiples} (c : ℕ) {n : ℕ} → RowOf m → c ≤ 127 → let b = get_or t (128 * m.row + c) 0 in n ≡ cond (ltb 4 b || not (allows_by m c b)) 1 0 → n ≡ change_mark m.estimate t (128 * m.row + c)
-unfolding change_mark
-mark_is t {m} c o h e = e ∙ ap (λ (x : Bool). cond {A = ℕ} (ltb 4 (get_or t (128 * m.row + c) 0) || x) 1 0) (bad_in_row t c o h)
+  -- a row more is repaired
+  pub row_repaired : {rs cs a b l marks bytes : List ℕ} {n k : ℕ} → 128 * r + 128 ≤ length rs → 128 * r + 128 ≤ length cs → AreLimits E r l → marks ≡ list_from (marks_by E r cells) 0 128 → k ≡ sum_below (marks_by E r cells) 128 → bytes ≡ list_from (bytes_by l cells marks) 0 128
+      → RepairedTo E t (128 * r) rs cs a b n
+      → RepairedTo E t (128 * (r + 1)) rs cs (take (128 * r) a ++ (bytes ++ drop (128 * r + 128 - 128 * r) (drop (128 * r) a))) (take (128 * r) b ++ (marks ++ drop (128 * r + 128 - 128 * r) (drop (128 * r) b))) (n + k)
+  row_repaired {rs} {cs} {marks = marks} hr hc g e count f i = record {
+    bytes = row_filled (repaired_byte E t) rs r hr i.bytes f (bytes_are marks g e);
+    marks = row_filled (change_mark E t) cs r hc i.marks e marks_are;
+    count = row_counted (λ z. is_faulty z t) r {E = E} {v = record { estimate = E; row = r }} refl i.count (count ∙ marks_counted);
+  }

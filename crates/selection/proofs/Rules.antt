@@ -1,10 +1,10 @@
 -- What a list of rules gives is the first refusal, by rank, of those whose condition holds.
+use Rattle.std.specs.Prelude.{⊤, Result, Ok, Err}
 use Rattle.laws.proofs.Basics.{◌≡◌, refl, sym, ap, subst, ◌∙◌, Bool, true, List, [], ◌∷◌, ◌++◌, inl, inr, ⊎_elim, ℕ, zero, suc, ◌+◌, ◌<◌, arith, T, ltb, ltb→lt}
 use Rattle.laws.proofs.Tests.{both, both_left, both_right, upto, upto_at}
 use Rattle.selection.proofs.OneRule.{Tells, past_not, decided, refuses_at, past, past_admits}
 use Rattle.selection.specs.{Answer.{refusal}, computed.Answer.{refusal_of, first_of, answer_by}}
 use Rattle.selection.specs.{computed.Refusals.{Rule, number_of, Wrong, given, Wrongs, first_refusal, rank, IsFirstRefusal, RefusedBy, Refuses}, declared.Refusal.{Refusal}}
-use Rattle.selection.specs.declared.{Admission.{Admission}, Admission.TheVariants.{Admitted, Refused}}
 
 -- ---- a list of rules
 
@@ -23,9 +23,9 @@ pub record WellFormed (rs : List Rule) : Type 0 where
   pub in_order : T (ranked 0 rs)
 
 -- the first of the conditions C is the refusal v
-abbrev pub Meets : (ℕ → ℕ → Type 0) → Admission → Type 0
-Meets C Admitted = (n p : ℕ) → C n p → ⊥
-Meets C (Refused f) = IsFirstRefusal C f.number f.place
+abbrev pub Meets : (ℕ → ℕ → Type 0) → Result ⊤ Refusal → Type 0
+Meets C (Ok u) = (n p : ℕ) → C n p → ⊥
+Meets C (Err f) = IsFirstRefusal C f.number f.place
 
 later : (k : ℕ) (r : Rule) (rs : List Rule) → T (ranked k (r ∷ rs)) → T (ranked (rank (number_of r)) rs)
 later k r rs = both_right (ltb k (rank (number_of r))) _
@@ -43,11 +43,11 @@ meets k (r ∷ rs) o s = ⊎_elim
     (λ x. let a = past_not r x.0 in rw x.1 (second a (first_refusal rs) (meets (rank (number_of r)) rs (later k r rs o) (s.1 a))))
     (decided r s.0)
   where
-    second : ((p : ℕ) → Wrong r p → ⊥) → (w : Admission) → Meets (Wrongs rs) w → Meets (Wrongs (r ∷ rs)) w
-    second a Admitted m = λ n p. ⊎_elim (λ x. a p x.1) (m n p)
-    second a (Refused f) m = record { holds = inr m.holds; before = λ n p l. ⊎_elim (λ x. a p x.1) (m.before n p l) }
+    second : ((p : ℕ) → Wrong r p → ⊥) → (w : Result ⊤ Refusal) → Meets (Wrongs rs) w → Meets (Wrongs (r ∷ rs)) w
+    second a (Ok u) m = λ n p. ⊎_elim (λ x. a p x.1) (m n p)
+    second a (Err f) m = record { holds = inr m.holds; before = λ n p l. ⊎_elim (λ x. a p x.1) (m.before n p l) }
 
-is_first : (k : ℕ) (rs : List Rule) → T (ranked k rs) → Sound rs → (n p : ℕ) → IsFirstRefusal (Wrongs rs) n p → first_refusal rs ≡ Refused (refusal n p)
+is_first : (k : ℕ) (rs : List Rule) → T (ranked k rs) → Sound rs → (n p : ℕ) → IsFirstRefusal (Wrongs rs) n p → first_refusal rs ≡ Err (refusal n p)
 is_first k [] o s n p x = absurd x.holds
 is_first k (r ∷ rs) o s n p x = ⊎_elim
     (λ y. rw (refuses_at r s.0 p y.1, y.0) refl)
@@ -66,26 +66,26 @@ by_number m n h l =
 -- ---- what its first refusal says
 
 module _ {rs : List Rule} (c : WellFormed rs) where
-  pub rules_meet : (v : Admission) → first_refusal rs ≡ v → Meets (Wrongs rs) v
+  pub rules_meet : (v : Result ⊤ Refusal) → first_refusal rs ≡ v → Meets (Wrongs rs) v
   rules_meet v e = subst (Meets (Wrongs rs)) e (meets 0 rs c.in_order c.sound)
 
   -- the first condition that holds is the refusal given
-  pub first_is : (n p : ℕ) → IsFirstRefusal (Wrongs rs) n p → first_refusal rs ≡ Refused (refusal n p)
+  pub first_is : (n p : ℕ) → IsFirstRefusal (Wrongs rs) n p → first_refusal rs ≡ Err (refusal n p)
   first_is = is_first 0 rs c.in_order c.sound
 
   pub refusal_one : (f g : Refusal) → IsFirstRefusal (Wrongs rs) f.number f.place → IsFirstRefusal (Wrongs rs) g.number g.place → f ≡ g
   refusal_one f g x y = ap refusal_of (sym (first_is _ _ x) ∙ first_is _ _ y)
 
   -- what is so where nothing is refused, and at every first refusal, is so
-  pub by_first : (P : Admission → Type 0) → (((n p : ℕ) → Wrongs rs n p → ⊥) → P Admitted) → ((f : Refusal) → IsFirstRefusal (Wrongs rs) f.number f.place → P (Refused f)) → P (first_refusal rs)
-  by_first P a b = (elim (first_refusal rs) as (λ v. Meets (Wrongs rs) v → P v) [ Admitted ↦ a | Refused f ↦ b f ]) (rules_meet (first_refusal rs) refl)
+  pub by_first : (P : Result ⊤ Refusal → Type 0) → (((n p : ℕ) → Wrongs rs n p → ⊥) → P (Ok tt)) → ((f : Refusal) → IsFirstRefusal (Wrongs rs) f.number f.place → P (Err f)) → P (first_refusal rs)
+  by_first P a b = (elim (first_refusal rs) as (λ v. Meets (Wrongs rs) v → P v) [ Ok u ↦ a | Err f ↦ b f ]) (rules_meet (first_refusal rs) refl)
 
   -- nothing is refused exactly if no condition holds
-  pub clear : first_refusal rs ≡ Admitted → (n p : ℕ) → Wrongs rs n p → ⊥
-  clear e = rules_meet Admitted e
+  pub clear : first_refusal rs ≡ Ok tt → (n p : ℕ) → Wrongs rs n p → ⊥
+  clear e = rules_meet (Ok tt) e
 
-  pub admits : ((n p : ℕ) → Wrongs rs n p → ⊥) → first_refusal rs ≡ Admitted
-  admits a = by_first (λ v. v ≡ Admitted) (λ m. refl) (λ f m. absurd (a _ _ m.holds))
+  pub admits : ((n p : ℕ) → Wrongs rs n p → ⊥) → first_refusal rs ≡ Ok tt
+  admits a = by_first (λ v. v ≡ Ok tt) (λ m. refl) (λ f m. absurd (a _ _ m.holds))
 
   positive : (n p : ℕ) → IsFirstRefusal (Wrongs rs) n p → 0 < n
   unfolding rank
@@ -109,14 +109,14 @@ module _ {rs : List Rule} (c : WellFormed rs) where
 
   -- and no other answer, where two with the same refusal are equal if nothing is refused
   pub refuses_one : {X : Type 0} {refused : X → Refusal} {zeros : Refusal → X} {x y : X} → Refuses (Wrongs rs) refused zeros x → Refuses (Wrongs rs) refused zeros y
-      → (first_refusal rs ≡ Admitted → refused x ≡ refused y → x ≡ y) → x ≡ y
+      → (first_refusal rs ≡ Ok tt → refused x ≡ refused y → x ≡ y) → x ≡ y
   refuses_one {x = u} {y = v} x y a = by_first (λ w. u ≡ v) (λ m. a (admits m) (refused_one x.by y.by)) (λ f m. x.besides _ _ m ∙ sym (y.besides _ _ m))
 
   -- an answer by the first refusal refuses so, with zeros besides
   pub refuses : {X : Type 0} (refused : X → Refusal) (zeros : Refusal → X) (done : X) → refused done ≡ refusal 0 0 → ((f : Refusal) → refused (zeros f) ≡ f)
-      → {v : Admission} → v ≡ first_refusal rs → Refuses (Wrongs rs) refused zeros (answer_by zeros done v)
+      → {v : Result ⊤ Refusal} → v ≡ first_refusal rs → Refuses (Wrongs rs) refused zeros (answer_by zeros done v)
   refuses refused zeros done e z g =
-      let same = elim (first_refusal rs) as (λ v. refused (answer_by zeros done v) ≡ refusal_of v) [ Admitted ↦ e | Refused f ↦ z f ] in
+      let same = elim (first_refusal rs) as (λ v. refused (answer_by zeros done v) ≡ refusal_of v) [ Ok u ↦ e | Err f ↦ z f ] in
       rw g (record { by = rw same refused_by; besides = λ n p x. rw (first_is n p x) refl })
 
 -- ---- one list after another
@@ -125,7 +125,7 @@ rules_append [] ss = refl
 rules_append (r ∷ rs) ss =
     let v = first_refusal rs in
     let w = first_refusal ss in
-    ap (first_of (given r)) (rules_append rs ss) ∙ elim (given r) as (λ u. first_of u (first_of v w) ≡ first_of (first_of u v) w) [ Admitted ↦ refl | Refused f ↦ refl ]
+    ap (first_of (given r)) (rules_append rs ss) ∙ elim (given r) as (λ u. first_of u (first_of v w) ≡ first_of (first_of u v) w) [ Ok u ↦ refl | Err f ↦ refl ]
 
 pub sound_append : (rs ss : List Rule) → Sound rs → Sound ss → Sound (rs ++ ss)
 sound_append [] ss s t = t

@@ -1,8 +1,9 @@
 -- The check has one answer to each table: one count, one first bad cell, one witness.
 use Rattle.laws.proofs.{Basics.{◌≡◌, refl, sym, ap, ◌∙◌, List, ℕ, ◌+◌, ◌*◌, arith, ℤ, get_or}, Tests.{less_decides}, Counting.{tally_one}}
-use Rattle.selection.specs.{Cell.{LeastWitness, digit}, computed.Table.{FirstBad, form_rules, Checked, ReportMeaning}, Table.{Passes}, declared.table.Outcome.{Outcome}}
-use Rattle.selection.specs.{declared.table.Outcome.TheVariants.{Passed, Bad, Refused}, declared.table.TableVerdict.{TableVerdict}, declared.table.BadCell.{BadCell}, computed.Refusals.{rank}}
-use Rattle.selection.specs.declared.Estimate.{Estimate}
+use Rattle.selection.specs.{Cell.{LeastWitness, digit}, computed.Table.{FirstBad, form_rules, Checked, ReportMeaning}, Table.{Table, Passes}, declared.table.Outcome.{Outcome}}
+use Rattle.selection.specs.{declared.table.Outcome.TheVariants.{Passed, Bad}, declared.table.TableVerdict.{TableVerdict}, declared.table.BadCell.{BadCell}, computed.Refusals.{rank}}
+use Rattle.selection.specs.declared.{Refusal.{Refusal}, Estimate.{Estimate}}
+use Rattle.std.specs.Prelude.{Result, Ok, Err}
 use Rattle.selection.proofs.{OneRule.{first_one}, Rules.{WellFormed, refusal_one}, Tables.{no_table}, BiasedPoints.{not_allowed}, UniqueCell.{one_witness}}
 
 pub form_rules_law : (t : List ℕ) → WellFormed (form_rules t)
@@ -22,20 +23,22 @@ module _ (E : Estimate) where
   no_bad : {t : List ℕ} {r c D : ℕ} {P : ℤ} {X : Type 0} → Passes E t → FirstBad E t r c D P → X
   no_bad p f = absurd (not_allowed E f.first.here.against (p.allowed _ (omega (arith, f.row, f.column))))
 
+  means_table : {t : List ℕ} (n : ℕ) (o : Outcome) → ReportMeaning E t n o → Table t
+  means_table n Passed h = h.0.table
+  means_table n (Bad b) h = h.0
+
   means_one : (t : List ℕ) (m n : ℕ) (x y : Outcome) → ReportMeaning E t m x → ReportMeaning E t n y → (m ≡ n) × (x ≡ y)
   means_one t m n Passed Passed h k = (h.1 ∙ sym k.1, refl)
   means_one t m n Passed (Bad b) h k = no_bad h.0 k.2
-  means_one t m n Passed (Refused f) h k = no_table h.0.table k.0
   means_one t m n (Bad b) Passed h k = no_bad k.0 h.2
   means_one t m n (Bad a) (Bad b) h k = (tally_one h.1 k.1, ap Bad (bad_one a b h.2 k.2))
-  means_one t m n (Bad b) (Refused f) h k = no_table h.0 k.0
-  means_one t m n (Refused f) Passed h k = no_table k.0.table h.0
-  means_one t m n (Refused f) (Bad b) h k = no_table k.0 h.0
-  means_one t m n (Refused f) (Refused g) h k = (h.1 ∙ sym k.1, ap Refused (refusal_one (form_rules_law t) f g h.0 k.0))
 
   -- no two answers to one table
   -- § 4.1 No other answer of the check fits.
-  pub checked_one : {t : List ℕ} (a b : TableVerdict) → Checked E t a → Checked E t b → a ≡ b
-  checked_one {t} a b x y =
+  pub checked_one : {t : List ℕ} (a b : Result TableVerdict Refusal) → Checked E t a → Checked E t b → a ≡ b
+  checked_one {t} (Ok a) (Ok b) x y =
       let e = means_one t a.count b.count a.outcome b.outcome x.means y.means in
-      λ i. record { count = e.0 i; outcome = e.1 i }
+      λ i. Ok (record { count = e.0 i; outcome = e.1 i })
+  checked_one (Ok a) (Err f) x y = no_table (means_table a.count a.outcome x.means) y.means
+  checked_one (Err f) (Ok b) x y = no_table (means_table b.count b.outcome y.means) x.means
+  checked_one {t} (Err f) (Err g) x y = ap Err (refusal_one (form_rules_law t) f g x.means y.means)

@@ -4,7 +4,6 @@ pub mod Bits
 pub mod Burned
 pub mod Cell
 pub mod CellTest
-pub mod CheckRows
 pub mod Maker
 pub mod Outcomes
 pub mod Refusals
@@ -12,4 +11,4 @@ pub mod Repair
 pub mod RepairDemand
 pub mod RepairRows
 pub mod Table
-pub mod WordBytes
+pub mod TableRow

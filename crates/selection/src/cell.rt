@@ -1,12 +1,13 @@
 // The check of a cell, by multiples of its row's smallest and largest divisor, which are worked out once a row.
-ghost use Rattle.std.specs.Prelude.{◌≡◌, ◌+◌, ◌-◌, ◌*◌, ◌^◌, ◌<◌, ◌≤◌, max, true, ◌↔◌};
+ghost use Rattle.std.specs.Prelude.{◌≡◌, ◌+◌, ◌-◌, ◌*◌, ◌^◌, ◌<◌, ◌≤◌, true, ◌↔◌};
 ghost use Rattle.std.proofs.Math.IntN.{sub_ℕ};
 ghost use Rattle.selection.specs.Cell.{span_of};
-ghost use Rattle.selection.specs.computed.Outcomes.{cell_of};
-ghost use Rattle.selection.specs.computed.CellTest.{left_column, right_column, begins_at_most, begins_below_minus, ends_at_most, ends_below_minus, RowOf, CellOf, past, least_byte, greatest_byte, has_point, allows_by, above, under, least_past, least_divisor, low_divisor, high_divisor, low_at, high_at, WitnessFor, witness_of};
-ghost use Rattle.selection.specs.declared.CellVerdict.TheVariants as Verdict;
+ghost use Rattle.selection.specs.computed.Allowed.{allows_of};
+ghost use Rattle.selection.specs.computed.Outcomes.{cell_of, verdict_at};
+ghost use Rattle.selection.specs.computed.CellTest.{left_column, right_column, begins_at_most, begins_below_minus, ends_at_most, ends_below_minus, multiples_of, past, least_byte, greatest_byte, has_point, above, under, least_past, least_divisor, low_divisor, high_divisor, low_at, high_at, witness_of};
 
-use crate::{CellVerdict, Estimate, REFUSED_BYTE, REFUSED_CELL, Refusal, Witness};
+use crate::{Estimate, Reason, Refusal, Witness};
+use std::marker::Model;
 
 // Half of the words: what the remainders are moved up by.
 const HALF: u64 = 0x8000_0000_0000_0000;
@@ -17,9 +18,16 @@ const SPAN_OF_SEVEN: u64 = 0x3ff_ffff_ffff_fffe;
 const SPAN_OF_EIGHT: u64 = 0x2ff_ffff_ffff_fffe;
 
 // The width of a column, and of a row.
-const COLUMN: u64 = 0x200_0000_0000_0000;
+const COLUMN_WIDTH: u64 = 0x200_0000_0000_0000;
 
-const ROW: u64 = 0x100_0000_0000_0000;
+const ROW_WIDTH: u64 = 0x100_0000_0000_0000;
+
+// A column of a row.
+#[derive(Clone, Copy)]
+pub(crate) struct Column {
+    pub index: u8,
+    ghost bound: { index ≤ 127 },
+}
 
 // A row's number, its smallest divisor, and multiples of its smallest divisor, (16 + row) * 2^56, and of its largest, (17 + row) * 2^56 - 1: those that
 // bound 3P. A point has 3P from -8D to 8D, and the digit q keeps 3P from (3q - 2)D to (3q + 2)D. Each multiple is handed on as a column, the last on its
@@ -51,11 +59,22 @@ pub(crate) struct RowMultiples {
     pub plus8: u8,
 }
 
-// a - b, or 0 where b is larger.
-fn monus(a: u64, b: u64) -> u64
-    ensures { result ≡ a - b }
-{
-    if a < b { 0 } else { a - b }
+// A clause sees the row alone: the other fields are its multiples.
+impl Model for RowMultiples {
+    ghost use Rattle.std.proofs.Common.{sym};
+    ghost use Rattle.selection.specs.computed.TableRow.{TableRow};
+
+    ghost Value = { TableRow };
+
+    ghost use Rattle.selection.specs.computed.CellTest.{RowOf, multiples_of};
+
+    ghost view = { λ m. record { estimate = m.estimate; row = m.row } };
+
+    ghost invariant = { RowOf };
+
+    ghost inverse = { λ r. multiples_of r.estimate r.row };
+
+    ghost inverse_ok = { λ m h. sym h.is };
 }
 
 fn span_of(estimate: Estimate) -> u64
@@ -71,16 +90,16 @@ fn span_of(estimate: Estimate) -> u64
 fn left_column(remainder: u64) -> u8
     ensures { result ≡ left_column remainder }
 {
-    (remainder / COLUMN) as u8
+    (remainder / COLUMN_WIDTH) as u8
 }
 
 fn right_column(estimate: Estimate, remainder: u64) -> u8
     ensures { result ≡ right_column estimate remainder }
 {
-    (monus(remainder, span_of(estimate)) / COLUMN) as u8
+    (remainder.saturating_sub(span_of(estimate)) / COLUMN_WIDTH) as u8
 }
 
-// The last column that begins, and that ends, where 3P is at most n, and where it is below -n.
+// The last column that begins, and that ends, where 3P is at most n, and where it is below -n. The four differ in side and end, and so in more than a constant.
 fn begins_at_most(n: u64) -> u8
     ensures { result ≡ begins_at_most n }
 {
@@ -105,99 +124,76 @@ fn ends_below_minus(estimate: Estimate, n: u64) -> u8
     right_column(estimate, HALF - n / 3 - 1)
 }
 
-// The multiples of a row. Of the largest, once and four times less 1: 3P < L is 3P <= L - 1, and 3P <= -L is 3P < -(L - 1).
-pub(crate) fn row_multiples(estimate: Estimate, row: u64) -> RowMultiples
-    requires { row ≤ 15 }
-    ensures { RowOf result × (result.estimate ≡ estimate) × (result.row ≡ row) }
-{
-    let smallest = (16 + row) * ROW;
-    let largest = (17 + row) * ROW - 1;
-    let one = largest - 1;
-    let two = 2 * smallest;
-    let four = 4 * largest - 1;
-    let five = 5 * smallest;
-    let eight = 8 * largest;
-    RowMultiples {
-        estimate,
-        row,
-        smallest,
-        minus8: ends_below_minus(estimate, eight),
-        minus5: begins_below_minus(five),
-        minus4: ends_below_minus(estimate, four),
-        minus2: begins_below_minus(two),
-        minus1: ends_below_minus(estimate, one),
-        plus1: begins_at_most(one),
-        plus2: ends_at_most(estimate, two),
-        plus4: begins_at_most(four),
-        plus5: ends_at_most(estimate, five),
-        plus8: begins_at_most(eight),
-    }
-}
-
-// 1 if c is past x, else 0. It is in the arithmetic of bytes, so that the cells of a row can go side by side.
+// 1 if c is past x, else 0. It is in the arithmetic of bytes, so that the cells of a row can go side by side: by `u8::from(x < c)` the check takes 14 times as
+// many instructions.
 fn past(x: u8, c: u8) -> u8
     requires { (x ≤ 127) × (c ≤ 127) }
     ensures { (result ≡ past x c) × (result ≤ 1) }
 {
-    std::num::wrapping_sub_u8(x, c) / 128
+    x.wrapping_sub(c) / 128
 }
 
-// The least byte for whose digit no remainder of the column is too high.
-fn least_byte(m: RowMultiples, c: u8) -> u8
-    requires { RowOf m × (c ≤ 127) }
-    ensures { (result ≡ least_byte m c) × (result ≤ 4) }
-{
-    past(m.minus4, c) + past(m.minus1, c) + past(m.plus2, c) + past(m.plus5, c)
-}
-
-// The greatest byte for whose digit none is too low.
-fn greatest_byte(m: RowMultiples, c: u8) -> u8
-    requires { RowOf m × (c ≤ 127) }
-    ensures { (result ≡ greatest_byte m c) × (result ≤ 4) }
-{
-    past(m.minus5, c) + past(m.minus2, c) + past(m.plus1, c) + past(m.plus4, c)
-}
-
-// Whether the cell has a point: the lower of the outer two columns is passed, and the upper is not.
-fn has_point(m: RowMultiples, c: u8) -> bool
-    requires { RowOf m × (c ≤ 127) }
-    ensures { result ≡ has_point m c }
-{
-    past(m.minus8, c) + past(m.plus8, c) == 1
-}
-
-// Whether the cell allows the byte's digit: the verdict of `test_cell` without its witness.
-pub(crate) fn allows(m: RowMultiples, c: u8, byte: u8) -> bool
-    requires { CellOf m c byte }
-    ensures { (result ≡ allows_by m c byte) × ((result ≡ true) ↔ (cell_of m.estimate m.row c byte ≡ Verdict.Allowed)) }
-{
-    if past(greatest_byte(m, c), byte) + past(byte, least_byte(m, c)) == 0 {
-        return true;
+impl RowMultiples {
+    // The multiples of a row. Of the largest, once and four times less 1: 3P < L is 3P <= L - 1, and 3P <= -L is 3P < -(L - 1).
+    pub(crate) fn new(estimate: Estimate, row: u64) -> RowMultiples
+        requires { row ≤ 15 }
+        ensures { result ≡ record { estimate = estimate; row = row } }
+    {
+        let smallest = (16 + row) * ROW_WIDTH;
+        let largest = (17 + row) * ROW_WIDTH - 1;
+        let one = largest - 1;
+        let two = 2 * smallest;
+        let four = 4 * largest - 1;
+        let five = 5 * smallest;
+        let eight = 8 * largest;
+        RowMultiples {
+            estimate,
+            row,
+            smallest,
+            minus8: ends_below_minus(estimate, eight),
+            minus5: begins_below_minus(five),
+            minus4: ends_below_minus(estimate, four),
+            minus2: begins_below_minus(two),
+            minus1: ends_below_minus(estimate, one),
+            plus1: begins_at_most(one),
+            plus2: ends_at_most(estimate, two),
+            plus4: begins_at_most(four),
+            plus5: ends_at_most(estimate, five),
+            plus8: begins_at_most(eight),
+        }
     }
-    !has_point(m, c)
-}
 
-// The larger of two numbers.
-fn larger(a: u64, b: u64) -> u64
-    ensures { result ≡ max a b }
-{
-    if a < b { b } else { a }
-}
+    // The least byte for whose digit no remainder of the column is too high.
+    fn least_byte(self, column: Column) -> u8
+        ensures { (result ≡ least_byte (multiples_of self.estimate self.row) column.index) × (result ≤ 4) }
+    {
+        let c = column.index;
+        past(self.minus4, c) + past(self.minus1, c) + past(self.plus2, c) + past(self.plus5, c)
+    }
 
-// Three times what a column lies above 0 at least, and below 0 at least. A point has 3|P| <= 8D, so |P| is below 43 * 2^57: a cell that has one is
-// in the columns 20 to 106, and in them this fits a word.
-fn above(column: u64) -> u64
-    requires { (20 ≤ column) × (column ≤ 106) }
-    ensures { (result ≡ above column) × (result < 2 ^ 64 - 8) }
-{
-    3 * monus(column * COLUMN, HALF)
-}
+    // The greatest byte for whose digit none is too low.
+    fn greatest_byte(self, column: Column) -> u8
+        ensures { (result ≡ greatest_byte (multiples_of self.estimate self.row) column.index) × (result ≤ 4) }
+    {
+        let c = column.index;
+        past(self.minus5, c) + past(self.minus2, c) + past(self.plus1, c) + past(self.plus4, c)
+    }
 
-fn under(estimate: Estimate, column: u64) -> u64
-    requires { (20 ≤ column) × (column ≤ 106) }
-    ensures { (result ≡ under estimate column) × (result < 2 ^ 64 - 8) }
-{
-    3 * monus(HALF, column * COLUMN + span_of(estimate))
+    // Whether the cell has a point: the lower of the outer two columns is passed, and the upper is not.
+    fn has_point(self, column: Column) -> bool
+        ensures { result ≡ has_point (multiples_of self.estimate self.row) column.index }
+    {
+        past(self.minus8, column.index) + past(self.plus8, column.index) == 1
+    }
+
+    // Whether the cell allows the byte's digit: the verdict of `test_cell` without its witness. Both sides are cheap, so no branch stands between them.
+    pub(crate) fn allows(self, column: Column, byte: u8) -> bool
+        requires { byte ≤ 127 }
+        ensures { (result ≡ allows_of self.estimate self.row column.index byte) × ((result ≡ true) ↔ (verdict_at self.estimate self.row column.index byte ≡ None)) }
+    {
+        (past(self.greatest_byte(column), byte) + past(byte, self.least_byte(column)) == 0)
+            | !self.has_point(column)
+    }
 }
 
 // The least D with y < 4D for k = 0, with y < D for k = 1; else 0.
@@ -205,13 +201,11 @@ fn least_past(k: u64, y: u64) -> u64
     requires { y < 2 ^ 64 - 8 }
     ensures { result ≡ least_past k y }
 {
-    if k == 0 {
-        return y / 4 + 1;
+    match k {
+        0 => y / 4 + 1,
+        1 => y + 1,
+        _ => 0,
     }
-    if k == 1 {
-        return y + 1;
-    }
-    0
 }
 
 // The least D from `start` on with x <= 8D that is past y as above: no divisor before it has a point that breaks the digit.
@@ -219,96 +213,119 @@ fn least_divisor(start: u64, x: u64, y: u64, k: u64) -> u64
     requires { (x < 2 ^ 64 - 8) × (y < 2 ^ 64 - 8) }
     ensures { result ≡ least_divisor start x y k }
 {
-    larger(start, larger((x + 7) / 8, least_past(k, y)))
+    start.max(x.div_ceil(8)).max(least_past(k, y))
 }
 
-// The remainder of a biased one.
+// The remainder of a biased one, a function since no one call of the library gives it.
 fn unbiased(w: u64) -> i64
     ensures { result ≡ sub_ℕ w (2 ^ 63) }
 {
-    if w < HALF {
-        -0x8000_0000_0000_0000 + (w as i64)
-    } else {
-        (w - HALF) as i64
+    w.wrapping_sub(HALF).cast_signed()
+}
+
+// The search for the least witness against a byte's digit in a column of a row, whose smallest divisor it begins with. A point has 3|P| <= 8D, so |P| is below
+// 43 * 2^57: a cell that has one is in the columns 20 to 106, and in them three times what a column lies from 0 fits a word.
+#[derive(Clone, Copy)]
+struct WitnessSearch {
+    estimate: Estimate,
+    smallest: u64,
+    column: u64,
+    byte: u64,
+    ghost column_bounds: { (20 ≤ column) × (column ≤ 106) },
+    ghost byte_bound: { byte ≤ 4 },
+}
+
+impl WitnessSearch {
+    // Three times what the column lies above 0 at least, and below 0 at least.
+    fn above(self) -> u64
+        ensures { (result ≡ above self.column) × (result < 2 ^ 64 - 8) }
+    {
+        3 * (self.column * COLUMN_WIDTH).saturating_sub(HALF)
+    }
+
+    fn under(self) -> u64
+        ensures { (result ≡ under self.estimate self.column) × (result < 2 ^ 64 - 8) }
+    {
+        3 * HALF.saturating_sub(self.column * COLUMN_WIDTH + span_of(self.estimate))
+    }
+
+    // The least divisor of the row at which a remainder of the column is too low for the digit, and too high. `least_divisor` is what the two have in common,
+    // with the sides of 0 exchanged.
+    fn low_divisor(self) -> u64
+        ensures { result ≡ low_divisor self.estimate self.smallest self.column self.byte }
+    {
+        least_divisor(self.smallest, self.under(), self.above(), 4 - self.byte)
+    }
+
+    fn high_divisor(self) -> u64
+        ensures { result ≡ high_divisor self.estimate self.smallest self.column self.byte }
+    {
+        least_divisor(self.smallest, self.above(), self.under(), self.byte)
+    }
+
+    // The least point of the column at the divisor d, and the least that is too high for the digit: other formulas, which share their first bound alone.
+    fn low_witness(self, d: u64) -> Witness
+        requires { d ≤ 2 ^ 61 }
+        ensures { result ≡ witness_of d (low_at d self.column) }
+    {
+        Witness {
+            divisor: d,
+            remainder: unbiased((self.column * COLUMN_WIDTH).max(HALF - (2 * d + 2 * d / 3))),
+        }
+    }
+
+    fn high_witness(self, d: u64) -> Witness
+        requires { d ≤ 2 ^ 61 }
+        ensures { result ≡ witness_of d (high_at d self.column self.byte) }
+    {
+        Witness {
+            divisor: d,
+            remainder: unbiased(
+                (self.column * COLUMN_WIDTH).max(HALF - 2 * d + self.byte * d + 2 * d / 3 + 1),
+            ),
+        }
     }
 }
 
-// The least divisor of the row at which a remainder of the column is too low for the digit, and too high.
-fn low_divisor(estimate: Estimate, smallest: u64, column: u64, byte: u64) -> u64
-    requires { (20 ≤ column) × (column ≤ 106) × (byte ≤ 4) }
-    ensures { result ≡ low_divisor estimate smallest column byte }
+// The test of a cell, handed the multiples of its row: the least witness against the digit, or none where it is allowed. No digit is both too low and too
+// high. It is a function and no method: the specification says that the test is handed its row's multiples.
+pub(crate) fn test_cell(m: RowMultiples, column: Column, byte: u8) -> Option<Witness>
+    requires { byte ≤ 4 }
+    ensures { result ≡ verdict_at m.estimate m.row column.index byte }
 {
-    least_divisor(smallest, under(estimate, column), above(column), 4 - byte)
-}
-
-fn high_divisor(estimate: Estimate, smallest: u64, column: u64, byte: u64) -> u64
-    requires { (20 ≤ column) × (column ≤ 106) }
-    ensures { result ≡ high_divisor estimate smallest column byte }
-{
-    least_divisor(smallest, above(column), under(estimate, column), byte)
-}
-
-// The least point of the column at the divisor d, and the least that is too high for the digit.
-fn low_witness(d: u64, column: u64) -> Witness
-    requires { (d ≤ 2 ^ 61) × (column ≤ 106) }
-    ensures { result ≡ witness_of d (low_at d column) }
-{
-    Witness {
-        divisor: d,
-        remainder: unbiased(larger(column * COLUMN, HALF - (2 * d + 2 * d / 3))),
+    if m.allows(column, byte) {
+        return None;
     }
+    let search = WitnessSearch {
+        estimate: m.estimate,
+        smallest: m.smallest,
+        column: column.index as u64,
+        byte: byte as u64,
+    };
+    if m.greatest_byte(column) < byte {
+        return Some(search.low_witness(search.low_divisor()));
+    }
+    Some(search.high_witness(search.high_divisor()))
 }
 
-fn high_witness(d: u64, column: u64, byte: u64) -> Witness
-    requires { WitnessFor d column byte }
-    ensures { result ≡ witness_of d (high_at d column byte) }
-{
-    Witness {
-        divisor: d,
-        remainder: unbiased(larger(column * COLUMN, HALF - 2 * d + byte * d + 2 * d / 3 + 1)),
-    }
-}
-
-// The test of a cell, handed the multiples of its row: the verdict and the witness of `check_cell`. No digit is both too low and too high.
-pub(crate) fn test_cell(m: RowMultiples, column: u64, byte: u8) -> CellVerdict
-    requires { CellOf m column byte }
-    ensures { result ≡ cell_of m.estimate m.row column byte }
-{
-    let c = column as u8;
-    if allows(m, c, byte) {
-        return CellVerdict::Allowed;
-    }
-    let b = byte as u64;
-    let estimate = m.estimate;
-    if greatest_byte(m, c) < byte {
-        let d = low_divisor(estimate, m.smallest, column, b);
-        return CellVerdict::Disallowed(low_witness(d, column));
-    }
-    let d = high_divisor(estimate, m.smallest, column, b);
-    CellVerdict::Disallowed(high_witness(d, column, b))
-}
-
-// Row, column and byte of a single cell, for a divider with this estimate: allowed, or the least witness against the digit.
-pub fn check_cell(estimate: Estimate, row: u64, column: u64, byte: u8) -> CellVerdict
+// Row, column and byte of a single cell, for a divider with this estimate: none where the digit is allowed, or the least witness against it.
+pub fn check_cell(
+    estimate: Estimate,
+    row: u64,
+    column: u64,
+    byte: u8,
+) -> Result<Option<Witness>, Refusal>
     ensures { result ≡ cell_of estimate row column byte }
 {
-    if 15 < row {
-        return CellVerdict::Refused(Refusal {
-            number: REFUSED_CELL,
-            place: 0,
-        });
-    }
-    if 127 < column {
-        return CellVerdict::Refused(Refusal {
-            number: REFUSED_CELL,
-            place: 0,
-        });
+    if 15 < row || 127 < column {
+        return Err(Reason::Cell.into());
     }
     if 4 < byte {
-        return CellVerdict::Refused(Refusal {
-            number: REFUSED_BYTE,
-            place: 128 * row + column,
-        });
+        return Err(Reason::Byte.at(128 * row + column));
     }
-    test_cell(row_multiples(estimate, row), column, byte)
+    let m = RowMultiples::new(estimate, row);
+    let column = Column {
+        index: column as u8,
+    };
+    Ok(test_cell(m, column, byte))
 }

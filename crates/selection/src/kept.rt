@@ -1,10 +1,11 @@
 // The kept table (the specification's term): 2,048 bytes, equal to what the maker writes (`made_one`), and it passes the check (`made_passes`).
-ghost use Rattle.std.specs.Prelude.{◌≡◌, length};
+ghost use Rattle.std.specs.Prelude.{◌≡◌};
 ghost use Rattle.selection.specs.Cell as Cell;
 ghost use Rattle.selection.specs.computed.Outcomes.{made_table};
-ghost use Rattle.selection.specs.computed.WordBytes.{words_bytes};
 ghost use Rattle.selection.specs.declared.Estimate.TheVariants.{EightBits};
 ghost use Rattle.selection.specs.computed.Table.{row_bytes};
+
+use crate::table::row_of;
 
 // A row is two lines of 64 bytes, a byte a digit plus 2.
 const KEPT: [u8; 2048] = *b"\
@@ -41,6 +42,9 @@ const KEPT: [u8; 2048] = *b"\
     \x02\x02\x02\x02\x02\x02\x02\x02\x02\x02\x02\x02\x02\x02\x02\x02\x02\x02\x02\x02\x00\x00\x00\x00\x00\x00\x00\x00\x00\x00\x00\x00\x00\x00\x00\x00\x00\x00\x00\x01\x01\x01\x01\x01\x01\x01\x01\x01\x01\x01\x01\x01\x01\x01\x02\x02\x02\x02\x02\x02\x02\x02\x02\x02\
     \x02\x02\x02\x02\x02\x02\x02\x02\x02\x03\x03\x03\x03\x03\x03\x03\x03\x03\x03\x03\x03\x03\x03\x03\x03\x04\x04\x04\x04\x04\x04\x04\x04\x04\x04\x04\x04\x04\x04\x04\x04\x04\x04\x02\x02\x02\x02\x02\x02\x02\x02\x02\x02\x02\x02\x02\x02\x02\x02\x02\x02\x02\x02\x02";
 
+// The same bytes at one place, so that a row is read from there: a constant array is built anew at each use.
+static TABLE: [u8; 2048] = KEPT;
+
 // The kept table, whole.
 pub fn kept_table() -> [u8; 2048]
     ensures { result ≡ made_table EightBits }
@@ -48,33 +52,10 @@ pub fn kept_table() -> [u8; 2048]
     KEPT
 }
 
-// The bytes of sixteen words, the lowest of each first.
-fn bytes_of(words: &[u64; 16]) -> [u8; 128]
-    requires { length words.now ≡ 16 }
-    ensures { result ≡ words_bytes words.now }
+// The row of a divisor in the kept table. It is not inlined: in a loop over digits its address would be formed anew for each, a tenth of a run's instructions.
+#[inline(never)]
+pub fn kept_row(divisor: u64) -> &'static [u8]
+    ensures { result.now ≡ row_bytes (made_table EightBits) (Cell.row divisor) }
 {
-    let mut bytes = [0u8; 128];
-    let mut k = 0;
-    while k < 16 {
-        let x = words[k];
-        let i = 8 * k;
-        bytes[i] = (x % 256) as u8;
-        bytes[i + 1] = ((x >> 8) % 256) as u8;
-        bytes[i + 2] = ((x >> 16) % 256) as u8;
-        bytes[i + 3] = ((x >> 24) % 256) as u8;
-        bytes[i + 4] = ((x >> 32) % 256) as u8;
-        bytes[i + 5] = ((x >> 40) % 256) as u8;
-        bytes[i + 6] = ((x >> 48) % 256) as u8;
-        bytes[i + 7] = ((x >> 56) % 256) as u8;
-        k += 1;
-    }
-    bytes
-}
-
-// The row of a divisor in the kept table.
-pub fn kept_row(divisor: u64) -> [u8; 128]
-    ensures { result ≡ row_bytes (made_table EightBits) (Cell.row divisor) }
-{
-    let words = crate::kept_words::row_words(divisor >> 56);
-    bytes_of(&words)
+    row_of(&TABLE, divisor)
 }

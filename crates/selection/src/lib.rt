@@ -4,72 +4,71 @@
 pub mod bits;
 pub mod cell;
 pub mod kept;
-mod kept_words;
 pub mod maker;
 pub mod numbers;
+pub mod passing;
 pub mod repair;
 pub mod table;
 
 ghost use Rattle.std.specs.Prelude.{◌≡◌};
-ghost use Rattle.selection.specs.Answer.{refusal};
-ghost use Rattle.selection.specs.declared.Admission.TheVariants as Told;
+ghost use Rattle.selection.specs.Answer.{refusal, number_of_reason};
+ghost use Rattle.selection.specs.computed.Answer.{refusal_of};
 ghost use Rattle.selection.specs.Cell.{digit};
 
 // The length of a table.
 pub const TABLE_LENGTH: usize = 2048;
 
-// The refusals, by the names that they have in C.
-pub const REFUSED_CELL: u64 = 1;
+// Why a call refuses, by the numbers that C has.
+#[derive(Clone, Copy, Debug, PartialEq, Eq)]
+pub enum Reason {
+    Cell = 1,
+    Digits = 2,
+    Span = 3,
+    TooLarge = 4,
+    ByZero = 5,
+    Direction = 6,
+    Room = 7,
+    Length = 8,
+    Byte = 9,
+    BadCell = 10,
+    Lists = 11,
+    Width = 12,
+    Reading = 13,
+    Range = 14,
+    Decimal = 15,
+    Bits = 16,
+    EstimateBits = 17,
+}
 
-pub const REFUSED_DIGITS: u64 = 2;
-
-pub const REFUSED_SPAN: u64 = 3;
-
-pub const REFUSED_TOO_LARGE: u64 = 4;
-
-pub const REFUSED_BY_ZERO: u64 = 5;
-
-pub const REFUSED_DIRECTION: u64 = 6;
-
-pub const REFUSED_ROOM: u64 = 7;
-
-pub const REFUSED_LENGTH: u64 = 8;
-
-pub const REFUSED_BYTE: u64 = 9;
-
-pub const REFUSED_BAD_CELL: u64 = 10;
-
-pub const REFUSED_LISTS: u64 = 11;
-
-pub const REFUSED_WIDTH: u64 = 12;
-
-pub const REFUSED_READING: u64 = 13;
-
-pub const REFUSED_RANGE: u64 = 14;
-
-pub const REFUSED_DECIMAL: u64 = 15;
-
-pub const REFUSED_BITS: u64 = 16;
-
-pub const REFUSED_ESTIMATE_BITS: u64 = 17;
+impl Reason {
+    // The refusal for this reason, with its place.
+    pub fn at(self, place: u64) -> Refusal
+        ensures { result ≡ refusal (number_of_reason self) place }
+    {
+        Refusal {
+            number: self as u64,
+            place,
+        }
+    }
+}
 
 // Which divider a table is for: how many of the top bits of each remainder word it adds to estimate the partial remainder.
-#[derive(Clone, Copy)]
+#[derive(Clone, Copy, Debug, PartialEq, Eq)]
 pub enum Estimate {
     SevenBits,
     EightBits,
 }
 
 // A point of a cell that breaks a digit.
-#[derive(Clone, Copy)]
+#[derive(Clone, Copy, Debug, PartialEq, Eq)]
 pub struct Witness {
     pub divisor: u64,
     pub remainder: i64,
 }
 
-// A refusal: its number (0: none) and its place.
+// A refusal, as C sees it: its number (0: none) and its place.
 #[repr(C)]
-#[derive(Clone, Copy)]
+#[derive(Clone, Copy, Debug, PartialEq, Eq)]
 pub struct Refusal {
     pub number: u64,
     pub place: u64,
@@ -80,30 +79,31 @@ pub const NO_REFUSAL: Refusal = Refusal {
     place: 0,
 };
 
-#[derive(Clone, Copy)]
-pub enum CellVerdict {
-    Allowed,
-    Disallowed(Witness),
-    Refused(Refusal),
+// The place of a refusal is 0 where its reason has none.
+impl From<Reason> for Refusal {
+    ghost from_gives = { λ reason f. f ≡ refusal (number_of_reason reason) 0 };
+
+    fn from(reason: Reason) -> Refusal {
+        reason.at(0)
+    }
 }
 
-// Whether a call takes what it is handed: its arguments, or a table.
-#[derive(Clone, Copy)]
-pub enum Admission {
-    Admitted,
-    Refused(Refusal),
-}
+// What C sees of a call that gives no value besides.
+impl From<Result<(), Refusal>> for Refusal {
+    ghost from_gives = { λ answer f. f ≡ refusal_of answer };
 
-// A refusal whose place is 0.
-pub fn refused(number: u64) -> Admission
-    ensures { result ≡ Told.Refused (refusal number 0) }
-{
-    Admission::Refused(Refusal { number, place: 0 })
+    fn from(answer: Result<(), Refusal>) -> Refusal {
+        match answer {
+            Ok(()) => NO_REFUSAL,
+            Err(refusal) => refusal,
+        }
+    }
 }
 
 // The digit q that a byte holds as q + 2.
+#[tactic(auto, unfolding(crate::specs::Cell::digit))]
 pub fn digit_of(byte: u8) -> i64
     ensures { result ≡ digit byte }
 {
-    byte as i64 - 2
+    i64::from(byte) - 2
 }

@@ -1,28 +1,30 @@
 // The maker of a table.
 ghost use Rattle.std.specs.Prelude.{◌≡◌, ℕ, ◌<◌, ◌≤◌, [], slice_index_or};
+ghost use Rattle.selection.specs.computed.Answer.{refusal_of};
+ghost use Rattle.selection.specs.computed.Maker.{limits_numbers};
 ghost use Rattle.selection.specs.computed.Outcomes.{limits_of, row_limits_of, make_of};
 ghost use Rattle.selection.specs.Maker.{AreLimits, step_at};
 
-use crate::cell::row_multiples;
-use crate::{Estimate, NO_REFUSAL, REFUSED_CELL, REFUSED_ROOM, Refusal, TABLE_LENGTH};
+use crate::cell::RowMultiples;
+use crate::{Estimate, NO_REFUSAL, Reason, Refusal, TABLE_LENGTH};
 
-// The six columns at which the made digits of a row change.
-pub(crate) fn limits_of(estimate: Estimate, row: u64) -> [u8; 6]
-    requires { row ≤ 15 }
-    ensures { (result ≡ limits_of estimate row) × AreLimits estimate row result }
-{
-    let m = row_multiples(estimate, row);
-    [
-        m.minus8 + 1,
-        m.minus5 + 1,
-        m.minus2 + 1,
-        m.plus2 + 1,
-        m.plus5 + 1,
-        m.plus8 + 1,
-    ]
+impl RowMultiples {
+    // The six columns at which the made digits of the row change.
+    pub(crate) fn limits(self) -> [u8; 6]
+        ensures { (result ≡ limits_of self.estimate self.row) × AreLimits self.estimate self.row result }
+    {
+        [
+            self.minus8 + 1,
+            self.minus5 + 1,
+            self.minus2 + 1,
+            self.plus2 + 1,
+            self.plus5 + 1,
+            self.plus8 + 1,
+        ]
+    }
 }
 
-// A row's limits, or refusal 1 and zeros.
+// A row's limits as C sees them, or refusal 1 and zeros.
 #[repr(C)]
 #[derive(Clone, Copy)]
 pub struct Limits {
@@ -30,50 +32,53 @@ pub struct Limits {
     pub limits: [u8; 6],
 }
 
+impl From<Result<[u8; 6], Refusal>> for Limits {
+    ghost from_gives = { λ answer x. x ≡ limits_numbers answer };
+
+    fn from(answer: Result<[u8; 6], Refusal>) -> Limits {
+        match answer {
+            Ok(limits) => Limits {
+                refusal: NO_REFUSAL,
+                limits,
+            },
+            Err(refusal) => Limits {
+                refusal,
+                limits: [0; 6],
+            },
+        }
+    }
+}
+
+// The limits of a row, or refusal 1.
+pub(crate) fn limits_in(estimate: Estimate, row: u64) -> Result<[u8; 6], Refusal>
+    ensures { limits_numbers result ≡ row_limits_of estimate row }
+{
+    if 15 < row {
+        return Err(Reason::Cell.into());
+    }
+    Ok(RowMultiples::new(estimate, row).limits())
+}
+
 // The limits of a row.
 pub fn row_limits(estimate: Estimate, row: u64) -> Limits
     ensures { result ≡ row_limits_of estimate row }
 {
-    if 15 < row {
-        let none = [0u8; 6];
-        return Limits {
-            refusal: Refusal {
-                number: REFUSED_CELL,
-                place: 0,
-            },
-            limits: none,
-        };
-    }
-    let l = limits_of(estimate, row);
-    Limits {
-        refusal: NO_REFUSAL,
-        limits: l,
-    }
+    limits_in(estimate, row).into()
 }
 
 // The byte at a column of a row with the limits l.
 pub(crate) fn digit_at(l: [u8; 6], c: u8) -> u8
     ensures { result ≡ step_at l c }
 {
-    if c < l[0] {
-        return 2;
+    match c {
+        _ if c < l[0] => 2,
+        _ if c < l[1] => 0,
+        _ if c < l[2] => 1,
+        _ if c < l[3] => 2,
+        _ if c < l[4] => 3,
+        _ if c < l[5] => 4,
+        _ => 2,
     }
-    if c < l[1] {
-        return 0;
-    }
-    if c < l[2] {
-        return 1;
-    }
-    if c < l[3] {
-        return 2;
-    }
-    if c < l[4] {
-        return 3;
-    }
-    if c < l[5] {
-        return 4;
-    }
-    2
 }
 
 // The limits of all rows.
@@ -81,32 +86,29 @@ fn all_limits(estimate: Estimate) -> [[u8; 6]; 16]
     ensures { (j : ℕ) → j < 16 → AreLimits estimate j (slice_index_or result j []) }
 {
     let mut all = [[0u8; 6]; 16];
-    let mut row: usize = 0;
-    while row < 16 {
-        let l = limits_of(estimate, row as u64);
-        all[row] = l;
-        row += 1;
+    for (row, limits) in all.iter_mut().enumerate() {
+        *limits = RowMultiples::new(estimate, row as u64).limits();
     }
     all
+}
+
+// The made table, in the first 2,048 bytes of the buffer, or refusal 7.
+pub(crate) fn write_table(estimate: Estimate, buffer: &mut [u8]) -> Result<(), Refusal>
+    ensures { record { answer = refusal_of result; buffer = buffer.new } ≡ make_of estimate buffer.old }
+{
+    if buffer.len() < TABLE_LENGTH {
+        return Err(Reason::Room.into());
+    }
+    let all = all_limits(estimate);
+    for (k, byte) in buffer[..TABLE_LENGTH].iter_mut().enumerate() {
+        *byte = digit_at(all[k / 128], (k % 128) as u8);
+    }
+    Ok(())
 }
 
 // The made table, in the first 2,048 bytes of the buffer.
 pub fn make_table(estimate: Estimate, buffer: &mut [u8]) -> Refusal
     ensures { record { answer = result; buffer = buffer.new } ≡ make_of estimate buffer.old }
 {
-    if buffer.len() < TABLE_LENGTH {
-        return Refusal {
-            number: REFUSED_ROOM,
-            place: 0,
-        };
-    }
-    let all = all_limits(estimate);
-    let mut k: usize = 0;
-    while k < TABLE_LENGTH {
-        let row = k / 128;
-        let l = all[row];
-        buffer[k] = digit_at(l, (k % 128) as u8);
-        k += 1;
-    }
-    NO_REFUSAL
+    write_table(estimate, buffer).into()
 }

@@ -1,11 +1,11 @@
 // Number, place and values of the two answers that hold an enum, as C sees them: the refusal (0: none) and its place first, zeros where a call refuses.
-ghost use Rattle.std.specs.Prelude.{◌≡◌, ◌≤◌};
-ghost use Rattle.selection.specs.computed.Answer.{cell_numbers, bad_numbers, report_numbers, CellOfReport};
+ghost use Rattle.std.specs.Prelude.{◌≡◌};
+ghost use Rattle.selection.specs.computed.Answer.{cell_numbers, report_numbers};
 ghost use Rattle.selection.specs.computed.Outcomes.{cell_of, report_of};
-ghost use Rattle.selection.specs.declared.CellVerdict.TheVariants as C;
 
-use crate::table::{Outcome, TableVerdict};
-use crate::{CellVerdict, Estimate, NO_REFUSAL, REFUSED_BAD_CELL, Refusal, Witness};
+use crate::cell::check_cell;
+use crate::table::{Outcome, TableVerdict, check_table};
+use crate::{Estimate, NO_REFUSAL, Reason, Refusal, Witness};
 
 // Of a single cell: 1 for an allowed digit; 0 for a disallowed one, with the least witness.
 #[repr(C)]
@@ -29,84 +29,65 @@ pub struct Report {
     pub remainder: i64,
 }
 
-// The numbers of a digit that is not allowed. The witness is a parameter, since a parameter's i64 is known to fit its field.
-fn disallowed(witness: Witness) -> Cell
-    ensures { result ≡ cell_numbers (C.Disallowed witness) }
-{
-    Cell {
-        refusal: NO_REFUSAL,
-        allowed: 0,
-        divisor: witness.divisor,
-        remainder: witness.remainder,
-    }
-}
+// An answer without allowed digit or witness.
+const NO_CELL: Cell = Cell {
+    refusal: NO_REFUSAL,
+    allowed: 0,
+    divisor: 0,
+    remainder: 0,
+};
 
-// The numbers of a cell's verdict.
-fn verdict_numbers(x: CellVerdict) -> Cell
-    ensures { result ≡ cell_numbers x }
-{
-    match x {
-        CellVerdict::Allowed => Cell {
-            refusal: NO_REFUSAL,
-            allowed: 1,
-            divisor: 0,
-            remainder: 0,
-        },
-        CellVerdict::Disallowed(witness) => disallowed(witness),
-        CellVerdict::Refused(f) => Cell {
-            refusal: f,
-            allowed: 0,
-            divisor: 0,
-            remainder: 0,
-        },
-    }
-}
+impl From<Result<Option<Witness>, Refusal>> for Cell {
+    ghost from_gives = { λ verdict x. x ≡ cell_numbers verdict };
 
-// The numbers of a table with a bad cell, from its parts. The place is the cell's index.
-fn bad_numbers(count: u64, row: u64, column: u64, witness: Witness) -> Report
-    requires { (row ≤ 15) × (column ≤ 127) }
-    ensures { result ≡ bad_numbers count row column witness }
-{
-    Report {
-        refusal: Refusal {
-            number: REFUSED_BAD_CELL,
-            place: 128 * row + column,
-        },
-        count,
-        row,
-        column,
-        divisor: witness.divisor,
-        remainder: witness.remainder,
-    }
-}
-
-// The numbers of the check's report.
-fn report_numbers(x: TableVerdict) -> Report
-    requires { CellOfReport x }
-    ensures { result ≡ report_numbers x }
-{
-    let outcome = x.outcome;
-    match outcome {
-        Outcome::Passed => Report {
-            refusal: NO_REFUSAL,
-            count: 0,
-            row: 0,
-            column: 0,
-            divisor: 0,
-            remainder: 0,
-        },
-        Outcome::Bad(cell) => {
-            let witness = cell.witness;
-            bad_numbers(x.count, cell.row, cell.column, witness)
+    fn from(verdict: Result<Option<Witness>, Refusal>) -> Cell {
+        match verdict {
+            Ok(None) => Cell {
+                allowed: 1,
+                ..NO_CELL
+            },
+            Ok(Some(witness)) => Cell {
+                divisor: witness.divisor,
+                remainder: witness.remainder,
+                ..NO_CELL
+            },
+            Err(refusal) => Cell { refusal, ..NO_CELL },
         }
-        Outcome::Refused(f) => Report {
-            refusal: f,
-            count: 0,
-            row: 0,
-            column: 0,
-            divisor: 0,
-            remainder: 0,
-        },
+    }
+}
+
+// The report of a table that passes.
+const NO_BAD_CELL: Report = Report {
+    refusal: NO_REFUSAL,
+    count: 0,
+    row: 0,
+    column: 0,
+    divisor: 0,
+    remainder: 0,
+};
+
+// The place of a bad cell's refusal is the cell's index.
+impl From<Result<TableVerdict, Refusal>> for Report {
+    ghost from_gives = { λ report x. x ≡ report_numbers report };
+
+    fn from(report: Result<TableVerdict, Refusal>) -> Report {
+        match report {
+            Ok(verdict) => match verdict.outcome {
+                Outcome::Passed => NO_BAD_CELL,
+                Outcome::Bad(cell) => Report {
+                    refusal: Reason::BadCell.at(cell.place()),
+                    count: verdict.count,
+                    row: u64::from(cell.row),
+                    column: u64::from(cell.column),
+                    divisor: cell.witness.divisor,
+                    remainder: cell.witness.remainder,
+                },
+            },
+            Err(refusal) => Report {
+                refusal,
+                ..NO_BAD_CELL
+            },
+        }
     }
 }
 
@@ -114,12 +95,12 @@ fn report_numbers(x: TableVerdict) -> Report
 pub fn cell_numbers(estimate: Estimate, row: u64, column: u64, byte: u8) -> Cell
     ensures { result ≡ cell_numbers (cell_of estimate row column byte) }
 {
-    verdict_numbers(crate::cell::check_cell(estimate, row, column, byte))
+    check_cell(estimate, row, column, byte).into()
 }
 
 // A table.
 pub fn table_numbers(estimate: Estimate, table: &[u8]) -> Report
     ensures { result ≡ report_numbers (report_of estimate table.now) }
 {
-    report_numbers(crate::table::check_table(estimate, table))
+    check_table(estimate, table).into()
 }

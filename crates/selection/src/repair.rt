@@ -1,19 +1,15 @@
 // The repair of a table that was read back from a monitor.
-ghost use Rattle.std.specs.Prelude.{◌≡◌, ◌+◌, ◌*◌, ◌≤◌, not, ◌||◌, length, if◌then◌else◌, nat_eq, nat_lt};
-ghost use Rattle.laws.specs.Counting.{count_below};
+ghost use Rattle.std.specs.Prelude.{◌≡◌, ◌≤◌, length};
+ghost use Rattle.laws.specs.Lists.{list_from};
+ghost use Rattle.laws.specs.Sums.{sum_below};
 ghost use Rattle.selection.specs.computed.Refusals.{first_refusal};
-ghost use Rattle.selection.specs.computed.Allowed.{is_faulty};
-ghost use Rattle.selection.specs.Maker.{step_at};
-ghost use Rattle.selection.specs.computed.CellTest.{RowOf, allows_by};
-ghost use Rattle.selection.specs.computed.Outcomes.{repaired_byte, change_mark, repair_of};
-ghost use Rattle.selection.specs.computed.RepairRows.{FillsRow, MarksRow, BytesRow, RepairedTo};
-ghost use Rattle.selection.specs.computed.Repair.{repair_rules, RepairAccepts};
+ghost use Rattle.selection.specs.computed.Outcomes.{repair_of};
+ghost use Rattle.selection.specs.computed.RepairRows.{mark_by, marks_by, byte_by, bytes_by, RepairedTo};
+ghost use Rattle.selection.specs.computed.Repair.{repair_rules, repair_numbers, RepairAccepts};
 
-use crate::cell::{RowMultiples, allows, row_multiples};
-use crate::maker::{digit_at, limits_of};
-use crate::{
-    Admission, Estimate, NO_REFUSAL, REFUSED_LENGTH, REFUSED_ROOM, Refusal, TABLE_LENGTH, refused,
-};
+use crate::cell::{Column, RowMultiples};
+use crate::maker::digit_at;
+use crate::{Estimate, NO_REFUSAL, Reason, Refusal, TABLE_LENGTH};
 
 // The answer, as C sees it: the refusal (0: none) and its place, and the number of changes.
 #[repr(C)]
@@ -23,58 +19,57 @@ pub struct Repaired {
     pub count: u64,
 }
 
+impl From<Result<u64, Refusal>> for Repaired {
+    ghost from_gives = { λ answer x. x ≡ repair_numbers answer };
+
+    fn from(answer: Result<u64, Refusal>) -> Repaired {
+        match answer {
+            Ok(count) => Repaired {
+                refusal: NO_REFUSAL,
+                count,
+            },
+            Err(refusal) => Repaired { refusal, count: 0 },
+        }
+    }
+}
+
 // 1 for a faulty cell, whose byte is to be changed, else 0.
-fn mark_of(m: RowMultiples, c: u8, byte: u8) -> u8
-    requires { RowOf m × (c ≤ 127) }
-    ensures { (result ≡ (if nat_lt 4 byte || not (allows_by m c byte) then 1 else 0)) × (result ≤ 1) }
+fn mark_of(m: RowMultiples, column: Column, byte: u8) -> u8
+    ensures { result ≡ mark_by m.estimate m.row column.index byte }
 {
-    if 4 < byte {
-        return 1;
-    }
-    if allows(m, c, byte) {
-        return 0;
-    }
-    1
+    u8::from(4 < byte || !m.allows(column, byte))
 }
 
 // The byte itself, or where it is marked the made digit of a row with the limits l.
 fn byte_of(l: [u8; 6], c: u8, byte: u8, mark: u8) -> u8
-    ensures { result ≡ (if nat_eq mark 0 then byte else step_at l c) }
+    ensures { result ≡ byte_by l c byte mark }
 {
-    if mark == 0 {
-        return byte;
-    }
-    digit_at(l, c)
+    if mark == 0 { byte } else { digit_at(l, c) }
 }
 
-// A row's marks, in a list that has those of the rows before it, and how many of them are 1. Marks and bytes have a loop each: one for both is compiled into
-// vectors that do not fit the registers and go to the stack.
-fn mark_row(table: &[u8], m: RowMultiples, changed: &mut [u8]) -> u8
-    requires { MarksRow table.now m changed.old }
-    ensures { FillsRow (change_mark m.estimate table.now) m.row changed.old changed.new × (result ≡ count_below (λ c. is_faulty m.estimate table.now (128 * m.row + c)) 128) }
+// The marks of a row's cells, and how many of them are 1. Marks and bytes have a loop each: one for both is compiled into vectors that do not fit the registers
+// and go to the stack.
+fn mark_row(cells: &[u8], m: RowMultiples, marks: &mut [u8]) -> u8
+    requires { (length cells.now ≡ 128) × (length marks.old ≡ 128) }
+    ensures marks { marks.new ≡ list_from (marks_by m.estimate m.row cells.now) 0 128 }
+    ensures count { result ≡ sum_below (marks_by m.estimate m.row cells.now) 128 }
 {
-    let start = 128 * (m.row as usize);
-    let mut count: u8 = 0;
-    let mut c: usize = 0;
-    while c < 128 {
-        let mark = mark_of(m, c as u8, table[start + c]);
-        changed[start + c] = mark;
+    let mut count = 0;
+    for (c, &byte) in cells.iter().enumerate() {
+        let mark = mark_of(m, Column { index: c as u8 }, byte);
+        marks[c] = mark;
         count += mark;
-        c += 1;
     }
     count
 }
 
-// A row's bytes by its marks, in a list that has those of the rows before it.
-fn byte_row(table: &[u8], m: RowMultiples, l: [u8; 6], changed: &[u8], repaired: &mut [u8])
-    requires { BytesRow m.estimate table.now m.row l changed.now repaired.old }
-    ensures { FillsRow (repaired_byte m.estimate table.now) m.row repaired.old repaired.new }
+// The bytes of a row's cells, by their marks.
+fn byte_row(cells: &[u8], l: [u8; 6], marks: &[u8], bytes: &mut [u8])
+    requires { (length cells.now ≡ 128) × (length marks.now ≡ 128) × (length bytes.old ≡ 128) }
+    ensures { bytes.new ≡ list_from (bytes_by l cells.now marks.now) 0 128 }
 {
-    let mut c: usize = 0;
-    while c < 128 {
-        let k = 128 * (m.row as usize) + c;
-        repaired[k] = byte_of(l, c as u8, table[k], changed[k]);
-        c += 1;
+    for (c, &byte) in cells.iter().enumerate() {
+        bytes[c] = byte_of(l, c as u8, byte, marks[c]);
     }
 }
 
@@ -83,33 +78,42 @@ fn repair_rows(estimate: Estimate, table: &[u8], repaired: &mut [u8], changed: &
     requires { RepairAccepts (length table.now) (length repaired.old) (length changed.old) }
     ensures { RepairedTo estimate table.now 2048 repaired.old changed.old repaired.new changed.new result }
 {
-    let mut count: u64 = 0;
-    let mut row: usize = 0;
-    while row < 16 {
-        let m = row_multiples(estimate, row as u64);
-        let n = mark_row(table, m, changed);
-        let l = limits_of(estimate, row as u64);
-        byte_row(table, m, l, changed, repaired);
-        count += n as u64;
-        row += 1;
+    let mut count = 0;
+    for row in 0..16 {
+        let start = 128 * row;
+        let cells = &table[start..start + 128];
+        let marks = &mut changed[start..start + 128];
+        let m = RowMultiples::new(estimate, row as u64);
+        count += u64::from(mark_row(cells, m, marks));
+        byte_row(cells, m.limits(), marks, &mut repaired[start..start + 128]);
     }
     count
 }
 
 // The first refusal, by the lengths of the table and of the two lists.
-fn refusal_of(table: usize, repaired: usize, changed: usize) -> Admission
+fn refusal_of(table: usize, repaired: usize, changed: usize) -> Result<(), Refusal>
     ensures { result ≡ first_refusal (repair_rules table repaired changed) }
 {
-    if repaired < TABLE_LENGTH {
-        return refused(REFUSED_ROOM);
-    }
-    if changed < TABLE_LENGTH {
-        return refused(REFUSED_ROOM);
+    if repaired < TABLE_LENGTH || changed < TABLE_LENGTH {
+        return Err(Reason::Room.into());
     }
     if table != TABLE_LENGTH {
-        return refused(REFUSED_LENGTH);
+        return Err(Reason::Length.into());
     }
-    Admission::Admitted
+    Ok(())
+}
+
+// The number of changes, or the first refusal.
+pub(crate) fn write_repair(
+    estimate: Estimate,
+    table: &[u8],
+    repaired: &mut [u8],
+    changed: &mut [u8],
+) -> Result<u64, Refusal>
+    ensures { record { answer = repair_numbers result; repaired = repaired.new; changed = changed.new } ≡ repair_of estimate table.now repaired.old changed.old }
+{
+    refusal_of(table.len(), repaired.len(), changed.len())?;
+    Ok(repair_rows(estimate, table, repaired, changed))
 }
 
 // A repaired table in the first 2,048 bytes of the one buffer, and in those of the other 1 for each changed cell and 0 elsewhere.
@@ -121,18 +125,5 @@ pub fn repair_table(
 ) -> Repaired
     ensures { record { answer = result; repaired = repaired.new; changed = changed.new } ≡ repair_of estimate table.now repaired.old changed.old }
 {
-    let admission = refusal_of(table.len(), repaired.len(), changed.len());
-    match admission {
-        Admission::Refused(f) => Repaired {
-            refusal: f,
-            count: 0,
-        },
-        Admission::Admitted => {
-            let count = repair_rows(estimate, table, repaired, changed);
-            Repaired {
-                refusal: NO_REFUSAL,
-                count,
-            }
-        }
-    }
+    write_repair(estimate, table, repaired, changed).into()
 }

@@ -1,5 +1,5 @@
 -- Demand 3, whole: one claim about the check, the run, whole numbers, binary64 and samples.
-use Rattle.std.specs.Prelude.{◌≡◌, List, ◌↔◌, ℕ, ◌+◌, ◌≤◌, length}
+use Rattle.std.specs.Prelude.{◌≡◌, List, ◌↔◌, ℕ, ◌+◌, ◌≤◌, length, Result}
 use Rattle.selection.specs.Table.{Table, Passes}
 use Rattle.selection.specs.computed.Table.{Checked}
 use Rattle.selection.specs.Answer.{refusal}
@@ -7,6 +7,7 @@ use Rattle.selection.specs.computed.Answer.{cell_numbers, report_numbers}
 use Rattle.selection.specs.computed.Cell.{IsCell}
 use Rattle.selection.specs.computed.Outcomes.{cell_of}
 use Rattle.selection.specs.Demand.{RefusedExactly, CellTold}
+use Rattle.selection.specs.declared.Refusal.{Refusal}
 use Rattle.selection.specs.declared.table.TableVerdict.{TableVerdict}
 use Rattle.recurrence.specs.Recurrence.{Operands, result_of}
 use Rattle.recurrence.specs.computed.Run.{run_of}
@@ -36,10 +37,10 @@ pub record Demand3 : Type 0 where
   -- the same answers through any two tables that pass
   pub same : (t u : List ℕ) → Passes EightBits t → Passes EightBits u → SameThrough t u
   -- the check refuses exactly when some point leads out of the range
-  pub refused : (E : Estimate) (t : List ℕ) → Table t → (a : TableVerdict) → Checked E t a → RefusedExactly E t (report_numbers a)
+  pub refused : (E : Estimate) (t : List ℕ) → Table t → (a : Result TableVerdict Refusal) → Checked E t a → RefusedExactly E t (report_numbers a)
   -- every table has one answer, which is no refusal exactly if it passes, and some table does
-  pub answered : (E : Estimate) (t : List ℕ) → (a : TableVerdict) × Checked E t a × ((b : TableVerdict) → Checked E t b → b ≡ a)
-  pub passed : (E : Estimate) (t : List ℕ) (a : TableVerdict) → Checked E t a → ((report_numbers a).refusal ≡ refusal 0 0) ↔ Passes E t
+  pub answered : (E : Estimate) (t : List ℕ) → (a : Result TableVerdict Refusal) × Checked E t a × ((b : Result TableVerdict Refusal) → Checked E t b → b ≡ a)
+  pub passed : (E : Estimate) (t : List ℕ) (a : Result TableVerdict Refusal) → Checked E t a → ((report_numbers a).refusal ≡ refusal 0 0) ↔ Passes E t
   -- a single cell tells whether its digit is allowed
   pub cells : (E : Estimate) (r c b : ℕ) → IsCell r c b → CellTold E r c b (cell_numbers (cell_of E r c b))
   -- § 21.3 Some table passes, so that the claim is not empty.

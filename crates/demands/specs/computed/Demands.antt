@@ -1,5 +1,5 @@
 -- What the unit promises, whole: each statement under the name of its theorem. Those that speak of one layer alone are stated in that layer's crate.
-use Rattle.std.specs.Prelude.{◌≡◌, List, ℕ, ◌+◌, ◌-◌, ◌≤◌}
+use Rattle.std.specs.Prelude.{◌≡◌, List, ℕ, ◌+◌, ◌-◌, ◌≤◌, Ok}
 use Rattle.selection.specs.Cell.{Allows, digit}
 use Rattle.selection.specs.Maker.{Made, MadeTable}
 use Rattle.selection.specs.computed.CellTest.{multiples_of, test_of, cell_verdict_of}
@@ -49,7 +49,7 @@ pub record Demands : Type 0 where
   pub burned_tables : BurnedTables
   pub point_demand : PointDemand
   -- § 4.3 Given its row's multiples, the test of a cell returns the verdict and witness of the single cell.
-  pub row_tested : (E : Estimate) (r c b : ℕ) → r ≤ 15 → c ≤ 127 → b ≤ 4 → cell_verdict_of (test_of (multiples_of E r) c b) ≡ cell_of E r c b
+  pub row_tested : (E : Estimate) (r c b : ℕ) → r ≤ 15 → c ≤ 127 → b ≤ 4 → Ok (cell_verdict_of (test_of (multiples_of E r) c b)) ≡ cell_of E r c b
   pub words_in_numbers : WordsInNumbers
   pub pair_demand : PairDemand
   pub step_demand : StepDemand

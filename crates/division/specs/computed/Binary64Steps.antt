@@ -1,19 +1,15 @@
 -- Binary64 division through a table, step by step: the significands' quotient is the run's, its digits the table's. Through a table that passes no step need be believed: `binary64_through_law`
 -- shows that they give `quotient_of`, and `ieee` what that means. Of a burned table they say what a divider does, and the recheck's claims rest on them.
-use Rattle.std.specs.Prelude.{◌≡◌, ℕ, ◌+◌, ◌-◌, ◌*◌, ◌/◌, ◌%◌, ◌^◌, ◌<◌, ◌≤◌, min, Bool, cond, List, nat_le, slice_index}
-use Rattle.laws.specs.Lists.{list_from}
-use Rattle.selection.specs.Cell.{row}
-use Rattle.selection.specs.Table.{Passes}
-use Rattle.selection.specs.computed.Table.{row_bytes}
+use Rattle.std.specs.Prelude.{◌≡◌, ℕ, ◌+◌, ◌-◌, ◌*◌, ◌/◌, ◌%◌, ◌^◌, ◌<◌, ◌≤◌, min, Bool, cond, List, nat_le}
 use Rattle.recurrence.specs.Recurrence.{result_of}
-use Rattle.recurrence.specs.declared.one_word.Pair.{Pair}
+use Rattle.division.specs.declared.format.Patterns.{Patterns}
 use Rattle.division.specs.Format.{FiniteNonzero, sign_of}
 use Rattle.division.specs.computed.Significands.{significand_of}
 use Rattle.division.specs.Rounding.{mode_of}
 use Rattle.division.specs.computed.Rounding.{rounded_result, by_class, or_rounded}
 use Rattle.division.specs.declared.format.Scaled.{Scaled}
 use Rattle.division.specs.declared.format.Binary64Result.{Binary64Result}
-use Rattle.division.specs.declared.binary64.Aligned.{Aligned}
+use Rattle.division.specs.declared.rounding.Aligned.{Aligned}
 use Rattle.selection.specs.declared.Estimate.{Estimate}
 use Rattle.selection.specs.declared.Estimate.TheVariants.{EightBits}
 
@@ -49,12 +45,6 @@ module _ (E : Estimate) where
   abbrev pub binary64_through : List ℕ → ℕ → ℕ → ℕ → Binary64Result
   binary64_through t direction a b = or_rounded (scaled_through t direction (sign_of a b) (significand_of a) (significand_of b)) (by_class a b)
 
--- r is that quotient through every table that passes and has these bytes for the row of b, and it has 55 or 56 bits
-pub record RatioOf (bytes : List ℕ) (a b r : ℕ) : Type 0 where
-  pub through : (t : List ℕ) → Passes EightBits t → bytes ≡ row_bytes t (row b) → r ≡ ratio_through EightBits t a b
-  pub low : 2 ^ 54 ≤ r
-  pub high : r < 2 ^ 56
-
 -- r is a significand to divide for the pattern p: a finite number's own, unless it is a zero
 pub record SignificandFor (p r : ℕ) : Type 0 where
   pub low : 2 ^ 60 ≤ r
@@ -63,18 +53,9 @@ pub record SignificandFor (p r : ℕ) : Type 0 where
 
 -- w is the ratio of such significands for the patterns a and b, divided through the table t
 pub record RatioFor (t : List ℕ) (a b w : ℕ) : Type 0 where
-  pub low : 2 ^ 54 ≤ w
-  pub high : w < 2 ^ 56
   pub is : FiniteNonzero a → FiniteNonzero b → w ≡ ratio_through EightBits t (significand_of a).sig (significand_of b).sig
 
--- four significands, and the ratios of two such lists through the table t
-abbrev pub Significands : List ℕ → Type 0
-Significands l = (j : ℕ) → j < 4 → (2 ^ 60 ≤ slice_index l j) × (slice_index l j < 2 ^ 61)
-
-abbrev pub four_ratios : List ℕ → List ℕ → List ℕ → List ℕ
-four_ratios t a b = list_from (λ j. ratio_through EightBits t (slice_index a j) (slice_index b j)) 0 4
-
 -- the quotient of the patterns x, where w is the ratio of their significands
-abbrev pub ratio_rounded : ℕ → Pair → ℕ → Binary64Result
+abbrev pub ratio_rounded : ℕ → Patterns → ℕ → Binary64Result
 ratio_rounded direction x w =
     or_rounded (rounded_quotient direction (sign_of x.dividend x.divisor) w ((significand_of x.dividend).exp + 1021) (significand_of x.divisor).exp) (by_class x.dividend x.divisor)

@@ -1,13 +1,11 @@
 -- Roots, step by step. No step need be believed: `whole_root_law` and `ieee_root` show what the answers mean.
-use Rattle.std.specs.Prelude.{◌≡◌, ℕ, ◌+◌, ◌*◌, ◌^◌, ◌<◌, ◌≤◌, false, cond}
+use Rattle.std.specs.Prelude.{◌≡◌, ℕ, ◌+◌, ◌*◌, ◌^◌, ◌<◌, ◌≤◌, false, cond, Option, Some, None}
 use Rattle.division.specs.Format.{negative, magnitude, class_of, signalling, quiet_nan, invalid_flag}
 use Rattle.division.specs.computed.Rounding.{greatest, finite_rounded, or_rounded}
 use Rattle.division.specs.Roots.{root_scale, root_place}
 use Rattle.division.specs.declared.format.Binary64Result.{Binary64Result}
 use Rattle.division.specs.declared.format.Class.{Class}
 use Rattle.division.specs.declared.format.Class.TheVariants.{Zero, Subnormal, Normal, Infinite, Nan}
-use Rattle.division.specs.declared.format.ByClass.{ByClass}
-use Rattle.division.specs.declared.format.ByClass.TheVariants.{Decided, Undecided}
 use Rattle.division.specs.declared.root.RootState.{RootState}
 
 -- the digits of the root of m are taken down to the weight 2^k: the root so far is a multiple of it, and less than one more of it is left
@@ -31,18 +29,18 @@ abbrev pub finite_root : ℕ → ℕ → Binary64Result
 finite_root direction a = finite_rounded direction false root_scale (root_place a)
 
 -- invalid with a negative sign, else x
-abbrev pub unless_negative : ℕ → ByClass → ByClass
-unless_negative p x = cond (negative p) (Decided (record { pattern = quiet_nan; flags = invalid_flag })) x
+abbrev pub unless_negative : ℕ → Option Binary64Result → Option Binary64Result
+unless_negative p x = cond (negative p) (Some (record { pattern = quiet_nan; flags = invalid_flag })) x
 
 -- what its class and its sign alone decide
-abbrev pub root_of_class : ℕ → Class → ByClass
-root_of_class p Zero = Decided (record { pattern = p; flags = 0 })
-root_of_class p Subnormal = unless_negative p Undecided
-root_of_class p Normal = unless_negative p Undecided
-root_of_class p Infinite = unless_negative p (Decided (record { pattern = p; flags = 0 }))
-root_of_class p Nan = Decided (record { pattern = quiet_nan; flags = cond (signalling p) invalid_flag 0 })
+abbrev pub root_of_class : ℕ → Class → Option Binary64Result
+root_of_class p Zero = Some (record { pattern = p; flags = 0 })
+root_of_class p Subnormal = unless_negative p None
+root_of_class p Normal = unless_negative p None
+root_of_class p Infinite = unless_negative p (Some (record { pattern = p; flags = 0 }))
+root_of_class p Nan = Some (record { pattern = quiet_nan; flags = cond (signalling p) invalid_flag 0 })
 
-abbrev pub root_by_class : ℕ → ByClass
+abbrev pub root_by_class : ℕ → Option Binary64Result
 root_by_class p = root_of_class p (class_of p)
 
 -- the root of p, in a direction

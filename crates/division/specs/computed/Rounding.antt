@@ -1,15 +1,11 @@
 -- Computed definitions: what the functions return, tied to the meaning in Ieee by the law `ieee`. The last, `quotient_of`, is the answer through every table that passes
 -- (`binary64_through_law`), and the others are its parts. None need be believed; `ieee_one` shows that no other answer has that meaning.
-use Rattle.std.specs.Prelude.{ℕ, zero, suc, ◌+◌, ◌*◌, ◌%◌, ◌^◌, Bool, true, false, cond, ◌&&◌, ◌||◌, ◌==◌, nat_le, nat_lt}
+use Rattle.std.specs.Prelude.{ℕ, zero, suc, ◌+◌, ◌*◌, ◌%◌, ◌^◌, Bool, true, false, cond, ◌&&◌, ◌||◌, ◌==◌, nat_le, nat_lt, Option, Some, None}
 use Rattle.division.specs.declared.rounding.Mode.{Mode}
 use Rattle.division.specs.declared.rounding.Mode.TheVariants.{Nearest, Toward, Away}
 use Rattle.division.specs.declared.format.Binary64Result.{Binary64Result}
 use Rattle.division.specs.declared.format.Class.{Class}
 use Rattle.division.specs.declared.format.Class.TheVariants.{Zero, Subnormal, Normal, Infinite, Nan}
-use Rattle.division.specs.declared.binary64.Case.{Case}
-use Rattle.division.specs.declared.binary64.Case.TheVariants.{NotANumber, Invalid, ToInfinity, ByZero, ToZero, Finite}
-use Rattle.division.specs.declared.format.ByClass.{ByClass}
-use Rattle.division.specs.declared.format.ByClass.TheVariants.{Decided, Undecided}
 use Rattle.division.specs.Rounding.{mode_of}
 use Rattle.division.specs.Rounded.{overflow_of}
 use Rattle.division.specs.Format.{sign_bit, magnitude, class_of, signalling, sign_of, infinity, quiet_nan, inexact_flag, underflow_flag, overflow_flag, division_by_zero_flag, invalid_flag}
@@ -101,6 +97,15 @@ is_zero Normal = false
 is_zero Infinite = false
 is_zero Nan = false
 
+-- what a pair of classes leads to
+pub data Case : Type 0 where
+  NotANumber : Case
+  Invalid : Case
+  ToInfinity : Case
+  ByZero : Case
+  ToZero : Case
+  Finite : Case
+
 -- the specification's cases, in its order
 abbrev pub case_of : Class → Class → Case
 case_of x y =
@@ -116,21 +121,21 @@ abbrev pub nan_flags : ℕ → ℕ → ℕ
 nan_flags a b = cond (signalling a || signalling b) invalid_flag 0
 
 -- the answer to each case but a quotient of finite numbers; f: the flags where an operand is a not-a-number
-abbrev pub decided : Bool → ℕ → Case → ByClass
-decided s f NotANumber = Decided (record { pattern = quiet_nan; flags = f })
-decided s f Invalid = Decided (record { pattern = quiet_nan; flags = invalid_flag })
-decided s f ToInfinity = Decided (record { pattern = sign_bit s + infinity; flags = 0 })
-decided s f ByZero = Decided (record { pattern = sign_bit s + infinity; flags = division_by_zero_flag })
-decided s f ToZero = Decided (record { pattern = sign_bit s; flags = 0 })
-decided s f Finite = Undecided
+abbrev pub decided : Bool → ℕ → Case → Option Binary64Result
+decided s f NotANumber = Some (record { pattern = quiet_nan; flags = f })
+decided s f Invalid = Some (record { pattern = quiet_nan; flags = invalid_flag })
+decided s f ToInfinity = Some (record { pattern = sign_bit s + infinity; flags = 0 })
+decided s f ByZero = Some (record { pattern = sign_bit s + infinity; flags = division_by_zero_flag })
+decided s f ToZero = Some (record { pattern = sign_bit s; flags = 0 })
+decided s f Finite = None
 
-abbrev pub by_class : ℕ → ℕ → ByClass
+abbrev pub by_class : ℕ → ℕ → Option Binary64Result
 by_class a b = decided (sign_of a b) (nan_flags a b) (case_of (class_of a) (class_of b))
 
 -- else it is x
-abbrev pub or_rounded : Binary64Result → ByClass → Binary64Result
-or_rounded x (Decided y) = y
-or_rounded x Undecided = x
+abbrev pub or_rounded : Binary64Result → Option Binary64Result → Binary64Result
+or_rounded x (Some y) = y
+or_rounded x None = x
 
 -- a / b, in a direction
 abbrev pub quotient_of : ℕ → ℕ → ℕ → Binary64Result

@@ -1,5 +1,5 @@
 -- Whole-number division as a caller sees it: the specification, sections 8 and 18.
-use Rattle.std.specs.Prelude.{ℕ, ◌^◌, List, [], ◌∷◌, ◌++◌}
+use Rattle.std.specs.Prelude.{ℕ, ◌^◌, List, [], ◌∷◌, ◌++◌, Result, Ok, Err}
 use Rattle.selection.specs.Answer.{refusal}
 use Rattle.selection.specs.computed.Answer.{answer_by}
 use Rattle.selection.specs.computed.Table.{table_rules}
@@ -34,6 +34,11 @@ whole_zeros f = record { refusal = f; quotient = 0; remainder = 0 }
 -- quotient and remainder, and no refusal
 abbrev pub whole_values : WholeResult → Whole
 whole_values x = record { refusal = refusal 0 0; quotient = x.quotient; remainder = x.remainder }
+
+-- the answer as C sees it
+abbrev pub whole_numbers : Result WholeResult Refusal → Whole
+whole_numbers (Ok x) = whole_values x
+whole_numbers (Err f) = whole_zeros f
 
 -- the answer: then 8, 9, 10, the table's
 abbrev pub whole_of : List ℕ → ℕ → ℕ → Whole

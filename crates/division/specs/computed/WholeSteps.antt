@@ -5,7 +5,14 @@ use Rattle.laws.specs.Shifts.{shift_to}
 use Rattle.recurrence.specs.Recurrence.{result_of}
 use Rattle.recurrence.specs.declared.RunResult.{RunResult}
 use Rattle.division.specs.declared.whole.WholeResult.{WholeResult}
+use Rattle.division.specs.declared.whole.WholeRun.{WholeRun}
 use Rattle.selection.specs.declared.Estimate.{Estimate}
+
+-- the operands of a division
+pub record WholeSpans (a b : ℕ) : Type 0 where
+  pub dividend : a < 2 ^ 60
+  pub some : 0 < b
+  pub divisor : b < 2 ^ 60
 
 -- how many digits follow the first, where the divisor is moved up by s bits: each of them brings two of the s, and a is moved up by the rest, to bit 60 at most
 -- § 8.2 The run of a division has these operands and this number of digits.
@@ -25,6 +32,13 @@ pub record DigitCount (a s k : ℕ) : Type 0 where
   pub few : k ≤ 30
   pub within : 2 * k ≤ s
   pub dividend : a * 2 ^ (s - 2 * k) < 2 ^ 61
+
+-- the run of a by b is that of `whole_run`
+pub record WholeRunOf (a b : ℕ) (x : WholeRun) : Type 0 where
+  pub shift : DivisorShift b x.shift
+  pub dividend : x.division.dividend ≡ a * 2 ^ (x.shift - 2 * digits_after a x.shift)
+  pub divisor : x.division.divisor ≡ b * 2 ^ x.shift
+  pub digits : x.digits.count ≡ digits_after a x.shift + 1
 
 -- in a divider with the estimate E
 module _ (E : Estimate) where

@@ -1,29 +1,12 @@
--- `listing::listing` meets its contract: what the check passes or calls bad is a table, and its text is the listing; so is the refusal's.
-use Rattle.laws.proofs.Basics.{arith}
-use Rattle.selection.proofs.Verdicts.{passed_table, bad_table}
+-- `listing::listing` meets its contract: a table's text is the listing, and so is that of a refusal of its form.
+use Rattle.printing.proofs.Texts.{adds_first}
 use Rattle.listing.proofs.Listings.{printed}
 use Rattle.listing.proofs.listing.Goals as goal
 
-pub append_table-requires : goal.append_table-requires
-append_table-requires c = (passed_table _ _ c.check_table-report.ensures c.in-Passed.is, omega arith)
+pub returns-in-Ok-clause-out_after : goal.returns-in-Ok-clause-out_after
+returns-in-Ok-clause-out_after c =
+    let lent = rw c.in-Ok.is at c.new.ensures.lent in
+    printed _ _ c.new.ensures.refused (rw c.in-Ok.is (rw lent at (adds_first c.requires.none c.push_table.ensures)))
 
-pub append_table-requires-in-Bad : goal.append_table-requires-in-Bad
-append_table-requires-in-Bad c = (bad_table _ _ c.check_table-report.ensures c.in-Bad.is, omega arith)
-
-pub returns-in-Passed-clause-out_after : goal.returns-in-Passed-clause-out_after
-returns-in-Passed-clause-out_after c = (printed _ _ c.check_table-report.ensures c.in-Passed.is c.append_table.ensures.appended (omega arith)).0
-
-pub returns-in-Passed-clause-out_unchanged : goal.returns-in-Passed-clause-out_unchanged
-returns-in-Passed-clause-out_unchanged c = (printed _ _ c.check_table-report.ensures c.in-Passed.is c.append_table.ensures.appended (omega arith)).1.0
-
-pub returns-in-Bad-clause-out_after : goal.returns-in-Bad-clause-out_after
-returns-in-Bad-clause-out_after c = (printed _ _ c.check_table-report.ensures c.in-Bad.is c.append_table-in-Bad.ensures.appended (omega arith)).0
-
-pub returns-in-Bad-clause-out_unchanged : goal.returns-in-Bad-clause-out_unchanged
-returns-in-Bad-clause-out_unchanged c = (printed _ _ c.check_table-report.ensures c.in-Bad.is c.append_table-in-Bad.ensures.appended (omega arith)).1.0
-
-pub returns-in-Refused-clause-out_after : goal.returns-in-Refused-clause-out_after
-returns-in-Refused-clause-out_after c = (printed _ _ c.check_table-report.ensures c.in-Refused.is c.append_refusal.ensures.appended (omega arith)).0
-
-pub returns-in-Refused-clause-out_unchanged : goal.returns-in-Refused-clause-out_unchanged
-returns-in-Refused-clause-out_unchanged c = (printed _ _ c.check_table-report.ensures c.in-Refused.is c.append_refusal.ensures.appended (omega arith)).1.0
+pub returns-in-Err-clause-out_after : goal.returns-in-Err-clause-out_after
+returns-in-Err-clause-out_after c = printed _ _ c.new.ensures.refused (rw c.in-Err.is (adds_first c.requires.none c.push_refusal.ensures))

@@ -1,9 +1,9 @@
--- `plot::mark_row` ends: the next stretch starts past the last one.
+-- `plot::mark_row` ends: the next bad cells start where the last ones end.
 use Rattle.std.proofs.Common.{◌-◌, ◌≤◌}
 use Rattle.plot.proofs.mark_row.Given as goal
 
-abbrev pub invariant-loop-from : goal.invariant-loop-from
-invariant-loop-from l = l.from ≤ 129
+abbrev pub invariant-loop-edge : goal.invariant-loop-edge
+invariant-loop-edge l = l.column ≤ 127
 
-abbrev pub decreases-loop-from : goal.decreases-loop-from
-decreases-loop-from l = 129 - l.from
+abbrev pub decreases-loop-edge : goal.decreases-loop-edge
+decreases-loop-edge l = 128 - l.column

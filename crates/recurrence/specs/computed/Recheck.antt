@@ -1,17 +1,15 @@
 -- Which divisions a table as it was burned got wrong: the steps through it, its faulty cells as they are. A mark is 0 exactly if each byte that the run reads is a digit and its quotient and remainder are right.
-use Rattle.std.specs.Prelude.{◌≡◌, ℕ, zero, suc, ◌+◌, ◌-◌, ◌*◌, ◌/◌, ◌%◌, ◌^◌, ◌<◌, ◌≤◌, Bool, false, cond, ◌||◌, ◌⊎◌, ◌↔◌, List, [], ◌∷◌, length, pos, ◌-ℤ◌, ◌*ℤ◌, ◌≢◌, nat_le, nat_lt, slice_index}
+use Rattle.std.specs.Prelude.{◌≡◌, ℕ, zero, suc, ◌+◌, ◌-◌, ◌*◌, ◌/◌, ◌%◌, ◌^◌, ◌<◌, ◌≤◌, Bool, false, cond, ◌||◌, ◌⊎◌, ◌↔◌, List, [], ◌∷◌, length, pos, ◌-ℤ◌, ◌*ℤ◌, ◌≢◌, nat_le, nat_lt, slice_index, Result, Ok, Err}
 use Rattle.selection.specs.Answer.{refusal}
 use Rattle.selection.specs.computed.Answer.{answer_by}
 use Rattle.selection.specs.computed.Bits.{for_bits}
-use Rattle.selection.specs.Cell.{row}
-use Rattle.selection.specs.computed.Refusals.{Rule, below, differ, either_of, number, first_refusal, Wrongs, Refuses}
+use Rattle.selection.specs.computed.Refusals.{Rule, differ, number, first_refusal, Wrongs, Refuses}
 use Rattle.selection.specs.Repair.{FaultyAt}
-use Rattle.selection.specs.computed.Table.{row_bytes}
 use Rattle.selection.specs.declared.Estimate.{Estimate}
 use Rattle.selection.specs.declared.Refusal.{Refusal}
 use Rattle.recurrence.specs.CarrySave.{multiple, lowest_carry}
 use Rattle.recurrence.specs.Recurrence.{State, Operands, residue, cell_at, after, digits, value, end_remainder, corrected_quotient, corrected_remainder, result_of}
-use Rattle.recurrence.specs.computed.Run.{longest, digits_outside, divisor_outside}
+use Rattle.recurrence.specs.computed.Run.{longest, digits_outside, span_rule}
 use Rattle.recurrence.specs.declared.RunResult.{RunResult}
 use Rattle.recurrence.specs.declared.recheck.AffectedMark.{AffectedMark}
 
@@ -93,7 +91,7 @@ module _ (E : Estimate) where
 unfoldable pub affected_run_rules : ℕ → ℕ → ℕ → ℕ → List Rule
 affected_run_rules len N D n =
     number 2 (digits_outside longest n)
-    ∷ number 3 (either_of (divisor_outside D) (below (2 ^ 61 - 1) N))
+    ∷ span_rule N D
     ∷ number 8 (differ len 2048)
     ∷ []
 
@@ -102,6 +100,10 @@ mark_zeros f = record { refusal = f; affected = 0 }
 
 abbrev pub mark_values : ℕ → AffectedMark
 mark_values m = record { refusal = refusal 0 0; affected = m }
+
+abbrev pub mark_numbers : Result ℕ Refusal → AffectedMark
+mark_numbers (Ok m) = mark_values m
+mark_numbers (Err f) = mark_zeros f
 
 -- none of it: what is accepted
 pub record AffectedRunAccepts (len N D n : ℕ) : Type 0 where
@@ -133,12 +135,6 @@ strays d p = nat_lt 4 d || nat_le (left_end p.divisor) (left_by d p)
 unfoldable pub strays_below : (ℕ → State) → (ℕ → ℕ) → ℕ → Bool
 strays_below p d zero = false
 strays_below p d (suc n) = strays_below p d n || strays (d n) (p n)
-
--- what `recheck_row` asks of the bytes that it is lent: they are the divisor's row in a table of 2,048 bytes
-pub record BurnedRow (D : ℕ) (bytes : List ℕ) : Type 0 where
-  pub table : List ℕ
-  pub size : length table ≡ 2048
-  pub is : bytes ≡ row_bytes table (row D)
 
 -- in a divider with the estimate E
 module _ (E : Estimate) where

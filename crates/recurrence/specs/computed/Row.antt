@@ -1,4 +1,4 @@
--- What `result_row`, which only our own crates call, and `run_row` ask of the 128 bytes that they are lent.
+-- What `result_row`, which only our own crates call, asks of the 128 bytes that it is lent.
 use Rattle.std.specs.Prelude.{◌≡◌, ℕ, List}
 use Rattle.selection.specs.Cell.{row}
 use Rattle.selection.specs.Table.{Passes}

@@ -1,11 +1,11 @@
 -- The run as a caller sees it: the specification, sections 6 and 18. The refusals in their order, and the outcome: the answer and the buffer whole.
-use Rattle.std.specs.Prelude.{ℕ, ◌+◌, ◌-◌, ◌^◌, ◌≤◌, List, [], ◌∷◌, ◌++◌, length, take, drop}
+use Rattle.std.specs.Prelude.{ℕ, ◌+◌, ◌-◌, ◌^◌, List, [], ◌∷◌, ◌++◌, length, take, drop, Result, Ok, Err}
 use Rattle.selection.specs.Answer.{refusal}
 use Rattle.selection.specs.computed.Answer.{answer_by}
 use Rattle.selection.specs.computed.Table.{table_rules}
 use Rattle.selection.specs.computed.Refusals.{Condition, Rule, too_short, below, same, either_of, number, first_refusal}
 use Rattle.selection.specs.declared.Refusal.{Refusal}
-use Rattle.recurrence.specs.Recurrence.{Operands, digits, result_of}
+use Rattle.recurrence.specs.Recurrence.{digits, result_of}
 use Rattle.recurrence.specs.declared.RunResult.{RunResult}
 use Rattle.recurrence.specs.declared.Ran.{Ran}
 use Rattle.selection.specs.declared.Estimate.TheVariants.{EightBits}
@@ -28,21 +28,18 @@ digits_outside most n = either_of (same n 0) (below most n)
 abbrev pub divisor_outside : ℕ → Condition
 divisor_outside D = either_of (below D (2 ^ 60)) (below (2 ^ 61 - 1) D)
 
--- what a run refuses of its arguments. 2: n is 0 or above the most that a caller may ask for. 3: D or N outside its span, from 2^60 to 2^61 - 1 and from 0 to 2^61 - 1. 7: the buffer ends before the last byte to write
+-- 3: D or N outside its span, from 2^60 to 2^61 - 1 and from 0 to 2^61 - 1
+abbrev pub span_rule : ℕ → ℕ → Rule
+span_rule N D = number 3 (either_of (divisor_outside D) (below (2 ^ 61 - 1) N))
+
+-- what a run refuses of its arguments. 2: n is 0 or above the most that a caller may ask for. 3: D or N outside its span. 7: the buffer ends before the last byte to write
 -- § 18.1 Each condition has a number and a place.
 unfoldable pub run_rules : ℕ → ℕ → ℕ → ℕ → ℕ → List Rule
 run_rules N D n len place =
     number 2 (digits_outside most_digits n)
-    ∷ number 3 (either_of (divisor_outside D) (below (2 ^ 61 - 1) N))
+    ∷ span_rule N D
     ∷ number 7 (too_short len (place + n))
     ∷ []
-
--- what `run_part` asks: up to `longest` digits, more than a caller may ask for, and room for them
-pub record RunSpans (N D n len place : ℕ) : Type 0 where
-  pub operands : Operands N D
-  pub some : 1 ≤ n
-  pub most : n ≤ longest
-  pub room : place + n ≤ len
 
 -- n digit bytes from the place on, and the other bytes as they were
 -- § 6.4 Digits are written from the given place on; other bytes are kept.
@@ -56,6 +53,10 @@ run_zeros f = record { refusal = f; quotient = 0; remainder = 0; digits = 0 }
 -- quotient, remainder and n, and no refusal
 abbrev pub run_values : RunResult → Ran
 run_values x = record { refusal = refusal 0 0; quotient = x.quotient; remainder = x.remainder; digits = x.count }
+
+abbrev pub run_numbers : Result RunResult Refusal → Ran
+run_numbers (Ok x) = run_values x
+run_numbers (Err f) = run_zeros f
 
 -- the outcome of a run: its answer, and what the buffer then holds; refused, the buffer b is as it was
 pub record RunOutcome : Type 0 where

@@ -3,5 +3,5 @@ use Rattle.laws.proofs.Basics.{arith}
 use Rattle.repair.proofs.Writing.{writes_read}
 use Rattle.repair.proofs.repair_input.Goals as goal
 
-pub returns-clause-fact : goal.returns-clause-fact
-returns-clause-fact c = writes_read _ (omega arith) c.repair.ensures.fact
+pub returns : goal.returns
+returns c = writes_read _ (omega arith) c.repair.ensures

@@ -1,14 +1,10 @@
--- The numbers of the two answers that hold an enum, and of an admission: the specification, section 18. Zeros where a call refuses.
-use Rattle.std.specs.Prelude.{◌≡◌, ℕ, ◌+◌, ◌*◌, ◌≤◌, pos}
+-- The numbers of the two answers that hold an enum, and of a call that refuses or not: the specification, section 18. Zeros where a call refuses. A call that refuses nothing gives
+-- `Ok`, and one that refuses `Err` with the refusal.
+use Rattle.std.specs.Prelude.{ℕ, ◌+◌, ◌*◌, pos, ⊤, Option, Some, None, Result, Ok, Err}
 use Rattle.selection.specs.declared.Refusal.{Refusal}
-use Rattle.selection.specs.declared.Admission.{Admission}
-use Rattle.selection.specs.declared.Admission.TheVariants as A
-use Rattle.selection.specs.declared.CellVerdict.{CellVerdict}
-use Rattle.selection.specs.declared.CellVerdict.TheVariants as C
 use Rattle.selection.specs.declared.table.Outcome.{Outcome}
 use Rattle.selection.specs.declared.table.Outcome.TheVariants as O
 use Rattle.selection.specs.declared.table.TableVerdict.{TableVerdict}
-use Rattle.selection.specs.declared.table.BadCell.{BadCell}
 use Rattle.selection.specs.declared.Witness.{Witness}
 use Rattle.selection.specs.declared.numbers.Cell.{Cell}
 use Rattle.selection.specs.declared.numbers.Report.{Report}
@@ -19,10 +15,10 @@ abbrev pub cell_zeros : Refusal → Cell
 cell_zeros f = record { refusal = f; allowed = 0; divisor = 0; remainder = pos 0 }
 
 -- § 18.7 Each case of an enum has its number, place and values.
-abbrev pub cell_numbers : CellVerdict → Cell
-cell_numbers C.Allowed = record { refusal = refusal 0 0; allowed = 1; divisor = 0; remainder = pos 0 }
-cell_numbers (C.Disallowed w) = record { refusal = refusal 0 0; allowed = 0; divisor = w.divisor; remainder = w.remainder }
-cell_numbers (C.Refused f) = cell_zeros f
+abbrev pub cell_numbers : Result (Option Witness) Refusal → Cell
+cell_numbers (Ok None) = record { refusal = refusal 0 0; allowed = 1; divisor = 0; remainder = pos 0 }
+cell_numbers (Ok (Some w)) = record { refusal = refusal 0 0; allowed = 0; divisor = w.divisor; remainder = w.remainder }
+cell_numbers (Err f) = cell_zeros f
 
 abbrev pub bad_numbers : ℕ → ℕ → ℕ → Witness → Report
 bad_numbers n r c w = record { refusal = refusal 10 (128 * r + c); count = n; row = r; column = c; divisor = w.divisor; remainder = w.remainder }
@@ -30,38 +26,39 @@ bad_numbers n r c w = record { refusal = refusal 10 (128 * r + c); count = n; ro
 abbrev pub outcome_numbers : ℕ → Outcome → Report
 outcome_numbers n O.Passed = report_zeros (refusal 0 0)
 outcome_numbers n (O.Bad b) = bad_numbers n b.row b.column b.witness
-outcome_numbers n (O.Refused f) = report_zeros f
 
 -- § 4.1 The check's answer is told in numbers.
 -- § 18.7 Each case of an enum has its number, place and values.
-abbrev pub report_numbers : TableVerdict → Report
-report_numbers a = outcome_numbers a.count a.outcome
-
--- what the code that forms them asks: the bad cell of a report, if it has one, is a cell of a table
-pub record CellOfReport (a : TableVerdict) : Type 0 where
-  pub cell : (b : BadCell) → a.outcome ≡ O.Bad b → (b.row ≤ 15) × (b.column ≤ 127)
+abbrev pub report_numbers : Result TableVerdict Refusal → Report
+report_numbers (Ok a) = outcome_numbers a.count a.outcome
+report_numbers (Err f) = report_zeros f
 
 -- what every other call makes of a report: number and place alone
-abbrev pub admission_of : Outcome → Admission
-admission_of O.Passed = A.Admitted
-admission_of (O.Bad b) = A.Refused (refusal 10 (128 * b.row + b.column))
-admission_of (O.Refused f) = A.Refused f
+abbrev pub admission_of : Outcome → Result ⊤ Refusal
+admission_of O.Passed = Ok tt
+admission_of (O.Bad b) = Err (refusal 10 (128 * b.row + b.column))
 
 -- § 4.4 Calls that divide take a table exactly if it passes.
-abbrev pub admission : TableVerdict → Admission
-admission a = admission_of a.outcome
+abbrev pub admission : Result TableVerdict Refusal → Result ⊤ Refusal
+admission (Ok a) = admission_of a.outcome
+admission (Err f) = Err f
 
--- the numbers of an admission: a refusal, or 0 and 0
-abbrev pub refusal_of : Admission → Refusal
-refusal_of A.Admitted = refusal 0 0
-refusal_of (A.Refused f) = f
+-- what a call that gives a value says of its refusal alone
+abbrev pub admission_in : {X : Type 0} → Result X Refusal → Result ⊤ Refusal
+admission_in (Ok x) = Ok tt
+admission_in (Err f) = Err f
+
+-- the numbers of what a call gives: a refusal, or 0 and 0
+abbrev pub refusal_of : Result ⊤ Refusal → Refusal
+refusal_of (Ok x) = refusal 0 0
+refusal_of (Err f) = f
 
 -- the first refusal of two, in their order
-abbrev pub first_of : Admission → Admission → Admission
-first_of A.Admitted v = v
-first_of (A.Refused f) v = A.Refused f
+abbrev pub first_of : Result ⊤ Refusal → Result ⊤ Refusal → Result ⊤ Refusal
+first_of (Ok x) v = v
+first_of (Err f) v = Err f
 
 -- an answer by the first refusal: what is done, or the number, the place and zeros
-abbrev pub answer_by : {X : Type 0} → (Refusal → X) → X → Admission → X
-answer_by zeros done A.Admitted = done
-answer_by zeros done (A.Refused f) = zeros f
+abbrev pub answer_by : {X : Type 0} → (Refusal → X) → X → Result ⊤ Refusal → X
+answer_by zeros done (Ok x) = done
+answer_by zeros done (Err f) = zeros f

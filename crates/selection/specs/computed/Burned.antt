@@ -1,5 +1,5 @@
 -- Burned tables: the specification, section 2.6. The column of each estimate and what it leaves out, and what is said of a table for a divider that adds seven bits.
-use Rattle.std.specs.Prelude.{◌≡◌, ℕ, ◌+◌, ◌-◌, ◌*◌, ◌^◌, ◌<◌, ◌≤◌, List, pos, ◌+ℤ◌}
+use Rattle.std.specs.Prelude.{◌≡◌, ℕ, ◌+◌, ◌-◌, ◌*◌, ◌^◌, ◌<◌, ◌≤◌, List, pos, ◌+ℤ◌, Ok}
 use Rattle.selection.specs.Word.{signed}
 use Rattle.selection.specs.Cell.{estimate, column, truncation_error, span_of}
 use Rattle.selection.specs.Table.{BadAt, Passes}
@@ -8,7 +8,6 @@ use Rattle.selection.specs.Answer.{refusal}
 use Rattle.selection.specs.computed.Answer.{report_numbers}
 use Rattle.selection.specs.computed.Refusals.{first_refusal}
 use Rattle.selection.specs.computed.Outcomes.{made_table, report_of}
-use Rattle.selection.specs.declared.Admission.TheVariants.{Admitted}
 use Rattle.selection.specs.declared.Estimate.{Estimate}
 use Rattle.selection.specs.declared.Estimate.TheVariants.{SevenBits, EightBits}
 
@@ -37,7 +36,7 @@ pub record BurnedTables : Type 0 where
   -- § 2.6 A table that passes by seven bits passes by eight.
   pub passes : (t : List ℕ) → Passes SevenBits t → Passes EightBits t
   pub told : (t : List ℕ) → Passes SevenBits t → report_numbers (report_of EightBits t) ≡ record { refusal = refusal 0 0; count = 0; row = 0; column = 0; divisor = 0; remainder = pos 0 }
-  pub admitted : (t : List ℕ) → Passes SevenBits t → first_refusal (table_rules EightBits t) ≡ Admitted
+  pub admitted : (t : List ℕ) → Passes SevenBits t → first_refusal (table_rules EightBits t) ≡ Ok tt
   -- the table made for an estimate passes for it. The one made for seven bits passes for eight too; the one made for eight, the kept one, does not pass for seven: its byte 196 is bad there
   pub made_passes : (E : Estimate) → Passes E (made_table E)
   pub seven_passes : Passes EightBits (made_table SevenBits)

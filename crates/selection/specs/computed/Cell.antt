@@ -1,9 +1,9 @@
 -- A single cell's answer: the specification, section 4.
-use Rattle.std.specs.Prelude.{ℕ, ◌+◌, ◌*◌, ◌≤◌, List, [], ◌∷◌}
+use Rattle.std.specs.Prelude.{ℕ, ◌+◌, ◌*◌, ◌≤◌, List, [], ◌∷◌, Option, Some, None, Result, Ok, Err}
 use Rattle.selection.specs.computed.Refusals.{Rule, below, either_of, number, number_at, Wrongs, IsFirstRefusal}
 use Rattle.selection.specs.declared.Estimate.{Estimate}
-use Rattle.selection.specs.declared.CellVerdict.{CellVerdict}
-use Rattle.selection.specs.declared.CellVerdict.TheVariants.{Allowed, Disallowed, Refused}
+use Rattle.selection.specs.declared.Witness.{Witness}
+use Rattle.selection.specs.declared.Refusal.{Refusal}
 use Rattle.selection.specs.Cell.{LeastWitness, Allows, digit}
 
 -- a row, a column and a byte that the single-cell call takes
@@ -20,12 +20,12 @@ cell_rules r c b = number 1 (either_of (below 15 r) (below 127 c)) ∷ number_at
 -- in a divider with the estimate E
 module _ (E : Estimate) where
   -- what each answer of the single-cell call says
-  abbrev pub CellMeaning : ℕ → ℕ → ℕ → CellVerdict → Type 0
-  CellMeaning r c b Allowed = IsCell r c b × Allows E r c (digit b)
-  CellMeaning r c b (Disallowed w) = IsCell r c b × LeastWitness E r c (digit b) w.divisor w.remainder
-  CellMeaning r c b (Refused f) = IsFirstRefusal (Wrongs (cell_rules r c b)) f.number f.place
+  abbrev pub CellMeaning : ℕ → ℕ → ℕ → Result (Option Witness) Refusal → Type 0
+  CellMeaning r c b (Ok None) = IsCell r c b × Allows E r c (digit b)
+  CellMeaning r c b (Ok (Some w)) = IsCell r c b × LeastWitness E r c (digit b) w.divisor w.remainder
+  CellMeaning r c b (Err f) = IsFirstRefusal (Wrongs (cell_rules r c b)) f.number f.place
 
   -- v is the answer to the row r, the column c and the byte b
   -- § 4.2 A single cell's digit is allowed, or the least witness is shown.
-  pub record CellChecked (r c b : ℕ) (v : CellVerdict) : Type 0 where
+  pub record CellChecked (r c b : ℕ) (v : Result (Option Witness) Refusal) : Type 0 where
     pub means : CellMeaning r c b v

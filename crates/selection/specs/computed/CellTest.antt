@@ -1,16 +1,14 @@
 -- The test of a cell by its row's multiples, computed: which digits are allowed, and the witness. `cell_of`, `allows_of` and `limits_of`, which public contracts cite, are
 -- computed by it. A reader need not believe it: `test_right`, `cell_checked` and `allows_decides` show that it finds what the specification asks for.
 -- It is over natural numbers: W is P + 2^63, b is the digit plus 2.
-use Rattle.std.specs.Prelude.{◌≡◌, ℕ, ◌+◌, ◌-◌, ◌*◌, ◌/◌, ◌^◌, ◌<◌, ◌≤◌, max, Bool, true, cond, not, ◌||◌, ◌↔◌, ◌==◌, nat_lt}
+use Rattle.std.specs.Prelude.{◌≡◌, ℕ, ◌+◌, ◌-◌, ◌*◌, ◌/◌, ◌^◌, ◌<◌, ◌≤◌, max, Bool, true, cond, not, ◌||◌, ◌↔◌, ◌==◌, nat_lt, Option, Some, None}
 use Rattle.std.proofs.Math.IntN.{sub_ℕ}
 use Rattle.selection.specs.Cell.{span_of}
 use Rattle.selection.specs.declared.Estimate.{Estimate}
-use Rattle.selection.specs.declared.CellVerdict.{CellVerdict}
-use Rattle.selection.specs.declared.CellVerdict.TheVariants.{Allowed, Disallowed}
 use Rattle.selection.specs.declared.Witness.{Witness}
-use Rattle.selection.specs.declared.cell.RowMultiples.{RowMultiples}
+use Rattle.selection.specs.declared.cell.RowMultiples.TheInside.{Inside}
 
--- ---- a row's multiples
+-- ---- a row's multiples: `Inside` is the record of the fields that hold them
 
 -- the last column that begins at W or below, and the last that ends there or below
 abbrev pub left_column : ℕ → ℕ
@@ -34,7 +32,7 @@ ends_below_minus E n = right_column E (2 ^ 63 - n / 3 - 1)
 
 -- the multiples of the smallest and of the largest divisor of the row r that bound 3P, each as the last column on its lower side. 3P < l is 3P ≤ l - 1, and 3P ≤ -l is 3P < -(l - 1)
 -- § 4.3 A row's multiples are those of its least and greatest divisor.
-abbrev pub multiples_of : Estimate → ℕ → RowMultiples
+abbrev pub multiples_of : Estimate → ℕ → Inside
 multiples_of E r =
     let s = (16 + r) * 2 ^ 56 in
     let l = (17 + r) * 2 ^ 56 - 1 in
@@ -55,7 +53,7 @@ multiples_of E r =
     }
 
 -- what the columns of m say, for the smallest divisor s and the largest l: the ends of the column c, moved up, against each multiple
-pub record Bounds (m : RowMultiples) (s l : ℕ) : Type 0 where
+pub record Bounds (m : Inside) (s l : ℕ) : Type 0 where
   pub minus8 : (c : ℕ) → (c ≤ m.minus8) ↔ (3 * (c * 2 ^ 57 + span_of m.estimate) + 8 * l < 3 * 2 ^ 63)
   pub minus5 : (c : ℕ) → (c ≤ m.minus5) ↔ (3 * (c * 2 ^ 57) + 5 * s < 3 * 2 ^ 63)
   pub minus4 : (c : ℕ) → (c ≤ m.minus4) ↔ (3 * (c * 2 ^ 57 + span_of m.estimate) + 4 * l ≤ 3 * 2 ^ 63)
@@ -68,15 +66,9 @@ pub record Bounds (m : RowMultiples) (s l : ℕ) : Type 0 where
   pub plus8 : (c : ℕ) → (c ≤ m.plus8) ↔ (3 * (c * 2 ^ 57) ≤ 3 * 2 ^ 63 + 8 * l)
 
 -- m holds the multiples of a row
-pub record RowOf (m : RowMultiples) : Type 0 where
+pub record RowOf (m : Inside) : Type 0 where
   pub small : m.row ≤ 15
   pub is : m ≡ multiples_of m.estimate m.row
-
--- what the test of a cell is handed: the multiples of its row, its column and a byte
-pub record CellOf (m : RowMultiples) (c b : ℕ) : Type 0 where
-  pub row : RowOf m
-  pub column : c ≤ 127
-  pub byte : b ≤ 4
 
 -- ---- the digits of a column
 
@@ -85,17 +77,17 @@ abbrev pub past : ℕ → ℕ → ℕ
 past x c = cond (nat_lt x c) 1 0
 
 -- of a cell that has a point the bytes of allowed digits lie from the least, which is not too high, to the greatest, which is not too low
-abbrev pub least_byte : RowMultiples → ℕ → ℕ
+abbrev pub least_byte : Inside → ℕ → ℕ
 least_byte m c = past m.minus4 c + past m.minus1 c + past m.plus2 c + past m.plus5 c
 
-abbrev pub greatest_byte : RowMultiples → ℕ → ℕ
+abbrev pub greatest_byte : Inside → ℕ → ℕ
 greatest_byte m c = past m.minus5 c + past m.minus2 c + past m.plus1 c + past m.plus4 c
 
-abbrev pub has_point : RowMultiples → ℕ → Bool
+abbrev pub has_point : Inside → ℕ → Bool
 has_point m c = past m.minus8 c + past m.plus8 c == 1
 
 -- the digit of b is allowed: it is neither too low nor too high, or there is no point
-abbrev pub allows_by : RowMultiples → ℕ → ℕ → Bool
+abbrev pub allows_by : Inside → ℕ → ℕ → Bool
 allows_by m c b = cond (nat_lt (greatest_byte m c) b || nat_lt b (least_byte m c)) (not (has_point m c)) true
 
 -- ---- the witness
@@ -133,12 +125,6 @@ low_at d c = max (c * 2 ^ 57) (2 ^ 63 - reach d)
 abbrev pub high_at : ℕ → ℕ → ℕ → ℕ
 high_at d c b = max (c * 2 ^ 57) (2 ^ 63 - 2 * d + b * d + 2 * d / 3 + 1)
 
--- under these bounds the least remainder that is too high fits a word
-pub record WitnessFor (d c b : ℕ) : Type 0 where
-  pub divisor : d ≤ 2 ^ 61
-  pub column : c ≤ 106
-  pub byte : b ≤ 4
-
 -- ---- the test
 
 -- what the test of a cell finds: the least point that breaks a digit, as D and W
@@ -153,13 +139,13 @@ found_at E s c b low =
     cond low (LeastAt d (low_at d c)) (LeastAt e (high_at e c b))
 
 -- § 4.3 Given its row's multiples, the test of a cell returns the verdict and witness of the single cell.
-abbrev pub test_of : RowMultiples → ℕ → ℕ → Finding
+abbrev pub test_of : Inside → ℕ → ℕ → Finding
 test_of m c b = cond (allows_by m c b) NoWitness (found_at m.estimate m.smallest c b (nat_lt (greatest_byte m c) b))
 
 abbrev pub witness_of : ℕ → ℕ → Witness
 witness_of d w = record { divisor = d; remainder = sub_ℕ w (2 ^ 63) }
 
--- the verdict on the cell
-abbrev pub cell_verdict_of : Finding → CellVerdict
-cell_verdict_of NoWitness = Allowed
-cell_verdict_of (LeastAt d w) = Disallowed (witness_of d w)
+-- the verdict on the cell: no witness against an allowed digit, or the least
+abbrev pub cell_verdict_of : Finding → Option Witness
+cell_verdict_of NoWitness = None
+cell_verdict_of (LeastAt d w) = Some (witness_of d w)

@@ -1,5 +1,6 @@
 -- The maker's calls: what they refuse, and their answers: the specification, section 5.
-use Rattle.std.specs.Prelude.{◌≡◌, ℕ, List, [], ◌∷◌, ◌++◌, length, drop}
+use Rattle.std.specs.Prelude.{◌≡◌, ℕ, List, [], ◌∷◌, ◌++◌, length, drop, Result, Ok, Err}
+use Rattle.selection.specs.Answer.{refusal}
 use Rattle.selection.specs.computed.Refusals.{Rule, too_short, below, number, Wrongs, Refuses}
 use Rattle.selection.specs.declared.Refusal.{Refusal}
 use Rattle.selection.specs.declared.maker.Limits.{Limits}
@@ -17,6 +18,10 @@ make_rules len = number 7 (too_short len 2048) ∷ []
 
 abbrev pub limits_zeros : Refusal → Limits
 limits_zeros f = record { refusal = f; limits = 0 ∷ 0 ∷ 0 ∷ 0 ∷ 0 ∷ 0 ∷ [] }
+
+abbrev pub limits_numbers : Result (List ℕ) Refusal → Limits
+limits_numbers (Ok l) = record { refusal = refusal 0 0; limits = l }
+limits_numbers (Err f) = limits_zeros f
 
 -- the outcome of the maker: its answer, and what the buffer then holds; refused, the buffer s is as it was
 pub record MakeOutcome : Type 0 where

@@ -1,11 +1,9 @@
 -- Refusals: conditions, rules and their order, by the specification, section 18. What a call refuses is a list of rules; each call's stands with its answer.
-use Rattle.std.specs.Prelude.{◌≡◌, ℕ, suc, ◌<◌, ◌≤◌, Bool, cond, not, ◌||◌, ◌⊎◌, ◌↔◌, List, [], ◌∷◌, ℤ, ◌<ℤ◌, ◌==◌, int_lt, nat_le, nat_lt}
+use Rattle.std.specs.Prelude.{◌≡◌, ℕ, suc, ◌<◌, ◌≤◌, Bool, cond, not, ◌||◌, ◌⊎◌, ◌↔◌, List, [], ◌∷◌, ℤ, ◌<ℤ◌, ◌==◌, int_lt, nat_le, nat_lt, ⊤, Result, Ok, Err}
 use Rattle.laws.specs.Search.{First, first_from}
 use Rattle.selection.specs.Answer.{refusal}
 use Rattle.selection.specs.computed.Answer.{first_of}
 use Rattle.selection.specs.declared.Refusal.{Refusal}
-use Rattle.selection.specs.declared.Admission.{Admission}
-use Rattle.selection.specs.declared.Admission.TheVariants.{Admitted, Refused}
 
 -- ---- conditions
 
@@ -62,9 +60,9 @@ Wrong (number_at k p c) q = (q ≡ p) × Holds c
 Wrong (number_first k P f m) q = (q < m) × First P q
 
 -- what a call gives that has come to it
-abbrev pub given : Rule → Admission
-given (number_at k p c) = cond (holds c) (Refused (refusal k p)) Admitted
-given (number_first k P f m) = let j = first_from f 0 m in cond (nat_lt j m) (Refused (refusal k j)) Admitted
+abbrev pub given : Rule → Result ⊤ Refusal
+given (number_at k p c) = cond (holds c) (Err (refusal k p)) (Ok tt)
+given (number_first k P f m) = let j = first_from f 0 m in cond (nat_lt j m) (Err (refusal k j)) (Ok tt)
 
 -- what a call refuses: the condition of the number n holds, and p is its place
 -- § 18.1 Each condition has a number and a place.
@@ -73,8 +71,8 @@ Wrongs [] n p = ⊥
 Wrongs (r ∷ rs) n p = ((n ≡ number_of r) × Wrong r p) ⊎ Wrongs rs n p
 
 -- the first refusal that is given
-abbrev pub first_refusal : List Rule → Admission
-first_refusal [] = Admitted
+abbrev pub first_refusal : List Rule → Result ⊤ Refusal
+first_refusal [] = Ok tt
 first_refusal (r ∷ rs) = first_of (given r) (first_refusal rs)
 
 -- ---- the order of the refusals

@@ -1,7 +1,8 @@
 -- The repair's call: what it refuses, and its answer.
-use Rattle.std.specs.Prelude.{◌≡◌, ℕ, ◌/◌, ◌%◌, ◌<◌, ◌≤◌, ◌↔◌, List, [], ◌∷◌, length, take, ◌≢◌, slice_index, slice_index_or}
+use Rattle.std.specs.Prelude.{◌≡◌, ℕ, ◌/◌, ◌%◌, ◌<◌, ◌≤◌, ◌↔◌, List, [], ◌∷◌, length, take, ◌≢◌, slice_index, slice_index_or, Result, Ok, Err}
 use Rattle.laws.specs.Lists.{KeptFrom}
 use Rattle.laws.specs.Counting.{Tally}
+use Rattle.selection.specs.Answer.{refusal}
 use Rattle.selection.specs.computed.Refusals.{Rule, too_short, differ, either_of, number, Wrongs, Refuses}
 use Rattle.selection.specs.Table.{Passes}
 use Rattle.selection.specs.Maker.{Made}
@@ -17,6 +18,10 @@ repair_rules len r c = number 7 (either_of (too_short r 2048) (too_short c 2048)
 
 abbrev pub repair_zeros : Refusal → Repaired
 repair_zeros f = record { refusal = f; count = 0 }
+
+abbrev pub repair_numbers : Result ℕ Refusal → Repaired
+repair_numbers (Ok n) = record { refusal = refusal 0 0; count = n }
+repair_numbers (Err f) = repair_zeros f
 
 -- the outcome of the repair: its answer, and what the two buffers then hold; refused, they are as they were, rs and cs
 pub record RepairOutcome : Type 0 where

@@ -1,13 +1,14 @@
 -- What is refused of a table, and the check's report: the specification, sections 4 and 18.
-use Rattle.std.specs.Prelude.{◌≡◌, ℕ, ◌+◌, ◌*◌, ◌<◌, ◌≤◌, List, [], ◌∷◌, ◌++◌, length, take, drop, ℤ, slice_index}
+use Rattle.std.specs.Prelude.{◌≡◌, ℕ, ◌+◌, ◌*◌, ◌<◌, ◌≤◌, List, [], ◌∷◌, ◌++◌, length, take, drop, ℤ, slice_index, Result, Ok, Err}
 use Rattle.laws.specs.Search.{First}
 use Rattle.laws.specs.Counting.{Tally}
 use Rattle.selection.specs.computed.Refusals.{Rule, differ, number, number_first, Wrongs, IsFirstRefusal}
 use Rattle.selection.specs.computed.Allowed.{above_four, is_bad}
 use Rattle.selection.specs.Cell.{LeastWitness, digit}
 use Rattle.selection.specs.declared.table.Outcome.{Outcome}
-use Rattle.selection.specs.declared.table.Outcome.TheVariants.{Passed, Bad, Refused}
+use Rattle.selection.specs.declared.table.Outcome.TheVariants.{Passed, Bad}
 use Rattle.selection.specs.declared.table.TableVerdict.{TableVerdict}
+use Rattle.selection.specs.declared.Refusal.{Refusal}
 use Rattle.selection.specs.declared.Estimate.{Estimate}
 use Rattle.selection.specs.Table.{BadAt, Passes, Table}
 
@@ -36,13 +37,17 @@ module _ (E : Estimate) where
     pub first : First (BadAt E t) (128 * r + c)
     pub witness : LeastWitness E r c (digit (slice_index t (128 * r + c))) D P
 
-  -- what each answer of the check says, with n as its count
+  -- what each outcome of the check says, with n as its count
   abbrev pub ReportMeaning : List ℕ → ℕ → Outcome → Type 0
   ReportMeaning t n Passed = Passes E t × (n ≡ 0)
   ReportMeaning t n (Bad b) = Table t × Tally (BadAt E t) 2048 n × FirstBad t b.row b.column b.witness.divisor b.witness.remainder
-  ReportMeaning t n (Refused f) = NoTable t f.number f.place × (n ≡ 0)
+
+  -- what each answer of the check says
+  abbrev pub AnswerMeaning : List ℕ → Result TableVerdict Refusal → Type 0
+  AnswerMeaning t (Ok a) = ReportMeaning t a.count a.outcome
+  AnswerMeaning t (Err f) = NoTable t f.number f.place
 
   -- a is the check's answer to the table t
   -- § 4.1 The check counts the bad cells and says passed, or shows the first with its witness.
-  pub record Checked (t : List ℕ) (a : TableVerdict) : Type 0 where
-    pub means : ReportMeaning t a.count a.outcome
+  pub record Checked (t : List ℕ) (a : Result TableVerdict Refusal) : Type 0 where
+    pub means : AnswerMeaning t a

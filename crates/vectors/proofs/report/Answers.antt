@@ -1,34 +1,30 @@
--- `vectors::report`: nine texts, one after another, and the sums of the counts.
-use Rattle.laws.proofs.Basics.{◌≤◌, arith}
-use Rattle.printing.proofs.Texts.{appended_then, appended_take, appended_size, counts}
+-- `vectors::report`: a line for each file, and the sums of the counts.
+use Rattle.laws.proofs.Basics.{sym, ap, ◌∙◌, arith, append-nil}
+use Rattle.std.proofs.Common.{Some, None}
+use Rattle.vectors.proofs.Reports.{few_told, name_most, seven, name_is, one_file}
 use Rattle.vectors.proofs.report.Goals as goal
+use Rattle.vectors.proofs.report.Goals.{in-Some, in-None}
 
-pub returns : goal.returns
-returns c =
-    let one = c.with_file-one.ensures.with_file in
-    let two = c.with_file-two.ensures.with_file in
-    let three = c.with_file-three.ensures.with_file in
-    let four = c.with_file-four.ensures.with_file in
-    let five = c.with_file-five.ensures.with_file in
-    let six = c.with_file-six.ensures.with_file in
-    let seven = c.with_file-seven.ensures.with_file in
-    let three_files = appended_then (appended_then (appended_then c.append.ensures one.text) two.text) three.text in
-    let seven_files = appended_then (appended_then (appended_then (appended_then three_files four.text) five.text) six.text) seven.text in
-    let sum = rw (seven.total, six.total, five.total, four.total, three.total, two.total, one.total) at c.append_total.ensures.appended in
-    let sums = rw (seven.unread, six.unread, five.unread, four.unread, three.unread, two.unread, one.unread) at sum in
-    let all = appended_then seven_files sums in
-    let fits : c.append_total.result ≤ 500 = omega (arith, c.append_total.ensures.upper_bound, c.with_file-seven.ensures.end_bound) in
-    let size = appended_size all (omega (arith, fits, c.told-out)) in (
-      record {
-        testfloat = one.file;
-        glibc = two.file;
-        llvm = three.file;
-        mpfr = four.file;
-        nan = five.file;
-        root_testfloat = six.file;
-        root_glibc = seven.file;
-        ran = (one.ran, two.ran, three.ran, four.ran, five.ran, six.ran, seven.ran);
-        text = appended_take all;
-      },
-      counts _ (omega (arith, fits, size, c.told-out)),
-    )
+pub push_counts-requires : goal.push_counts-requires
+push_counts-requires c =
+    let all = seven _ c.requires in
+    rw (c.as_bytes.ensures.value, name_is _ c.requires c.loop-name.name-index _ c.loop-name-test.true) (omega (arith, c.loop-name.invariant.room, name_most {k = c.loop-name.name-index} (omega arith)))
+
+pub overflow_add-total : goal.overflow_add-total
+overflow_add-total c = omega (arith, few_told c.in-Some.ensures, seven _ c.requires, c.loop-name.invariant.few)
+
+pub overflow_add-total-in-Some : goal.overflow_add-total-in-Some
+overflow_add-total-in-Some c = omega (arith, few_told c.in-Some.ensures, seven _ c.requires, c.loop-name.invariant.few)
+
+pub loop-name-preserved : goal.loop-name-preserved
+loop-name-preserved c =
+    let l = c.loop-name.invariant in
+    let all = seven _ c.requires in
+    elim c.match-run_file.branch [
+      | in-Some w ↦
+          let name = w.as_bytes.ensures.value ∙ name_is _ c.requires c.loop-name.name-index _ c.loop-name-test.true in
+          let short = name_most {k = c.loop-name.name-index} (omega arith) in
+          let line = rw name at w.push_counts.ensures in
+          rw (w.out-is, w.total-is, w.unread-is) (one_file (Some w.in-Some.counts) l (omega arith) w.in-Some.ensures (ap (λ s. s.text) line.is) (omega (arith, line.room)))
+      | in-None w ↦ rw (w.out-is, w.total-is, w.unread-is) (one_file None l (omega arith) w.in-None.ensures (sym (append-nil _)) (omega arith))
+    ]

@@ -1,4 +1,4 @@
--- `printing::input::read_input`: a read brings no more bytes than there is room for, and what was read so far stands at the start of the buffer.
+-- `printing::input::read_input`: what was read so far stands at the start of the buffer.
 use Rattle.std.proofs.Common.{length, ◌-◌, ◌≤◌, ◌≡◌, take}
 use Rattle.std.specs.Io.KnownBytes.{Consumes}
 use Rattle.printing.proofs.input.read_input.Given as goal

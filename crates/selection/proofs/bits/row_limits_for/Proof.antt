@@ -1,9 +1,0 @@
-use Rattle.laws.proofs.Basics.{sym, ◌∙◌, rules}
-use Rattle.selection.proofs.bits.row_limits_for.Statement.{statement}
-use Rattle.selection.proofs.bits.row_limits_for.Tie as tie
-
-pub row_limits_for_spec : {M : Type 1} → statement M
-row_limits_for_spec =
-    tie.close (tie.spec (λ c κs. search rules) (λ c. search rules) (λ c. search rules) (λ c κs. search rules) (λ c κs. search rules)
-    (λ c. rw (sym c.admit_bits-admission.ensures ∙ c.in-Refused.is))
-    (λ c. let k = c in rw (sym k.admit_bits-admission.ensures ∙ k.in-Admitted.is, ← c.estimate_of.ensures) c.row_limits.ensures))
